@@ -1,5 +1,6 @@
 mod Rows
 mod Names
+mod Parts
 mod Said
 mod Writes
 pub mod OneOutcome

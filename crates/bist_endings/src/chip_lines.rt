@@ -1,47 +1,36 @@
 ghost use Rattle.std.specs.Prelude.{◌≡◌, ◌++◌, OnOk, codes};
-ghost use Rattle.bist_endings.specs.Ending.{chip_field_text, chip_fault_text, chip_text, input_line, unit_text};
+ghost use Rattle.bist_endings.specs.Ending.{chip_fault_text, chip_text, input_line, unit_text};
 
 use crate::ending::{ChipRefusal, InputRefusal};
-use crate::lines::{put_byte, put_march, put_number, put_numbered};
+use crate::lines::{put_march, put_numbered, put_two_numbers};
 use crate::memory_lines::put_memory;
 use bist_bits::NoMemory;
-use bist_text::put;
+use bist_text::{put, put_number_between};
 use chip_desc::{ChipFault, ChipField};
 
-/// Appends the name of a part of a chip file.
-fn put_chip_field(line: &mut Vec<u8>, field: ChipField) -> Result<(), NoMemory>
-    ensures { OnOk result (line.new.items ≡ line.old.items ++ (codes "C4 " ++ chip_field_text field)) }
-{
-    match field {
-        ChipField::Name => put(line, b"C4 name"),
-        ChipField::Budget => put(line, b"C4 budget"),
-        ChipField::Unit => put(line, b"C4 unit"),
-    }
-}
-
-/// Appends why a text describes no chip.
+/// Appends the line of a text that describes no chip.
 fn put_chip_fault(line: &mut Vec<u8>, fault: ChipFault) -> Result<(), NoMemory>
-    ensures { OnOk result (line.new.items ≡ line.old.items ++ chip_fault_text fault) }
+    ensures { OnOk result (line.new.items ≡ line.old.items ++ (codes "chip " ++ chip_fault_text fault ++ codes "\n")) }
 {
     match fault {
-        ChipFault::Unexpected { line: number, byte } => put_byte(line, b"C1 line ", number, byte),
-        ChipFault::Truncated => put(line, b"C2"),
-        ChipFault::Repeated { line: number } => put_number(line, b"C3 line ", number),
-        ChipFault::Missing { field } => put_chip_field(line, field),
-        ChipFault::OutOfRange { line: number } => put_number(line, b"C5 line ", number),
-        ChipFault::TooManyUnits => put(line, b"C6"),
-        ChipFault::OtherVersion => put(line, b"C7"),
-        ChipFault::TooHeavy { line: number } => put_number(line, b"C9 line ", number),
-    }
-}
-
-/// Appends why a chip isn't tested.
-fn put_chip_text(line: &mut Vec<u8>, refusal: ChipRefusal) -> Result<(), NoMemory>
-    ensures { OnOk result (line.new.items ≡ line.old.items ++ chip_text refusal) }
-{
-    match refusal {
-        ChipRefusal::File(fault) => put_chip_fault(line, fault),
-        ChipRefusal::SameName { unit } => put_number(line, b"C8 unit ", unit),
+        ChipFault::Unexpected { line: number, byte } => {
+            put_two_numbers(line, b"chip C1 line ", number, b" byte ", byte)
+        }
+        ChipFault::Truncated => put(line, b"chip C2\n"),
+        ChipFault::Repeated { line: number } => put_numbered(line, b"chip C3 line ", number),
+        ChipFault::Missing {
+            field: ChipField::Name,
+        } => put(line, b"chip C4 name\n"),
+        ChipFault::Missing {
+            field: ChipField::Budget,
+        } => put(line, b"chip C4 budget\n"),
+        ChipFault::Missing {
+            field: ChipField::Unit,
+        } => put(line, b"chip C4 unit\n"),
+        ChipFault::OutOfRange { line: number } => put_numbered(line, b"chip C5 line ", number),
+        ChipFault::TooManyUnits => put(line, b"chip C6\n"),
+        ChipFault::OtherVersion => put(line, b"chip C7\n"),
+        ChipFault::TooHeavy { line: number } => put_numbered(line, b"chip C9 line ", number),
     }
 }
 
@@ -49,9 +38,10 @@ fn put_chip_text(line: &mut Vec<u8>, refusal: ChipRefusal) -> Result<(), NoMemor
 pub fn put_chip(line: &mut Vec<u8>, refusal: ChipRefusal) -> Result<(), NoMemory>
     ensures { OnOk result (line.new.items ≡ line.old.items ++ (codes "chip " ++ chip_text refusal ++ codes "\n")) }
 {
-    put(line, b"chip ")?;
-    put_chip_text(line, refusal)?;
-    put(line, b"\n")
+    match refusal {
+        ChipRefusal::File(fault) => put_chip_fault(line, fault),
+        ChipRefusal::SameName { unit } => put_numbered(line, b"chip C8 unit ", unit),
+    }
 }
 
 /// Appends the line of a refused input.
@@ -71,7 +61,6 @@ pub fn put_input(line: &mut Vec<u8>, refusal: InputRefusal) -> Result<(), NoMemo
 pub fn put_unit(line: &mut Vec<u8>, unit: usize, refusal: InputRefusal) -> Result<(), NoMemory>
     ensures { OnOk result (line.new.items ≡ line.old.items ++ (unit_text unit ++ input_line refusal)) }
 {
-    put_number(line, b"unit ", unit)?;
-    put(line, b" ")?;
+    put_number_between(line, b"unit ", unit as u64, b" ")?;
     put_input(line, refusal)
 }

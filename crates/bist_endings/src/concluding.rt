@@ -80,15 +80,6 @@ fn put_refusal(line: &mut Vec<u8>, refusal: Refusal) -> Result<(), NoMemory>
     }
 }
 
-/// The line of a refusal.
-fn line_of_refusal(alloc: Global, refusal: Refusal) -> Result<Vec<u8>, NoMemory>
-    ensures { IfOk result (λ line. line.items ≡ refusal_line refusal) }
-{
-    let mut line = Vec::new(alloc);
-    put_refusal(&mut line, refusal)?;
-    Ok(line)
-}
-
 fn input_status(refusal: InputRefusal) -> u8
     ensures { result ≡ input_status refusal }
 {
@@ -128,8 +119,9 @@ fn refuse<H: Host>(alloc: Global, host: &mut H, refusal: Refusal) -> Ended
     ensures answer { RefusalEnds refusal (H.state host.old) (H.state host.new) result.status }
 {
     let status = status(&refusal);
-    match line_of_refusal(alloc, refusal) {
-        Ok(line) => match say_line(host, &line) {
+    let mut line = Vec::new(alloc);
+    match put_refusal(&mut line, refusal) {
+        Ok(()) => match say_line(host, &line) {
             SayEnd::Said => Ended { status },
             SayEnd::Failed => Ended { status },
             SayEnd::NoMemory => Ended { status: 9 },

@@ -7,7 +7,12 @@ use itoa::Buffer;
 pub fn are_plain(words: &[&str]) -> bool
     ensures { IsTrue result ↔ ArePlain words.now }
 {
-    words.iter().all(|word| is_plain(word))
+    for word in words {
+        if !is_plain(word) {
+            return false;
+        }
+    }
+    true
 }
 
 fn is_plain(word: &str) -> bool

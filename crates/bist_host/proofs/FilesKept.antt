@@ -78,3 +78,11 @@ none_before (g ∷ gs) (suc i) d name before below differs =
 pub none_more : (fs : List MemFile) (i : ℕ) (d : MemFile) (name : List ℕ) → file_of (take i (named_files fs)) name ≡ None → i < length fs
     → string_bytes (get_or fs i d).name ≢ name → file_of (take (i + 1) (named_files fs)) name ≡ None
 none_more fs i d name before below differs = rw (add-one i) (none_before fs i d name before below differs)
+
+-- the bytes of the first file of a name
+pub file_there : (fs : List MemFile) (i : ℕ) (d : MemFile) (name : List ℕ) → IsPlaceOf (named_files fs) name i → file_of (named_files fs) name ≡ Some (get_or fs i d).bytes.items
+file_there [] i d name h = absurd h.1
+file_there (g ∷ gs) zero d name h = grind (arith, h.1, bytes_eq-Decides (string_bytes g.name) name)
+file_there (g ∷ gs) (suc i) d name h =
+    let rest : file_of (take i (named_files gs)) name ≡ None → file_of (named_files gs) name ≡ Some (get_or gs i d).bytes.items = λ k. file_there gs i d name (k, h.1) in
+    grind (arith, h.0, rest)

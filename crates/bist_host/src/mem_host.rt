@@ -131,15 +131,14 @@ impl Host for MemHost {
 }
 
 /// The bytes of the first file of that name.
+#[tactic(auto, using(crate::proofs::FilesKept::file_there))]
 fn find_file<'a>(files: &'a [MemFile], name: &str) -> Option<&'a [u8]>
     ensures { MatchOption result (file_of (named_files files.now) name.now ≡ None) (λ bytes. file_of (named_files files.now) name.now ≡ Some bytes.now) }
 {
-    for file in files {
-        if file.name.as_str() == name {
-            return Some(file.bytes.as_slice());
-        }
+    match place_of(files, name) {
+        Some(i) => Some(files[i].bytes.as_slice()),
+        None => None,
     }
-    None
 }
 
 /// Where the first file of that name stands.

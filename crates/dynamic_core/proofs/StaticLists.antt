@@ -1,7 +1,6 @@
 -- A list of static primitives is read as a list of items that are all static.
-use Rattle.std.proofs.Common.{◌≡◌, ℕ, ◌<◌, ◌≤◌, ◌+◌, Bool, true, false, List, [], ◌∷◌, ◌++◌, ◌∙◌, Option, Some, None, Result, Ok, Err, IfOk, map, length, take, get_or, append-nil, refl, sym, ap, subst, inl, inr}
-use Rattle.std.proofs.lemmas.List.{map-append, length-map, take_more, take_all}
-use Rattle.std.proofs.lemmas.List.Concat.{flat_map-append}
+use Rattle.std.proofs.Common.{◌≡◌, ℕ, ◌<◌, ◌≤◌, ◌+◌, Bool, true, false, List, [], ◌∷◌, ◌++◌, ◌∙◌, Option, Some, None, Result, Ok, Err, IfOk, map, length, take, refl, sym, ap, subst, inl, inr}
+use Rattle.std.proofs.lemmas.List.{map-append, length-map, take_all}
 use Rattle.bist_text.specs.Grammar.{many, when}
 use Rattle.bist_text.specs.Lines.{TextLine, text_lines}
 use Rattle.fault_core.specs.Primitive.{Primitive}
@@ -22,7 +21,7 @@ use Rattle.dynamic_core.specs.declared.item.Item.{Item}
 use Rattle.dynamic_core.specs.declared.item.Item.TheVariants.{Plain, Dyn}
 use Rattle.dynamic_core.specs.ItemParts.{IsItemIn, RefusesOn, BringsIn, items_of}
 use Rattle.dynamic_core.specs.Items.{ReadsIn}
-use Rattle.dynamic_core.specs.inner.Reading.{static_of, statics_of}
+use Rattle.dynamic_core.specs.inner.Reading.{statics_of}
 
 -- what holds wherever a text begins behind blanks
 behind_blanks : (P : Type 0) (K : List ℕ → Type 0) → ((b : List ℕ) → K b → P) → (b : List ℕ) → many is_blank K b → P
@@ -76,16 +75,6 @@ statics_are items ps e = go ps ∙ ap statics_of (sym e)
     go : (ps : List Primitive) → ps ≡ statics_of (map Plain ps)
     go [] = refl
     go (p ∷ ps) = ap (λ x. p ∷ x) (go ps)
-
--- one item more
-pub one_static : (items : List Item) (i : ℕ) (d item : Item) (so_far now : List Primitive) → i < length items → item ≡ get_or items i d → so_far ≡ statics_of (take i items)
-    → now ≡ so_far ++ static_of item → now ≡ statics_of (take (i + 1) items)
-one_static items i d item so_far now h is inv grown =
-    grown
-    ∙ ap (λ l. l ++ static_of item) inv
-    ∙ ap (λ x. statics_of (take i items) ++ x) (ap static_of is ∙ sym (append-nil (static_of (get_or items i d))))
-    ∙ sym (flat_map-append static_of (take i items) (get_or items i d ∷ []))
-    ∙ ap statics_of (sym (take_more items i d h))
 
 pub all_static : (items : List Item) (i : ℕ) (now : List Primitive) → length items ≤ i → now ≡ statics_of (take i items) → now ≡ statics_of items
 all_static items i now h inv = inv ∙ ap statics_of (take_all i items h)

@@ -12,12 +12,20 @@ pub enum Item {
     Dyn(DynPrim),
 }
 
-/// A primitive of either kind.
+/// A primitive of a kind, or of either.
 pub(crate) trait Listed: Copy {
     ghost listed: { Self → Item };
 
     fn item(self) -> Item
         ensures { result ≡ listed self };
+}
+
+impl Listed for Item {
+    ghost listed = { λ item. item };
+
+    fn item(self) -> Item {
+        self
+    }
 }
 
 impl Listed for Prim {

@@ -1,4 +1,4 @@
-ghost use Rattle.std.specs.Prelude.{◌≡◌, ◌++◌, ◌≤◌, ◌∷◌, [], ◌⊎◌, Result, length, List, Ok, Err, OnOk, IfOk, IfErr, MatchResult, Option, map};
+ghost use Rattle.std.specs.Prelude.{◌≡◌, ◌++◌, ◌≤◌, ◌⊎◌, Result, length, List, Ok, Err, OnOk, IfOk, IfErr, MatchResult, Option, map};
 ghost use Rattle.fault_core.specs.Primitive.{Primitive};
 ghost use Rattle.fault_syntax.specs.Brief.{read_parts_of, read_item_of};
 ghost use Rattle.fault_syntax.specs.inner.LineByLine.{HasNoRoom};
@@ -8,7 +8,7 @@ ghost use Rattle.fault_syntax.specs.PrimText.{PrimParts};
 ghost use Rattle.dynamic_core.specs.declared.item.Item.{Item};
 ghost use Rattle.dynamic_core.specs.ItemParts.{items_of};
 ghost use Rattle.dynamic_core.specs.Items.{ReadsIn, ReadsItems};
-ghost use Rattle.dynamic_core.specs.inner.Reading.{JudgesItemIn, JudgesItemOn, AddsItems, NotAdded, static_of, statics_of};
+ghost use Rattle.dynamic_core.specs.inner.Reading.{JudgesItemIn, JudgesItemOn, AddsItems, NotAdded, statics_of};
 
 use crate::item::{Item, Listed};
 use crate::judge::judge_item;
@@ -61,20 +61,6 @@ fn append<T: Listed>(items: &mut Vec<Item>, prims: &[T], line: usize) -> Result<
     Ok(())
 }
 
-fn append_one(items: &mut Vec<Item>, item: Item, line: usize) -> Result<(), FaultFault>
-    ensures ok { OnOk result (items.new.items ≡ items.old.items ++ item ∷ []) }
-    ensures within { OnOk result (length items.new.items ≤ 1024) }
-    ensures err { IfErr result (HasNoRoom items.old.items (item ∷ []) line) }
-{
-    if items.len() >= MOST {
-        return Err(FaultFault::TooManyPrimitives { line });
-    }
-    if items.push(item).is_err() {
-        return Err(FaultFault::NoMemory);
-    }
-    Ok(())
-}
-
 fn append_named(items: &mut Vec<Item>, name: Name, line: usize) -> Result<(), FaultFault>
     ensures ok { OnOk result (items.new.items ≡ items.old.items ++ items_of name) }
     ensures within { OnOk result (length items.new.items ≤ 1024) }
@@ -109,7 +95,7 @@ fn add_item(
         ReadItem::Named(name) => append_named(items, name, line),
         ReadItem::Primitive(parts) => {
             let item = judge_at(parts, line, set)?;
-            append_one(items, item, line)
+            append(items, &[item], line)
         }
     }
 }
@@ -127,16 +113,6 @@ fn read_lines(alloc: Global, bytes: &[u8], set: NameSet) -> Result<Vec<Item>, Fa
     Ok(items)
 }
 
-fn push_static(prims: &mut Vec<Prim>, item: Item) -> Result<(), FaultFault>
-    ensures ok { OnOk result (prims.new.items ≡ prims.old.items ++ static_of item) }
-    ensures err { IfErr result (λ fault. fault ≡ FaultFault.NoMemory) }
-{
-    match item {
-        Item::Plain(prim) => prims.push(prim).map_err(|_| FaultFault::NoMemory),
-        Item::Dyn(_) => Ok(()),
-    }
-}
-
 /// The static primitives of a list.
 fn statics(alloc: Global, items: &[Item]) -> Result<Vec<Prim>, FaultFault>
     ensures ok { IfOk result (λ prims. prims.items ≡ statics_of items.now) }
@@ -144,7 +120,11 @@ fn statics(alloc: Global, items: &[Item]) -> Result<Vec<Prim>, FaultFault>
 {
     let mut prims = Vec::new(alloc);
     for item in items {
-        push_static(&mut prims, *item)?;
+        if let Item::Plain(prim) = item {
+            if prims.push(*prim).is_err() {
+                return Err(FaultFault::NoMemory);
+            }
+        }
     }
     Ok(prims)
 }

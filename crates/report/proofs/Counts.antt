@@ -1,7 +1,7 @@
 -- The lines and the counts of right verdicts are those of the items that the march detects.
-use Rattle.std.proofs.Common.{◌≡◌, ◌+◌, ℕ, Bool, true, false, cond, ◌&&◌, Option, List, [], ◌∷◌, ◌++◌, length, map, refl, ap, sym, subst, ◌∙◌, inl, inr, zero-add, Result, Ok, Err, Vec, Global}
+use Rattle.std.proofs.Common.{◌≡◌, ◌+◌, ℕ, Bool, true, false, cond, ◌&&◌, Option, List, [], ◌∷◌, ◌++◌, length, map, refl, ap, sym, subst, ◌∙◌, inl, inr, zero-add}
 use Rattle.std.specs.List.{filter, AllByRecursion}
-use Rattle.std.specs.Prelude.{IfOk, count_by}
+use Rattle.std.specs.Prelude.{count_by}
 use Rattle.std.proofs.lemmas.List.{map-append, length-map}
 use Rattle.std.proofs.lemmas.List.Sums.{sum_by-cons}
 use Rattle.march_core.specs.March.{MarchElement}
@@ -99,9 +99,7 @@ report_is march memory js h = record {
   is = ap (λ n. march_line march ++ memory_line march memory ++ judged_lines (length march) js ++ class_lines class_order js ++ total_line n (covered_count js)) (sym (length-map js item_of));
 }
 
--- the same of what the code wrote, if it found memory
-pub written_report : {E : Type 0} (march : List MarchElement) (memory : Option Description) (js : List JudgedItem) (result : Result (Vec ℕ Global) E)
-    → IfOk result (λ text. text.items ≡ report_text march memory js)
-    → IfOk result (λ text. AllByRecursion (IsJudged march) js → IsMixedReport text.items march memory (map item_of js))
-written_report march memory js (Ok text) is = λ right. subst (λ bytes. IsMixedReport bytes march memory (map item_of js)) (sym is) (report_is march memory js right)
-written_report march memory js (Err e) is = is
+-- the same of what the code wrote
+pub report_of : (march : List MarchElement) (memory : Option Description) (js : List JudgedItem) (text : List ℕ) → text ≡ report_text march memory js
+    → AllByRecursion (IsJudged march) js → IsMixedReport text march memory (map item_of js)
+report_of march memory js text is right = subst (λ bytes. IsMixedReport bytes march memory (map item_of js)) (sym is) (report_is march memory js right)

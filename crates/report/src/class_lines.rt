@@ -1,7 +1,7 @@
-ghost use Rattle.std.specs.Prelude.{◌≡◌, ◌<◌, ◌++◌, OnOk, map};
+ghost use Rattle.std.specs.Prelude.{◌≡◌, ◌++◌, OnOk, map};
 ghost use Rattle.dynamic_core.specs.declared.item.Item.TheVariants.{Dyn};
 ghost use Rattle.report.specs.Items.{item_of};
-ghost use Rattle.report.specs.Report.{class_text, class_number, item_class, is_in_class, is_covered_in, class_size, class_covered, class_line, class_lines, class_order};
+ghost use Rattle.report.specs.Report.{class_text, item_class, is_in_class, is_covered_in, class_size, class_covered, class_line, class_lines, class_order};
 
 use crate::judged::JudgedItem;
 use crate::total::is_item_covered;
@@ -50,38 +50,6 @@ pub(crate) fn class_name(class: ItemClass) -> &'static [u8]
     }
 }
 
-/// The place of a class in the order of the report.
-fn number_of(class: ItemClass) -> u8
-    ensures { result ≡ class_number class }
-{
-    match class {
-        ItemClass::Static(class) => static_number(class),
-        ItemClass::DynOne => 14,
-        ItemClass::DynTwo => 15,
-    }
-}
-
-fn static_number(class: Class) -> u8
-    ensures { result ≡ class_number (ItemClass.Static class) }
-{
-    match class {
-        Class::SF => 0,
-        Class::TF => 1,
-        Class::WDF => 2,
-        Class::RDF => 3,
-        Class::DRDF => 4,
-        Class::IRF => 5,
-        Class::CFst => 6,
-        Class::CFds => 7,
-        Class::CFtr => 8,
-        Class::CFwd => 9,
-        Class::CFrd => 10,
-        Class::CFdr => 11,
-        Class::CFir => 12,
-        Class::DRF => 13,
-    }
-}
-
 /// The class of a dynamic primitive.
 pub(crate) fn dyn_class(prim: &DynPrim) -> ItemClass
     ensures { result ≡ item_class (Dyn prim.now) }
@@ -103,11 +71,11 @@ fn judged_class(judged: &JudgedItem) -> ItemClass
     }
 }
 
-#[tactic(auto, using(crate::proofs::ClassOrder::one_name))]
+/// Whether a judged item is of a class: its own has the same name.
 fn is_of_class(judged: &JudgedItem, class: ItemClass) -> bool
     ensures { result ≡ is_in_class class (item_of judged.now) }
 {
-    number_of(judged_class(judged)) == number_of(class)
+    class_name(judged_class(judged)) == class_name(class)
 }
 
 /// Whether a judged item is of a class and covered.
@@ -145,21 +113,9 @@ fn write_class(out: &mut Vec<u8>, class: ItemClass, judged: &[JudgedItem]) -> Re
     if counts.count == 0 {
         return Ok(());
     }
-    put_class(out, class, counts.count, counts.covered)
-}
-
-fn put_class(
-    out: &mut Vec<u8>,
-    class: ItemClass,
-    count: usize,
-    covered: usize,
-) -> Result<(), NoMemory>
-    requires { 0 < count }
-    ensures { OnOk result (out.new.items ≡ out.old.items ++ class_line class count covered) }
-{
     put_between(out, b"class ", class_name(class), b" ")?;
-    put_number_between(out, b"", count as u64, b" covered ")?;
-    put_number_between(out, b"", covered as u64, b"\n")
+    put_number_between(out, b"", counts.count as u64, b" covered ")?;
+    put_number_between(out, b"", counts.covered as u64, b"\n")
 }
 
 /// Appends a line for each class that occurs.

@@ -1,4 +1,4 @@
-ghost use Rattle.std.specs.Prelude.{◌≡◌, ◌++◌, ◌∷◌, [], IfOk, OnOk, IfSome, Contains};
+ghost use Rattle.std.specs.Prelude.{◌≡◌, IfOk};
 ghost use Rattle.std.specs.List.{AllByRecursion};
 ghost use Rattle.report.specs.Items.{AreJudged, IsJudged, item_of};
 
@@ -18,47 +18,19 @@ pub enum JudgedItem {
     Dyn(DynPrim, DynVerdict),
 }
 
-/// What was said before of an item.
-fn find_judged(judged: &[JudgedItem], item: &Item) -> Option<JudgedItem>
-    ensures { IfSome result (λ j. (item_of j ≡ item.now) × Contains judged.now j) }
-{
-    for known in judged {
-        if is_of_item(known, item) {
-            return Some(*known);
-        }
-    }
-    None
-}
-
-fn judge_item(march: &March, item: &Item) -> JudgedItem
-    ensures item { item_of result ≡ item.now }
-    ensures judged { IsJudged march.now result }
-{
-    match item {
-        Item::Plain(prim) => JudgedItem::Plain(*prim, judge(march, prim)),
-        Item::Dyn(prim) => JudgedItem::Dyn(*prim, judge_dyn(march, prim)),
-    }
-}
-
 /// An item with its verdict: of one that was judged before it is the same.
 fn judge_once(judged: &[JudgedItem], march: &March, item: &Item) -> JudgedItem
     ensures item { item_of result ≡ item.now }
     ensures judged { AllByRecursion (IsJudged march.now) judged.now → IsJudged march.now result }
 {
-    match find_judged(judged, item) {
-        Some(known) => known,
-        None => judge_item(march, item),
+    for known in judged {
+        if is_of_item(known, item) {
+            return *known;
+        }
     }
-}
-
-/// Judges one item more.
-fn judge_next(judged: &mut Vec<JudgedItem>, march: &March, item: &Item) -> Result<(), NoMemory>
-    ensures { OnOk result ((j : JudgedItem) × (judged.new.items ≡ judged.old.items ++ j ∷ []) × (item_of j ≡ item.now) × (AllByRecursion (IsJudged march.now) judged.old.items → IsJudged march.now j)) }
-{
-    let next = judge_once(judged, march, item);
-    match judged.push(next) {
-        Ok(()) => Ok(()),
-        Err(_) => Err(NoMemory),
+    match item {
+        Item::Plain(prim) => JudgedItem::Plain(*prim, judge(march, prim)),
+        Item::Dyn(prim) => JudgedItem::Dyn(*prim, judge_dyn(march, prim)),
     }
 }
 
@@ -72,7 +44,10 @@ pub fn judge_items(
 {
     let mut judged = Vec::new(alloc);
     for item in items {
-        judge_next(&mut judged, march, item)?;
+        let next = judge_once(judged.as_slice(), march, item);
+        if judged.push(next).is_err() {
+            return Err(NoMemory);
+        }
     }
     Ok(judged)
 }

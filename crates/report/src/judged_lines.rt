@@ -2,7 +2,7 @@ ghost use Rattle.std.specs.Prelude.{◌≡◌, ◌<◌, ◌≤◌, ◌++◌, OnO
 ghost use Rattle.march_core.specs.Visits.{direction_at};
 ghost use Rattle.dynamic_core.specs.declared.item.Item.TheVariants.{Plain, Dyn};
 ghost use Rattle.fault_syntax.specs.PrimText.{bit_text};
-ghost use Rattle.report.specs.Report.{letter, item_text, aggressor_text, content_text, directions_text, places_text, passing_text, escape_text, dyn_escape_text, judged_line, judged_lines};
+ghost use Rattle.report.specs.Report.{letter, item_text, aggressor_text, places_text, passing_text, escape_text, dyn_escape_text, judged_line, judged_lines};
 
 use crate::class_lines::{ItemClass, class_name, dyn_class};
 use crate::judged::JudgedItem;
@@ -60,27 +60,6 @@ fn letter_at(directions: u64, element: usize) -> &'static [u8]
     }
 }
 
-/// Appends a letter for each element.
-fn write_directions(out: &mut Vec<u8>, directions: u64, size: usize) -> Result<(), NoMemory>
-    requires { size ≤ 64 }
-    ensures { OnOk result (out.new.items ≡ out.old.items ++ directions_text directions size) }
-{
-    for element in 0..size {
-        put(out, letter_at(directions, element))?;
-    }
-    Ok(())
-}
-
-/// Appends a digit for each cell.
-fn write_content(out: &mut Vec<u8>, content: &[bool]) -> Result<(), NoMemory>
-    ensures { OnOk result (out.new.items ≡ out.old.items ++ content_text content.now) }
-{
-    for bit in content {
-        put(out, digit(*bit))?;
-    }
-    Ok(())
-}
-
 /// Appends where an instance stands.
 fn write_places(out: &mut Vec<u8>, agg: Option<u8>, vic: u8) -> Result<(), NoMemory>
     ensures { OnOk result (out.new.items ≡ out.old.items ++ places_text agg vic) }
@@ -89,7 +68,8 @@ fn write_places(out: &mut Vec<u8>, agg: Option<u8>, vic: u8) -> Result<(), NoMem
     put_decimal(out, u64::from(vic))
 }
 
-/// Appends what the cells of an array hold, and the directions in which a march with so many elements passes.
+/// Appends what the cells of an array hold, a digit for each, and the directions in which a march with so many elements
+/// passes, a letter for each.
 fn write_passing(
     out: &mut Vec<u8>,
     content: &[bool],
@@ -100,9 +80,14 @@ fn write_passing(
     ensures { OnOk result (out.new.items ≡ out.old.items ++ passing_text size content.now directions) }
 {
     put(out, b" content ")?;
-    write_content(out, content)?;
+    for bit in content {
+        put(out, digit(*bit))?;
+    }
     put(out, b" directions ")?;
-    write_directions(out, directions, size)
+    for element in 0..size {
+        put(out, letter_at(directions, element))?;
+    }
+    Ok(())
 }
 
 /// Appends an escape of a march with so many elements.
@@ -134,7 +119,7 @@ fn write_dyn_escape(out: &mut Vec<u8>, escape: &DynEscape, size: usize) -> Resul
     write_passing(out, cells_of(escape), escape.directions, size)
 }
 
-/// Appends the line of a static primitive with its verdict.
+/// Appends the line of a static primitive with its verdict, without its end.
 fn write_plain_line(
     out: &mut Vec<u8>,
     prim: &Prim,
@@ -142,21 +127,18 @@ fn write_plain_line(
     size: usize,
 ) -> Result<(), NoMemory>
     requires { size ≤ 64 }
-    ensures { OnOk result (out.new.items ≡ out.old.items ++ judged_line size (JudgedItem.Plain prim.now verdict.now)) }
+    ensures { OnOk result (out.new.items ++ codes "\n" ≡ out.old.items ++ judged_line size (JudgedItem.Plain prim.now verdict.now)) }
 {
     match verdict {
-        Verdict::Covered => {
-            write_prim(out, b"covered ", prim)?;
-        }
+        Verdict::Covered => write_prim(out, b"covered ", prim),
         Verdict::Escape(escape) => {
             write_prim(out, b"escape ", prim)?;
-            write_escape(out, escape, size)?;
+            write_escape(out, escape, size)
         }
     }
-    put(out, b"\n")
 }
 
-/// Appends the line of a dynamic primitive with its verdict.
+/// Appends the line of a dynamic primitive with its verdict, without its end.
 fn write_dyn_line(
     out: &mut Vec<u8>,
     prim: &DynPrim,
@@ -164,24 +146,21 @@ fn write_dyn_line(
     size: usize,
 ) -> Result<(), NoMemory>
     requires { size ≤ 64 }
-    ensures { OnOk result (out.new.items ≡ out.old.items ++ judged_line size (JudgedItem.Dyn prim.now verdict.now)) }
+    ensures { OnOk result (out.new.items ++ codes "\n" ≡ out.old.items ++ judged_line size (JudgedItem.Dyn prim.now verdict.now)) }
 {
     match verdict {
-        DynVerdict::Covered => {
-            write_dyn(out, b"covered ", prim)?;
-        }
+        DynVerdict::Covered => write_dyn(out, b"covered ", prim),
         DynVerdict::Escape(escape) => {
             write_dyn(out, b"escape ", prim)?;
-            write_dyn_escape(out, escape, size)?;
+            write_dyn_escape(out, escape, size)
         }
     }
-    put(out, b"\n")
 }
 
-/// Appends the line of a judged item.
+/// Appends the line of a judged item, without its end.
 fn write_line(out: &mut Vec<u8>, judged: &JudgedItem, size: usize) -> Result<(), NoMemory>
     requires { size ≤ 64 }
-    ensures { OnOk result (out.new.items ≡ out.old.items ++ judged_line size judged.now) }
+    ensures { OnOk result (out.new.items ++ codes "\n" ≡ out.old.items ++ judged_line size judged.now) }
 {
     match judged {
         JudgedItem::Plain(prim, verdict) => write_plain_line(out, prim, verdict, size),
@@ -200,6 +179,7 @@ pub(crate) fn write_lines(
 {
     for item in judged {
         write_line(out, item, size)?;
+        put(out, b"\n")?;
     }
     Ok(())
 }

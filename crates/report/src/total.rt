@@ -26,7 +26,11 @@ pub fn count_covered(judged: &[JudgedItem]) -> usize
     ensures value { result ≡ covered_count judged.now }
     ensures within { result ≤ length judged.now }
 {
-    judged.iter().filter(|item| is_item_covered(item)).count()
+    let mut count = 0;
+    for item in judged {
+        count += usize::from(is_item_covered(item));
+    }
+    count
 }
 
 /// Appends the line of the total. After want of memory `out` ends in a part of the line, or in none of it.

@@ -24,24 +24,6 @@ fn write_march(alloc: Global, out: &mut Vec<u8>, march: &March) -> Result<(), No
     put_between(out, b"march ", print_march(alloc, march)?.as_slice(), b"\n")
 }
 
-/// The lines of the report, one part behind another.
-fn text_of(
-    alloc: Global,
-    march: &March,
-    memory: Option<&Memory>,
-    judged: &[JudgedItem],
-) -> Result<Vec<u8>, NoMemory>
-    ensures { IfOk result (λ text. text.items ≡ report_text march.now (option_copied memory.entry) judged.now) }
-{
-    let mut out = Vec::new(alloc);
-    write_march(alloc, &mut out, march)?;
-    write_memory(&mut out, march, memory)?;
-    write_lines(&mut out, judged, march.len())?;
-    write_classes(&mut out, judged)?;
-    write_total(&mut out, judged.len(), count_covered(judged))?;
-    Ok(out)
-}
-
 /// The report: the march, the memory where one is given, one line for each judged item in their order, one for each
 /// class that occurs, and the total. Every line ends with a line feed. The only refusal is want of memory.
 pub fn write_judged(
@@ -55,7 +37,13 @@ pub fn write_judged(
     // Where each verdict is right, the lines and the counts say what the march detects.
     ensures report { IfOk result (λ text. AllByRecursion (IsJudged march.now) judged.now → IsMixedReport text.items march.now (option_copied memory.entry) (map item_of judged.now)) }
 {
-    text_of(alloc, march, memory, judged)
+    let mut out = Vec::new(alloc);
+    write_march(alloc, &mut out, march)?;
+    write_memory(&mut out, march, memory)?;
+    write_lines(&mut out, judged, march.len())?;
+    write_classes(&mut out, judged)?;
+    write_total(&mut out, judged.len(), count_covered(judged))?;
+    Ok(out)
 }
 
 /// The report of these items: each is judged once. The only refusal is want of memory.

@@ -6,7 +6,7 @@ ghost use Rattle.word_device.specs.Boxes.{IsShape, FitsPlanted, pattern};
 ghost use Rattle.word_device.specs.WayBack.{IsWayBack};
 
 use crate::device::{Device, DeviceFault, Planted, PortCmd};
-use crate::instance::{check_place, close, operate_plain, operate_planted, pause};
+use crate::instance::{check_place, close, do_plainly, operate_planted, pause};
 use crate::pending::{no_answers, pass_on};
 use crate::port::{addressed, low_bits, shown, stored_op};
 use crate::shape::Shape;
@@ -56,7 +56,10 @@ impl ArrayDevice {
             room,
             shape: None,
             words: Vec::new(alloc),
-            way: WayBack::none(),
+            way: WayBack {
+                low: [0; 256],
+                high: [0; 256],
+            },
             planted: None,
             pending: ArrayVec::new(),
             idle: 0,
@@ -66,6 +69,7 @@ impl ArrayDevice {
 }
 
 /// One operation on the words.
+#[tactic(auto, unfolding(crate::specs::Chips::words_after, crate::specs::Chips::reply_to))]
 fn operate(planted: &Option<Planted>, words: &mut [u64], op: WordOp) -> u64
     requires fits { FitsPlanted planted.now (length words.old) 64 }
     requires within { op.index < length words.old }
@@ -74,7 +78,7 @@ fn operate(planted: &Option<Planted>, words: &mut [u64], op: WordOp) -> u64
 {
     match planted {
         Some(instance) => operate_planted(instance, words, op),
-        None => operate_plain(words, op),
+        None => do_plainly(words, op),
     }
 }
 

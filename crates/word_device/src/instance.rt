@@ -1,4 +1,4 @@
-ghost use Rattle.std.specs.Prelude.{◌≡◌, ◌<◌, ◌↔◌, if◌then◌else◌, IsTrue, IsOk, IfErr, is_some, length, Some, None};
+ghost use Rattle.std.specs.Prelude.{◌≡◌, ◌<◌, ◌↔◌, if◌then◌else◌, IsTrue, IsOk, IfErr, is_some, length, Some};
 ghost use Rattle.fault_core.specs.Primitive.{agg_has_act, has_aggressor, is_retention};
 ghost use Rattle.fault_core.specs.Cells.{has_act};
 ghost use Rattle.word_device.specs.Boxes.{FitsBox};
@@ -145,7 +145,8 @@ fn does_match(planted: &Planted, words: &[u64], op: WordOp) -> bool
         && do_states_hold(planted, words)
 }
 
-fn do_plainly(words: &mut [u64], op: WordOp) -> u64
+/// One operation on words with nothing planted.
+pub(crate) fn do_plainly(words: &mut [u64], op: WordOp) -> u64
     requires { op.index < length words.old }
     ensures words { words.new ≡ plain_words words.old op }
     ensures reply { result ≡ plain_reply words.old op }
@@ -184,16 +185,6 @@ pub(crate) fn operate_planted(planted: &Planted, words: &mut [u64], op: WordOp) 
     } else {
         plain
     }
-}
-
-/// One operation on words with nothing planted.
-#[tactic(auto, unfolding(crate::specs::Chips::words_after, crate::specs::Chips::reply_to))]
-pub(crate) fn operate_plain(words: &mut [u64], op: WordOp) -> u64
-    requires within { op.index < length words.old }
-    ensures words { words.new ≡ words_after None words.old op }
-    ensures reply { result ≡ reply_to None words.old op }
-{
-    do_plainly(words, op)
 }
 
 fn is_within(at: Place, shape: &Shape) -> bool

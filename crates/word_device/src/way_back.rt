@@ -9,19 +9,11 @@ use scrambler::Scramble;
 /// the address lead to. So a cycle takes the same two steps for every scrambling.
 #[derive(Drop)]
 pub(crate) struct WayBack {
-    low: [u16; 256],
-    high: [u16; 256],
+    pub low: [u16; 256],
+    pub high: [u16; 256],
 }
 
 impl WayBack {
-    /// A way of no scrambling.
-    pub(crate) fn none() -> WayBack {
-        WayBack {
-            low: [0; 256],
-            high: [0; 256],
-        }
-    }
-
     /// The way back of a scrambling.
     pub(crate) fn of(scramble: &Scramble) -> WayBack
         ensures { IsWayBack scramble.now result }
