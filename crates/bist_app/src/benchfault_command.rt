@@ -17,7 +17,6 @@ ghost use Rattle.bist_app.specs.Bench.{benched_chip};
 ghost use Rattle.bist_app.specs.inner.RunsBeside.{FirstHasRoom, CanPlant};
 ghost use Rattle.bist_app.specs.BenchFault.{IsPlaceWord, IsAggressorPlace, IsFaultShape, IsWithin, IsApart, ArePlaces, FitsPlaces, place_in, aggressor_in, planted_of, LeavesFault, PlantsFault, TestsFault, RunsFault, DecidesFault, bench_fault_form};
 ghost use Rattle.bist_app.specs.Forms.{HasForm};
-ghost use Rattle.bist_endings.specs.Then.{SaysOwn};
 
 use crate::benching::test_beside;
 use crate::boxes::{fit_room, want_box};
@@ -75,18 +74,6 @@ fn fault_shape(words: &[&str]) -> Option<FaultShape>
     let aggressor = aggressor_place(words[4])?;
     let victim = place_of(words[5])?;
     Some(FaultShape { aggressor, victim })
-}
-
-/// What the words say, which are refused where they don't.
-fn own_words(words: &[&str]) -> Result<FaultShape, Refusal>
-    requires { HasForm bench_fault_form words.now }
-    ensures answer { SaysOwn (IsFaultShape words.now) result }
-    ensures own { IfErr result IsOwnRefusal }
-{
-    match fault_shape(words) {
-        Some(shape) => Ok(shape),
-        None => Err(Refusal::Usage),
-    }
 }
 
 fn is_within(place: NamedPlace, memory: &Memory) -> bool
@@ -259,6 +246,8 @@ pub fn decide_fault<H: Host>(
     ensures answer { DecidesFault (H.state host.old).files (map (λ b. told b) devices.old.items) (map (λ b. told b) devices.new.items) words.now (plain result) }
     ensures cause { HasCause (H.state host.old) (H.state host.new) result }
 {
-    let shape = own_words(words)?;
-    run_fault(alloc, words, shape, host, devices)
+    match fault_shape(words) {
+        Some(shape) => run_fault(alloc, words, shape, host, devices),
+        None => Err(Refusal::Usage),
+    }
 }

@@ -10,6 +10,7 @@ ghost use Rattle.bist_inputs.specs.Inputs.{HasCause, IsOwnRefusal};
 ghost use Rattle.bist_app.specs.Forms.{HasForm};
 ghost use Rattle.bist_app.specs.Compile.{IsSelfTestText, LeavesCompile, DecidesCompile, compile_form};
 
+use crate::parts::listed;
 use crate::reporting::report_list;
 use bist_bits::NoMemory;
 use bist_endings::{Output, Plan, Refusal};
@@ -49,7 +50,7 @@ fn compile_outputs(alloc: Global, text: Vec<u8>, report: Vec<u8>) -> Result<Vec<
         position: REPORT,
         bytes: report,
     };
-    Vec::from_array(alloc, [first, second]).map_err(|_| NoMemory)
+    listed(alloc, [first, second])
 }
 
 /// The module and the report as a plan.

@@ -10,15 +10,16 @@ ghost use Rattle.dynamic_core.specs.Items.{ReadsItems};
 ghost use Rattle.bist_endings.specs.Ending.{plain, done_of, written_of};
 ghost use Rattle.bist_endings.specs.Conclude.{NamesWords};
 ghost use Rattle.bist_inputs.specs.Inputs.{IsOwnRefusal};
-ghost use Rattle.bist_app.specs.Make.{IsMakeShape, made_outputs, sizes_text, covered_text, made_line, IsMadeOf, IsMade, LeavesMake, DecidesMake, make_form};
+ghost use Rattle.bist_app.specs.Make.{IsMakeShape, made_outputs, sizes_text, made_line, IsMadeOf, IsMade, LeavesMake, DecidesMake, make_form};
 ghost use Rattle.bist_app.specs.Forms.{HasForm};
 ghost use Rattle.bist_endings.specs.Then.{SaysOwn};
 
 use crate::compile::module_text;
+use crate::parts::listed;
 use crate::reporting::report_list;
 use bist_bits::NoMemory;
 use bist_endings::{Output, Plan, Refusal, number_of, put_number};
-use bist_text::put;
+use bist_text::put_number_between;
 use dynamic_core::Item;
 use made_inputs::{items_of_list, list_text, march_of, march_text, memory_of};
 use march_core::March;
@@ -64,15 +65,6 @@ fn put_sizes(
     put_number(line, b" commands ", commands as usize)
 }
 
-/// Appends how many of the primitives are covered, and ends the line.
-fn put_covered(line: &mut Vec<u8>, covered: usize, count: usize) -> Result<(), NoMemory>
-    ensures { OnOk result (line.new.items ≡ line.old.items ++ covered_text covered count) }
-{
-    put_number(line, b" covered ", covered)?;
-    put_number(line, b" of ", count)?;
-    put(line, b"\n")
-}
-
 /// The summary.
 fn summary(
     alloc: Global,
@@ -86,15 +78,9 @@ fn summary(
     let commands = word_march::length(march, memory);
     let mut line = Vec::new(alloc);
     put_sizes(&mut line, march.len(), march.total_ops(), commands)?;
-    put_covered(&mut line, covered, count)?;
+    put_number(&mut line, b" covered ", covered)?;
+    put_number_between(&mut line, b" of ", count as u64, b"\n")?;
     Ok(line)
-}
-
-/// The bytes for the file that a word names.
-fn output(position: usize, bytes: Vec<u8>) -> Output
-    ensures { written_of result ≡ record { position = position; bytes = bytes.items } }
-{
-    Output { position, bytes }
 }
 
 /// The files in their order.
@@ -109,13 +95,28 @@ fn outputs_of(
     ensures { IfOk result (λ outputs. map written_of outputs.items ≡ made_outputs march.items memory.items list.items verilog.items report.items) }
 {
     let outputs = [
-        output(2, march),
-        output(3, memory),
-        output(4, list),
-        output(5, verilog),
-        output(6, report),
+        Output {
+            position: 2,
+            bytes: march,
+        },
+        Output {
+            position: 3,
+            bytes: memory,
+        },
+        Output {
+            position: 4,
+            bytes: list,
+        },
+        Output {
+            position: 5,
+            bytes: verilog,
+        },
+        Output {
+            position: 6,
+            bytes: report,
+        },
     ];
-    Vec::from_array(alloc, outputs).map_err(|_| NoMemory)
+    listed(alloc, outputs)
 }
 
 /// The inputs, the module, the report and the summary as a plan.

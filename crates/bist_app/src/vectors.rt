@@ -15,7 +15,7 @@ use bist_bits::NoMemory;
 use bist_endings::{Plan, Refusal, numbered};
 use bist_host::Host;
 use bist_inputs::{read_march_input, read_memory_input};
-use bist_text::{put, put_decimal, put_word};
+use bist_text::{put, put_number_between, put_word};
 use march_core::March;
 use memory_desc::Memory;
 use std::alloc::Global;
@@ -24,11 +24,11 @@ use word_march::{PortOp, port_ops};
 /// The word that names the file of the commands.
 const OUT: usize = 3;
 
-/// Appends whether a command writes.
-fn put_kind(out: &mut Vec<u8>, write: bool) -> Result<(), NoMemory>
-    ensures { OnOk result (out.new.items ≡ out.old.items ++ kind_text write) }
+/// How a command's line begins, which says whether it writes.
+fn kind(write: bool) -> &'static [u8]
+    ensures { result.now ≡ kind_text write }
 {
-    put(out, if write { b"w " } else { b"r " })
+    if write { b"w " } else { b"r " }
 }
 
 /// Appends a command's line.
@@ -37,9 +37,7 @@ fn put_command(out: &mut Vec<u8>, command: PortOp, bits: u8) -> Result<(), NoMem
     requires fits { command.word < 2 ^ bits }
     ensures { OnOk result (out.new.items ≡ out.old.items ++ command_line bits command) }
 {
-    put_kind(out, command.write)?;
-    put_decimal(out, u64::from(command.addr))?;
-    put(out, b" ")?;
+    put_number_between(out, kind(command.write), u64::from(command.addr), b" ")?;
     put_word(out, bits, command.word)?;
     put(out, b"\n")
 }
