@@ -1,6 +1,6 @@
 //! The command `benchfault`: the self-test of a march and a memory against the first box, in which an instance of a primitive is planted.
 
-ghost use Rattle.std.specs.Prelude.{◌≡◌, ◌≤◌, ◌<◌, ◌↔◌, [], Some, IfOk, IfErr, IsTrue, MatchOption, Option, is_some, map, vec_len};
+ghost use Rattle.std.specs.Prelude.{◌≡◌, ◌≤◌, ◌<◌, ◌↔◌, [], Some, IfOk, IfErr, IsTrue, MatchOption, Option, is_some, map};
 ghost use Rattle.bist_host.specs.Files.{OnlyReads};
 ghost use Rattle.fault_core.specs.Primitive.{has_aggressor};
 ghost use Rattle.array_sim.specs.Detection.{Detects};
@@ -12,10 +12,9 @@ ghost use Rattle.bist_inputs.specs.Inputs.{HasCause, IsOwnRefusal};
 ghost use Rattle.bist_app.specs.declared.benchfault_command.NamedPlace.{NamedPlace};
 ghost use Rattle.bist_app.specs.declared.benchfault_command.FaultShape.{FaultShape};
 ghost use Rattle.self_test.specs.Refusals.{IsShort};
-ghost use Rattle.bist_app.specs.Shared.{LeavesFirst};
 ghost use Rattle.bist_app.specs.Bench.{benched_chip};
-ghost use Rattle.bist_app.specs.inner.RunsBeside.{FirstHasRoom, CanPlant};
-ghost use Rattle.bist_app.specs.BenchFault.{IsPlaceWord, IsAggressorPlace, IsFaultShape, IsWithin, IsApart, ArePlaces, FitsPlaces, place_in, aggressor_in, planted_of, LeavesFault, PlantsFault, TestsFault, RunsFault, DecidesFault, bench_fault_form};
+ghost use Rattle.bist_app.specs.inner.RunsBeside.{CanPlant};
+ghost use Rattle.bist_app.specs.BenchFault.{IsPlaceWord, IsAggressorPlace, IsFaultShape, IsWithin, IsApart, ArePlaces, FitsPlaces, place_in, aggressor_in, planted_of, PlantsFault, TestsFault, RunsFault, DecidesFault, bench_fault_form};
 ghost use Rattle.bist_app.specs.Forms.{HasForm};
 
 use crate::benching::test_beside;
@@ -150,27 +149,6 @@ fn answers_wrong(march: &March, memory: &Memory, planted: &Planted)
     planted_fails(march, memory);
 }
 
-/// The plan of the run, or want of memory.
-fn plan_fault(
-    alloc: Global,
-    march: &March,
-    memory: &Memory,
-    planted: Planted,
-    devices: &mut Vec<Box<dyn Device>>,
-) -> Result<Plan, Refusal>
-    requires short { IsShort march.now memory.now }
-    requires some { 0 < vec_len devices.old }
-    requires room { FirstHasRoom memory.now.words (map (λ b. told b) devices.old.items) }
-    requires fits { CanPlant memory.now (Some planted) }
-    ensures own { IfErr result IsOwnRefusal }
-    ensures answer { LeavesFault march.now memory.now planted (map (λ b. told b) devices.old.items) (plain result) }
-    ensures left { LeavesFirst (map (λ b. told b) devices.old.items) (map (λ b. told b) devices.new.items) (plain result) }
-    ensures outputs { IfOk result (λ plan. (done_of plan).outputs ≡ []) }
-{
-    answers_wrong(march, memory, &planted);
-    test_beside(alloc, march, memory, &Some(planted), devices)
-}
-
 /// The checks of the boxes and the places, and the run.
 fn plant_fault(
     alloc: Global,
@@ -190,7 +168,8 @@ fn plant_fault(
     fit_places(shape, memory)?;
     fit_room(devices, memory)?;
     let planted = planted_for(prim, shape, memory);
-    plan_fault(alloc, march, memory, planted, devices)
+    answers_wrong(march, memory, &planted);
+    test_beside(alloc, march, memory, &Some(planted), devices)
 }
 
 /// The checks behind the inputs, and the run.

@@ -34,8 +34,7 @@ pub fn module_text(alloc: Global, march: &March, memory: &Memory) -> Result<Vec<
     ensures { IfOk result (λ text. IsSelfTestText march.now memory.now text.items) }
 {
     let tree = generate(alloc, march, memory)?;
-    let text = emit(alloc, &tree)?;
-    Ok(text)
+    emit(alloc, &tree)
 }
 
 /// The files of the module and of the report.

@@ -10,7 +10,7 @@ ghost use Rattle.dynamic_core.specs.Items.{ReadsItems};
 ghost use Rattle.bist_endings.specs.Ending.{plain, done_of, written_of};
 ghost use Rattle.bist_endings.specs.Conclude.{NamesWords};
 ghost use Rattle.bist_inputs.specs.Inputs.{IsOwnRefusal};
-ghost use Rattle.bist_app.specs.Make.{IsMakeShape, made_outputs, sizes_text, made_line, IsMadeOf, IsMade, LeavesMake, DecidesMake, make_form};
+ghost use Rattle.bist_app.specs.Make.{IsMakeShape, made_outputs, sizes_text, made_line, IsMadeOf, IsMade, DecidesMake, make_form};
 ghost use Rattle.bist_app.specs.Forms.{HasForm};
 ghost use Rattle.bist_endings.specs.Then.{SaysOwn};
 
@@ -162,23 +162,8 @@ fn made(alloc: Global, number: u16) -> Result<Plan, NoMemory>
     made_of(alloc, &march, &memory, &items, listed)
 }
 
-/// Makes the inputs of a number and compiles them.
-#[tactic(auto, unfolding(crate::specs::Make::LeavesMake))]
-fn plan_make(alloc: Global, words: &[&str], number: u16) -> Result<Plan, Refusal>
-    requires form { HasForm make_form words.now }
-    requires most { number ≤ 65534 }
-    ensures own { IfErr result IsOwnRefusal }
-    ensures answer { LeavesMake number (plain result) }
-    ensures outputs { IfOk result (λ plan. NamesWords words.now (done_of plan).outputs) }
-{
-    let _count = words.len();
-    match made(alloc, number) {
-        Ok(plan) => Ok(plan),
-        Err(NoMemory) => Err(Refusal::NoMemory),
-    }
-}
-
 /// Makes the inputs of the number that the words say, and compiles them.
+#[tactic(auto, unfolding(crate::specs::Make::LeavesMake))]
 pub fn decide_make(alloc: Global, words: &[&str]) -> Result<Plan, Refusal>
     requires { HasForm make_form words.now }
     ensures own { IfErr result IsOwnRefusal }
@@ -186,5 +171,8 @@ pub fn decide_make(alloc: Global, words: &[&str]) -> Result<Plan, Refusal>
     ensures outputs { IfOk result (λ plan. NamesWords words.now (done_of plan).outputs) }
 {
     let number = own_words(words)?;
-    plan_make(alloc, words, number)
+    match made(alloc, number) {
+        Ok(plan) => Ok(plan),
+        Err(NoMemory) => Err(Refusal::NoMemory),
+    }
 }

@@ -41,10 +41,12 @@ fn sim_shape(words: &[&str]) -> Option<SimShape>
     let size = number_of(words[3])?;
     let victim = number_of(words[6])?;
     let aggressor = aggressor_of(words[5], size, victim)?;
-    if size < 2 || size > 4096 || victim >= size || content.len() != size || letters.len() > 64 {
-        return None;
-    }
-    if letters.is_empty()
+    if size < 2
+        || size > 4096
+        || victim >= size
+        || content.len() != size
+        || letters.is_empty()
+        || letters.len() > 64
         || !are_of(content.as_bytes(), b'0', b'1')
         || !are_of(letters.as_bytes(), b'u', b'd')
     {
