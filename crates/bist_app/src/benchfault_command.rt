@@ -11,10 +11,9 @@ ghost use Rattle.bist_endings.specs.Conclude.{NamesWords};
 ghost use Rattle.bist_inputs.specs.Inputs.{HasCause, IsOwnRefusal};
 ghost use Rattle.bist_app.specs.declared.benchfault_command.NamedPlace.{NamedPlace};
 ghost use Rattle.bist_app.specs.declared.benchfault_command.FaultShape.{FaultShape};
-ghost use Rattle.self_test.specs.Refusals.{IsShort};
 ghost use Rattle.bist_app.specs.Bench.{benched_chip};
 ghost use Rattle.bist_app.specs.inner.RunsBeside.{CanPlant};
-ghost use Rattle.bist_app.specs.BenchFault.{IsPlaceWord, IsAggressorPlace, IsFaultShape, IsWithin, IsApart, ArePlaces, FitsPlaces, place_in, aggressor_in, planted_of, PlantsFault, TestsFault, RunsFault, DecidesFault, bench_fault_form};
+ghost use Rattle.bist_app.specs.BenchFault.{IsPlaceWord, IsAggressorPlace, IsFaultShape, IsWithin, IsApart, ArePlaces, FitsPlaces, place_in, aggressor_in, planted_of, TestsFault, RunsFault, DecidesFault, bench_fault_form};
 ghost use Rattle.bist_app.specs.Forms.{HasForm};
 
 use crate::benching::test_beside;
@@ -149,30 +148,7 @@ fn answers_wrong(march: &March, memory: &Memory, planted: &Planted)
     planted_fails(march, memory);
 }
 
-/// The checks of the boxes and the places, and the run.
-fn plant_fault(
-    alloc: Global,
-    march: &March,
-    memory: &Memory,
-    prim: &Prim,
-    shape: FaultShape,
-    devices: &mut Vec<Box<dyn Device>>,
-) -> Result<Plan, Refusal>
-    requires short { IsShort march.now memory.now }
-    requires given { is_some shape.aggressor ≡ has_aggressor prim.now }
-    ensures own { IfErr result IsOwnRefusal }
-    ensures answer { PlantsFault march.now memory.now prim.now shape (map (λ b. told b) devices.old.items) (map (λ b. told b) devices.new.items) (plain result) }
-    ensures outputs { IfOk result (λ plan. (done_of plan).outputs ≡ []) }
-{
-    want_box(devices)?;
-    fit_places(shape, memory)?;
-    fit_room(devices, memory)?;
-    let planted = planted_for(prim, shape, memory);
-    answers_wrong(march, memory, &planted);
-    test_beside(alloc, march, memory, &Some(planted), devices)
-}
-
-/// The checks behind the inputs, and the run.
+/// The checks behind the inputs, in their order, and the run.
 fn test_fault(
     alloc: Global,
     march: &March,
@@ -187,7 +163,12 @@ fn test_fault(
 {
     fit_aggressor(shape.aggressor.is_some(), prim)?;
     fit_length(march, memory)?;
-    plant_fault(alloc, march, memory, prim, shape, devices)
+    want_box(devices)?;
+    fit_places(shape, memory)?;
+    fit_room(devices, memory)?;
+    let planted = planted_for(prim, shape, memory);
+    answers_wrong(march, memory, &planted);
+    test_beside(alloc, march, memory, &Some(planted), devices)
 }
 
 /// Runs the self-test, with the instance in the places that the words say.

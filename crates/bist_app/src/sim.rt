@@ -77,7 +77,12 @@ fn aggressor_of(word: &str, size: usize, victim: usize) -> Option<Option<usize>>
 fn are_of(bytes: &[u8], first: u8, second: u8) -> bool
     ensures { IsTrue result ↔ All (λ byte. (byte ≡ first) ⊎ (byte ≡ second)) bytes.now }
 {
-    bytes.iter().all(|byte| *byte == first || *byte == second)
+    for byte in bytes {
+        if *byte != first && *byte != second {
+            return false;
+        }
+    }
+    true
 }
 
 /// The cells whose digits these are.

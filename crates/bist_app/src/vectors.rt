@@ -2,12 +2,12 @@
 
 ghost use Rattle.std.specs.Prelude.{◌≡◌, ◌≤◌, ◌<◌, ◌^◌, ◌++◌, IfOk, IfErr, OnOk};
 ghost use Rattle.bist_host.specs.Files.{OnlyReads};
-ghost use Rattle.word_march.specs.Commands.{port_ops, command_count};
+ghost use Rattle.word_march.specs.Commands.{port_ops};
 ghost use Rattle.bist_endings.specs.Ending.{plain, done_of};
 ghost use Rattle.bist_inputs.specs.Inputs.{HasCause, IsOwnRefusal};
 ghost use Rattle.bist_endings.specs.Conclude.{NamesWords};
 ghost use Rattle.bist_app.specs.Forms.{HasForm};
-ghost use Rattle.bist_app.specs.Vectors.{kind_text, command_line, command_lines, vectors_line, vectors_done, LeavesVectors, DecidesVectors, vectors_form};
+ghost use Rattle.bist_app.specs.Vectors.{kind_text, command_line, command_lines, vectors_done, LeavesVectors, DecidesVectors, vectors_form};
 
 use crate::parts::one_output;
 use crate::shared::fit_length;
@@ -54,17 +54,6 @@ fn put_commands(alloc: Global, march: &March, memory: &Memory) -> Result<Vec<u8>
     Ok(text)
 }
 
-/// The line that tells how many commands there are.
-fn count_line(alloc: Global, march: &March, memory: &Memory) -> Result<Vec<u8>, NoMemory>
-    ensures { IfOk result (λ line. line.items ≡ vectors_line (command_count march.now memory.now)) }
-{
-    numbered(
-        alloc,
-        b"vectors ",
-        word_march::length(march, memory) as usize,
-    )
-}
-
 /// The commands as a plan.
 #[tactic(auto, unfolding(crate::specs::Vectors::LeavesVectors))]
 fn plan_vectors(alloc: Global, march: &March, memory: &Memory) -> Result<Plan, Refusal>
@@ -73,7 +62,8 @@ fn plan_vectors(alloc: Global, march: &March, memory: &Memory) -> Result<Plan, R
     ensures outputs { IfOk result (λ plan. done_of plan ≡ vectors_done march.now memory.now) }
 {
     let text = put_commands(alloc, march, memory)?;
-    let line = count_line(alloc, march, memory)?;
+    let count = word_march::length(march, memory) as usize;
+    let line = numbered(alloc, b"vectors ", count)?;
     let outputs = one_output(alloc, OUT, text)?;
     Ok(Plan {
         found: false,
