@@ -60,8 +60,7 @@ fn aggressor_place(text: &str) -> Option<Option<NamedPlace>>
     if text == "none" {
         return Some(None);
     }
-    let place = place_of(text)?;
-    Some(Some(place))
+    place_of(text).map(Some)
 }
 
 /// What the words say beside their texts, if they do.

@@ -1,6 +1,6 @@
 //! The command `make`: large inputs that a number makes, compiled, and a summary.
 
-ghost use Rattle.std.specs.Prelude.{◌≡◌, ◌≤◌, ◌++◌, Ok, IfOk, IfErr, OnOk, map, length};
+ghost use Rattle.std.specs.Prelude.{◌≡◌, ◌≤◌, Ok, IfOk, IfErr, map, length};
 ghost use Rattle.march_core.specs.March.{all_ops};
 ghost use Rattle.word_march.specs.Commands.{command_count};
 ghost use Rattle.memory_desc.specs.Descriptions.{IsMemory};
@@ -10,7 +10,7 @@ ghost use Rattle.dynamic_core.specs.Items.{ReadsItems};
 ghost use Rattle.bist_endings.specs.Ending.{plain, done_of, written_of};
 ghost use Rattle.bist_endings.specs.Conclude.{NamesWords};
 ghost use Rattle.bist_inputs.specs.Inputs.{IsOwnRefusal};
-ghost use Rattle.bist_app.specs.Make.{IsMakeShape, made_outputs, sizes_text, made_line, IsMadeOf, IsMade, DecidesMake, make_form};
+ghost use Rattle.bist_app.specs.Make.{IsMakeShape, made_outputs, made_line, IsMadeOf, IsMade, DecidesMake, make_form};
 ghost use Rattle.bist_app.specs.Forms.{HasForm};
 ghost use Rattle.bist_endings.specs.Then.{SaysOwn};
 
@@ -51,20 +51,6 @@ fn memory_text(alloc: Global, memory: &Memory) -> Result<Vec<u8>, NoMemory>
     print_memory(alloc, memory)
 }
 
-/// Appends the sizes of a march and of its test.
-fn put_sizes(
-    line: &mut Vec<u8>,
-    elements: usize,
-    operations: usize,
-    commands: u64,
-) -> Result<(), NoMemory>
-    ensures { OnOk result (line.new.items ≡ line.old.items ++ sizes_text elements operations commands) }
-{
-    put_number(line, b"made elements ", elements)?;
-    put_number(line, b" operations ", operations)?;
-    put_number(line, b" commands ", commands as usize)
-}
-
 /// The summary.
 fn summary(
     alloc: Global,
@@ -77,7 +63,9 @@ fn summary(
 {
     let commands = word_march::length(march, memory);
     let mut line = Vec::new(alloc);
-    put_sizes(&mut line, march.len(), march.total_ops(), commands)?;
+    put_number(&mut line, b"made elements ", march.len())?;
+    put_number(&mut line, b" operations ", march.total_ops())?;
+    put_number(&mut line, b" commands ", commands as usize)?;
     put_number(&mut line, b" covered ", covered)?;
     put_number_between(&mut line, b" of ", count as u64, b"\n")?;
     Ok(line)
