@@ -1,12 +1,12 @@
 -- What a run against the first box leaves, where an instance is planted.
-use Rattle.bist_app.proofs.Common.{◌≡◌, ◌<◌, ◌∙◌, ℕ, true, List, [], ◌∷◌, length, map, Option, Some, None, is_some, Result, IfOk, IfErr, refl, subst, arith, MarchElement, Primitive, has_aggressor, Description, Planted, Chip, Tells, TellsChip, Told, SomeWrong, run_word, Seen, IsFirstRead, Plan, Refusal, Done, done_of, plain, IsTrue, IfOk-weaker, FitsAggPlace}
+use Rattle.bist_app.proofs.Common.{◌≡◌, ◌<◌, ◌∙◌, ℕ, true, List, [], ◌∷◌, length, map, Option, Some, None, is_some, Result, Ok, IfOk, IfErr, refl, subst, arith, MarchElement, Primitive, has_aggressor, Description, Planted, Chip, Tells, TellsChip, Told, SomeWrong, run_word, Seen, IsFirstRead, Plan, Refusal, Done, done_of, plain, IsTrue, IfOk-weaker, FitsAggPlace, Boxes, HasBox, FitsRoom, LeavesFirst}
 use Rattle.fault_core.specs.declared.primitive.Sense.{Sense}
 use Rattle.array_sim.specs.Detection.{Detects}
 use Rattle.bist_app.specs.declared.benchfault_command.NamedPlace.{NamedPlace}
 use Rattle.bist_app.specs.declared.benchfault_command.FaultShape.{FaultShape}
 use Rattle.bist_app.specs.Bench.{benched_chip, IsSeen, IsBenched}
 use Rattle.bist_app.specs.inner.RunsBeside.{CanPlant}
-use Rattle.bist_app.specs.BenchFault.{IsApart, ArePlaces, aggressor_in, place_in, planted_of, IsFaultBenched, LeavesFault}
+use Rattle.bist_app.specs.BenchFault.{IsApart, ArePlaces, aggressor_in, place_in, planted_of, FitsPlaces, IsFaultBenched, LeavesFault, PlantsFault}
 use Rattle.bist_app.proofs.Benched.{or_no_memory}
 
 -- ---- the instance fits the memory
@@ -53,3 +53,18 @@ fault_benched f (b ∷ items) march d i r some wrong wants h =
       benched = run;
       caught = λ chip is detects. planted_found march d i (f b).tells (done_of plan) chip (wrong detects) run is;
     }) h)
+
+-- the checks before the run, of the same boxes
+pub plants : {B : Type 0} (f : B → Told) (items first second : List B) (left : Boxes) (march : List MarchElement) (d : Description) (prim : Primitive) (shape : FaultShape)
+    (i : Planted) (r : Result Plan Refusal) → first ≡ items → second ≡ items → HasBox (map f first) (Ok tt) → FitsPlaces d shape (Ok tt) → FitsRoom d (map f second) (Ok tt)
+    → i ≡ planted_of prim shape → LeavesFault march d i (map f items) (plain r) → LeavesFirst (map f items) left (plain r)
+    → PlantsFault march d prim shape (map f items) left (plain r)
+plants f items first second left march d prim shape i r e e' box places room is leaves gone = (
+  Ok tt,
+  subst (λ l. HasBox (map f l) (Ok tt)) e box,
+  (
+    Ok tt,
+    places,
+    (Ok tt, subst (λ l. FitsRoom d (map f l) (Ok tt)) e' room, (subst (λ (j : Planted). LeavesFault march d j (map f items) (plain r)) is leaves, gone)),
+  ),
+)

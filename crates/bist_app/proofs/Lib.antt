@@ -1,7 +1,6 @@
 pub mod Common
 mod Causes
 pub mod Refusing
-pub mod Listed
 pub mod Statuses
 pub mod Headline
 pub mod Conformance
@@ -29,6 +28,7 @@ pub mod OneReported
 pub mod OwnWords
 pub mod Table
 pub mod Deciding
+pub mod Distinct
 pub mod Succeeding
 pub mod ReadUnits
 pub mod TakenNames

@@ -1,9 +1,9 @@
 -- What is made is written to files that the words name.
-use Rattle.bist_app.proofs.Common.{◌≡◌, ◌++◌, ◌∙◌, ℕ, List, ap, sym, subst, arith, length, codes, append_assoc, Done, Words, NamesWords, HasForm, decimal}
+use Rattle.bist_app.proofs.Common.{◌≡◌, ◌++◌, ◌∙◌, ℕ, List, [], ap, sym, subst, arith, length, codes, append_assoc, Done, Words, NamesWords, HasForm, decimal}
 use Rattle.memory_desc.specs.Printed.{printed}
 use Rattle.made_inputs.specs.MadeMarch.{made_march, line_of}
 use Rattle.made_inputs.specs.MadeList.{made_text}
-use Rattle.bist_app.specs.Make.{make_form, IsMade, made_outputs, sizes_text}
+use Rattle.bist_app.specs.Make.{make_form, IsMade, made_outputs, sizes_text, made_line}
 
 are_named : (words : Words) (march memory listed text bytes : List ℕ) → length words ≡ 7 → NamesWords words (made_outputs march memory listed text bytes)
 are_named words march memory listed text bytes count =
@@ -23,3 +23,14 @@ sizes_joined before first second third elements operations commands e f g =
   where
     in_line : (l a x b y c z : List ℕ) → ((l ++ a ++ x) ++ b ++ y) ++ c ++ z ≡ l ++ (a ++ x ++ b ++ y ++ c ++ z)
     in_line l a x b y c z = simp append_assoc
+
+-- the sizes, and how many are covered behind them
+pub line_joined : (before first second third : List ℕ) (elements operations commands covered count : ℕ) → first ≡ before ++ sizes_text elements operations commands
+    → second ≡ first ++ codes " covered " ++ decimal covered → third ≡ second ++ (codes " of " ++ decimal count ++ codes "\n") → before ≡ []
+    → third ≡ made_line elements operations commands covered count
+line_joined before first second third elements operations commands covered count e f g none =
+    g ∙ ap (λ (l : List ℕ). l ++ (codes " of " ++ decimal count ++ codes "\n")) (f ∙ ap (λ (l : List ℕ). l ++ codes " covered " ++ decimal covered) (e ∙ ap (λ (l : List ℕ). l ++ sizes_text elements operations commands) none))
+    ∙ in_line (sizes_text elements operations commands) (codes " covered ") (decimal covered) (codes " of ") (decimal count) (codes "\n")
+  where
+    in_line : (l a x b y c : List ℕ) → (l ++ a ++ x) ++ (b ++ y ++ c) ≡ l ++ (a ++ x ++ b ++ y ++ c)
+    in_line l a x b y c = simp append_assoc

@@ -1,5 +1,5 @@
 -- The bytes of the generator's module, read by precedence, are that module.
-use Rattle.std.proofs.Common.{◌≡◌, ◌∙◌, ℕ, true, List, Some, sym, ap, subst, arith}
+use Rattle.std.proofs.Common.{◌≡◌, ◌∙◌, ℕ, true, List, Some, Result, Ok, Err, IfOk, sym, ap, subst, arith}
 use Rattle.verilog_tree.specs.Plain.{ModuleTree}
 use Rattle.verilog_tree.specs.Fits.{fits}
 use Rattle.verilog_tree.specs.Spells.{all_limits, FreelySpells}
@@ -29,3 +29,8 @@ layout_reads text mo (p, plan, same) form =
       subst (λ (x : ModuleTree). FreelySpells text x) (sym same) (subst (λ t. FreelySpells t (L.self_test p)) (sym is) (reads_itself p plan)),
       λ other h. reads_no_other p plan other (subst (λ t. FreelySpells t other) is h) ∙ sym same,
     )
+
+-- two things hold of what a call gives
+pub both_ok : {T E : Type 0} (P Q : T → Type 0) (r : Result T E) → IfOk r P → IfOk r Q → IfOk r (λ x. P x × Q x)
+both_ok P Q (Ok x) p q = (p, q)
+both_ok P Q (Err e) p q = tt

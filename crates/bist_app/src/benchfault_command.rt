@@ -1,6 +1,6 @@
 //! The command `benchfault`: the self-test of a march and a memory against the first box, in which an instance of a primitive is planted.
 
-ghost use Rattle.std.specs.Prelude.{◌≡◌, ◌≤◌, ◌<◌, ◌↔◌, [], Some, IfOk, IfErr, IsTrue, MatchOption, Option, is_some, map, vec_len};
+ghost use Rattle.std.specs.Prelude.{◌≡◌, ◌≤◌, ◌<◌, ◌↔◌, [], Some, IfOk, IfErr, IsTrue, MatchOption, Option, is_some, map};
 ghost use Rattle.bist_host.specs.Files.{OnlyReads};
 ghost use Rattle.fault_core.specs.Primitive.{has_aggressor};
 ghost use Rattle.array_sim.specs.Detection.{Detects};
@@ -11,13 +11,10 @@ ghost use Rattle.bist_endings.specs.Conclude.{NamesWords};
 ghost use Rattle.bist_inputs.specs.Inputs.{HasCause, IsOwnRefusal};
 ghost use Rattle.bist_app.specs.declared.benchfault_command.NamedPlace.{NamedPlace};
 ghost use Rattle.bist_app.specs.declared.benchfault_command.FaultShape.{FaultShape};
-ghost use Rattle.self_test.specs.Refusals.{IsShort};
-ghost use Rattle.bist_app.specs.Shared.{LeavesFirst};
 ghost use Rattle.bist_app.specs.Bench.{benched_chip};
-ghost use Rattle.bist_app.specs.inner.RunsBeside.{FirstHasRoom, CanPlant};
-ghost use Rattle.bist_app.specs.BenchFault.{IsPlaceWord, IsAggressorPlace, IsFaultShape, IsWithin, IsApart, ArePlaces, FitsPlaces, place_in, aggressor_in, planted_of, LeavesFault, PlantsFault, TestsFault, RunsFault, DecidesFault, bench_fault_form};
+ghost use Rattle.bist_app.specs.inner.RunsBeside.{CanPlant};
+ghost use Rattle.bist_app.specs.BenchFault.{IsPlaceWord, IsAggressorPlace, IsFaultShape, IsWithin, IsApart, ArePlaces, FitsPlaces, place_in, aggressor_in, planted_of, TestsFault, RunsFault, DecidesFault, bench_fault_form};
 ghost use Rattle.bist_app.specs.Forms.{HasForm};
-ghost use Rattle.bist_endings.specs.Then.{SaysOwn};
 
 use crate::benching::test_beside;
 use crate::boxes::{fit_room, want_box};
@@ -63,8 +60,7 @@ fn aggressor_place(text: &str) -> Option<Option<NamedPlace>>
     if text == "none" {
         return Some(None);
     }
-    let place = place_of(text)?;
-    Some(Some(place))
+    place_of(text).map(Some)
 }
 
 /// What the words say beside their texts, if they do.
@@ -75,18 +71,6 @@ fn fault_shape(words: &[&str]) -> Option<FaultShape>
     let aggressor = aggressor_place(words[4])?;
     let victim = place_of(words[5])?;
     Some(FaultShape { aggressor, victim })
-}
-
-/// What the words say, which are refused where they don't.
-fn own_words(words: &[&str]) -> Result<FaultShape, Refusal>
-    requires { HasForm bench_fault_form words.now }
-    ensures answer { SaysOwn (IsFaultShape words.now) result }
-    ensures own { IfErr result IsOwnRefusal }
-{
-    match fault_shape(words) {
-        Some(shape) => Ok(shape),
-        None => Err(Refusal::Usage),
-    }
 }
 
 fn is_within(place: NamedPlace, memory: &Memory) -> bool
@@ -163,50 +147,7 @@ fn answers_wrong(march: &March, memory: &Memory, planted: &Planted)
     planted_fails(march, memory);
 }
 
-/// The plan of the run, or want of memory.
-fn plan_fault(
-    alloc: Global,
-    march: &March,
-    memory: &Memory,
-    planted: Planted,
-    devices: &mut Vec<Box<dyn Device>>,
-) -> Result<Plan, Refusal>
-    requires short { IsShort march.now memory.now }
-    requires some { 0 < vec_len devices.old }
-    requires room { FirstHasRoom memory.now.words (map (λ b. told b) devices.old.items) }
-    requires fits { CanPlant memory.now (Some planted) }
-    ensures own { IfErr result IsOwnRefusal }
-    ensures answer { LeavesFault march.now memory.now planted (map (λ b. told b) devices.old.items) (plain result) }
-    ensures left { LeavesFirst (map (λ b. told b) devices.old.items) (map (λ b. told b) devices.new.items) (plain result) }
-    ensures outputs { IfOk result (λ plan. (done_of plan).outputs ≡ []) }
-{
-    answers_wrong(march, memory, &planted);
-    test_beside(alloc, march, memory, &Some(planted), devices)
-}
-
-/// The checks of the boxes and the places, and the run.
-fn plant_fault(
-    alloc: Global,
-    march: &March,
-    memory: &Memory,
-    prim: &Prim,
-    shape: FaultShape,
-    devices: &mut Vec<Box<dyn Device>>,
-) -> Result<Plan, Refusal>
-    requires short { IsShort march.now memory.now }
-    requires given { is_some shape.aggressor ≡ has_aggressor prim.now }
-    ensures own { IfErr result IsOwnRefusal }
-    ensures answer { PlantsFault march.now memory.now prim.now shape (map (λ b. told b) devices.old.items) (map (λ b. told b) devices.new.items) (plain result) }
-    ensures outputs { IfOk result (λ plan. (done_of plan).outputs ≡ []) }
-{
-    want_box(devices)?;
-    fit_places(shape, memory)?;
-    fit_room(devices, memory)?;
-    let planted = planted_for(prim, shape, memory);
-    plan_fault(alloc, march, memory, planted, devices)
-}
-
-/// The checks behind the inputs, and the run.
+/// The checks behind the inputs, in their order, and the run.
 fn test_fault(
     alloc: Global,
     march: &March,
@@ -221,7 +162,12 @@ fn test_fault(
 {
     fit_aggressor(shape.aggressor.is_some(), prim)?;
     fit_length(march, memory)?;
-    plant_fault(alloc, march, memory, prim, shape, devices)
+    want_box(devices)?;
+    fit_places(shape, memory)?;
+    fit_room(devices, memory)?;
+    let planted = planted_for(prim, shape, memory);
+    answers_wrong(march, memory, &planted);
+    test_beside(alloc, march, memory, &Some(planted), devices)
 }
 
 /// Runs the self-test, with the instance in the places that the words say.
@@ -259,6 +205,8 @@ pub fn decide_fault<H: Host>(
     ensures answer { DecidesFault (H.state host.old).files (map (λ b. told b) devices.old.items) (map (λ b. told b) devices.new.items) words.now (plain result) }
     ensures cause { HasCause (H.state host.old) (H.state host.new) result }
 {
-    let shape = own_words(words)?;
-    run_fault(alloc, words, shape, host, devices)
+    match fault_shape(words) {
+        Some(shape) => run_fault(alloc, words, shape, host, devices),
+        None => Err(Refusal::Usage),
+    }
 }

@@ -1,15 +1,16 @@
 //! The command `compile`: a self-test module for a march and a memory, and the report of what the march detects.
 
-ghost use Rattle.std.specs.Prelude.{◌≡◌, ◌≤◌, ◌∷◌, [], IfOk, IfErr, map, true};
+ghost use Rattle.std.specs.Prelude.{◌≡◌, ◌≤◌, IfOk, IfErr, true};
 ghost use Rattle.bist_host.specs.Files.{OnlyReads};
 ghost use Rattle.verilog_tree.specs.Plain.{plain_module};
 ghost use Rattle.self_test.specs.SelfTest.{SelfTest};
-ghost use Rattle.bist_endings.specs.Ending.{plain, done_of, written_of};
+ghost use Rattle.bist_endings.specs.Ending.{plain, done_of};
 ghost use Rattle.bist_endings.specs.Conclude.{NamesWords};
 ghost use Rattle.bist_inputs.specs.Inputs.{HasCause, IsOwnRefusal};
 ghost use Rattle.bist_app.specs.Forms.{HasForm};
 ghost use Rattle.bist_app.specs.Compile.{IsSelfTestText, LeavesCompile, DecidesCompile, compile_form};
 
+use crate::parts::listed;
 use crate::reporting::report_list;
 use bist_bits::NoMemory;
 use bist_endings::{Output, Plan, Refusal};
@@ -33,23 +34,7 @@ pub fn module_text(alloc: Global, march: &March, memory: &Memory) -> Result<Vec<
     ensures { IfOk result (λ text. IsSelfTestText march.now memory.now text.items) }
 {
     let tree = generate(alloc, march, memory)?;
-    let text = emit(alloc, &tree)?;
-    Ok(text)
-}
-
-/// The files of the module and of the report.
-fn compile_outputs(alloc: Global, text: Vec<u8>, report: Vec<u8>) -> Result<Vec<Output>, NoMemory>
-    ensures { IfOk result (λ outputs. map written_of outputs.items ≡ (record { position = 4; bytes = text.items }) ∷ (record { position = 5; bytes = report.items }) ∷ []) }
-{
-    let first = Output {
-        position: VERILOG,
-        bytes: text,
-    };
-    let second = Output {
-        position: REPORT,
-        bytes: report,
-    };
-    Vec::from_array(alloc, [first, second]).map_err(|_| NoMemory)
+    emit(alloc, &tree)
 }
 
 /// The module and the report as a plan.
@@ -65,7 +50,15 @@ fn plan_compile(
 {
     let text = module_text(alloc, march, memory)?;
     let reported = report_list(alloc, march, Some(memory), items)?;
-    let outputs = compile_outputs(alloc, text, reported.bytes)?;
+    let module = Output {
+        position: VERILOG,
+        bytes: text,
+    };
+    let report = Output {
+        position: REPORT,
+        bytes: reported.bytes,
+    };
+    let outputs = listed(alloc, [module, report])?;
     Ok(Plan {
         found: reported.found,
         outputs,

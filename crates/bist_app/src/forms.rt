@@ -1,16 +1,9 @@
 //! The form of a command's words: its name, how many there are, and which of them name files.
 
-ghost use Rattle.std.specs.Prelude.{◌≢◌, All, ◌≤◌, ◌<◌, ◌↔◌, IsTrue};
+ghost use Rattle.std.specs.Prelude.{◌≤◌, ◌<◌, ◌↔◌, IsTrue};
 ghost use Rattle.bist_app.specs.Forms.{AreDistinct, HasForm};
 
 use bist_endings::are_plain;
-
-/// Whether a word is none of these.
-fn is_new(word: &str, others: &[&str]) -> bool
-    ensures { IsTrue result ↔ All (λ other. other.now ≢ word.now) others.now }
-{
-    others.iter().all(|other| *other != word)
-}
 
 /// Whether no two words are the same.
 fn are_distinct(words: &[&str]) -> bool
@@ -18,7 +11,7 @@ fn are_distinct(words: &[&str]) -> bool
 {
     match words {
         [] => true,
-        [first, rest @ ..] => is_new(first, rest) && are_distinct(rest),
+        [first, rest @ ..] => !rest.contains(first) && are_distinct(rest),
     }
 }
 

@@ -1,6 +1,6 @@
 //! The command `make`: large inputs that a number makes, compiled, and a summary.
 
-ghost use Rattle.std.specs.Prelude.{◌≡◌, ◌≤◌, ◌++◌, Ok, IfOk, IfErr, OnOk, map, length};
+ghost use Rattle.std.specs.Prelude.{◌≡◌, ◌≤◌, Ok, IfOk, IfErr, map, length};
 ghost use Rattle.march_core.specs.March.{all_ops};
 ghost use Rattle.word_march.specs.Commands.{command_count};
 ghost use Rattle.memory_desc.specs.Descriptions.{IsMemory};
@@ -10,15 +10,16 @@ ghost use Rattle.dynamic_core.specs.Items.{ReadsItems};
 ghost use Rattle.bist_endings.specs.Ending.{plain, done_of, written_of};
 ghost use Rattle.bist_endings.specs.Conclude.{NamesWords};
 ghost use Rattle.bist_inputs.specs.Inputs.{IsOwnRefusal};
-ghost use Rattle.bist_app.specs.Make.{IsMakeShape, made_outputs, sizes_text, covered_text, made_line, IsMadeOf, IsMade, LeavesMake, DecidesMake, make_form};
+ghost use Rattle.bist_app.specs.Make.{IsMakeShape, made_outputs, made_line, IsMadeOf, IsMade, DecidesMake, make_form};
 ghost use Rattle.bist_app.specs.Forms.{HasForm};
 ghost use Rattle.bist_endings.specs.Then.{SaysOwn};
 
 use crate::compile::module_text;
+use crate::parts::listed;
 use crate::reporting::report_list;
 use bist_bits::NoMemory;
 use bist_endings::{Output, Plan, Refusal, number_of, put_number};
-use bist_text::put;
+use bist_text::put_number_between;
 use dynamic_core::Item;
 use made_inputs::{items_of_list, list_text, march_of, march_text, memory_of};
 use march_core::March;
@@ -50,29 +51,6 @@ fn memory_text(alloc: Global, memory: &Memory) -> Result<Vec<u8>, NoMemory>
     print_memory(alloc, memory)
 }
 
-/// Appends the sizes of a march and of its test.
-fn put_sizes(
-    line: &mut Vec<u8>,
-    elements: usize,
-    operations: usize,
-    commands: u64,
-) -> Result<(), NoMemory>
-    ensures { OnOk result (line.new.items ≡ line.old.items ++ sizes_text elements operations commands) }
-{
-    put_number(line, b"made elements ", elements)?;
-    put_number(line, b" operations ", operations)?;
-    put_number(line, b" commands ", commands as usize)
-}
-
-/// Appends how many of the primitives are covered, and ends the line.
-fn put_covered(line: &mut Vec<u8>, covered: usize, count: usize) -> Result<(), NoMemory>
-    ensures { OnOk result (line.new.items ≡ line.old.items ++ covered_text covered count) }
-{
-    put_number(line, b" covered ", covered)?;
-    put_number(line, b" of ", count)?;
-    put(line, b"\n")
-}
-
 /// The summary.
 fn summary(
     alloc: Global,
@@ -85,16 +63,12 @@ fn summary(
 {
     let commands = word_march::length(march, memory);
     let mut line = Vec::new(alloc);
-    put_sizes(&mut line, march.len(), march.total_ops(), commands)?;
-    put_covered(&mut line, covered, count)?;
+    put_number(&mut line, b"made elements ", march.len())?;
+    put_number(&mut line, b" operations ", march.total_ops())?;
+    put_number(&mut line, b" commands ", commands as usize)?;
+    put_number(&mut line, b" covered ", covered)?;
+    put_number_between(&mut line, b" of ", count as u64, b"\n")?;
     Ok(line)
-}
-
-/// The bytes for the file that a word names.
-fn output(position: usize, bytes: Vec<u8>) -> Output
-    ensures { written_of result ≡ record { position = position; bytes = bytes.items } }
-{
-    Output { position, bytes }
 }
 
 /// The files in their order.
@@ -109,13 +83,28 @@ fn outputs_of(
     ensures { IfOk result (λ outputs. map written_of outputs.items ≡ made_outputs march.items memory.items list.items verilog.items report.items) }
 {
     let outputs = [
-        output(2, march),
-        output(3, memory),
-        output(4, list),
-        output(5, verilog),
-        output(6, report),
+        Output {
+            position: 2,
+            bytes: march,
+        },
+        Output {
+            position: 3,
+            bytes: memory,
+        },
+        Output {
+            position: 4,
+            bytes: list,
+        },
+        Output {
+            position: 5,
+            bytes: verilog,
+        },
+        Output {
+            position: 6,
+            bytes: report,
+        },
     ];
-    Vec::from_array(alloc, outputs).map_err(|_| NoMemory)
+    listed(alloc, outputs)
 }
 
 /// The inputs, the module, the report and the summary as a plan.
@@ -161,23 +150,8 @@ fn made(alloc: Global, number: u16) -> Result<Plan, NoMemory>
     made_of(alloc, &march, &memory, &items, listed)
 }
 
-/// Makes the inputs of a number and compiles them.
-#[tactic(auto, unfolding(crate::specs::Make::LeavesMake))]
-fn plan_make(alloc: Global, words: &[&str], number: u16) -> Result<Plan, Refusal>
-    requires form { HasForm make_form words.now }
-    requires most { number ≤ 65534 }
-    ensures own { IfErr result IsOwnRefusal }
-    ensures answer { LeavesMake number (plain result) }
-    ensures outputs { IfOk result (λ plan. NamesWords words.now (done_of plan).outputs) }
-{
-    let _count = words.len();
-    match made(alloc, number) {
-        Ok(plan) => Ok(plan),
-        Err(NoMemory) => Err(Refusal::NoMemory),
-    }
-}
-
 /// Makes the inputs of the number that the words say, and compiles them.
+#[tactic(auto, unfolding(crate::specs::Make::LeavesMake))]
 pub fn decide_make(alloc: Global, words: &[&str]) -> Result<Plan, Refusal>
     requires { HasForm make_form words.now }
     ensures own { IfErr result IsOwnRefusal }
@@ -185,5 +159,8 @@ pub fn decide_make(alloc: Global, words: &[&str]) -> Result<Plan, Refusal>
     ensures outputs { IfOk result (λ plan. NamesWords words.now (done_of plan).outputs) }
 {
     let number = own_words(words)?;
-    plan_make(alloc, words, number)
+    match made(alloc, number) {
+        Ok(plan) => Ok(plan),
+        Err(NoMemory) => Err(Refusal::NoMemory),
+    }
 }

@@ -1,4 +1,4 @@
-ghost use Rattle.std.specs.Prelude.{◌≡◌, ◌≤◌, ◌<◌, ◌↔◌, ℕ, [], length, is_some, All, IfOk, IfErr, OnOk, IsTrue, MatchOption, Option, map};
+ghost use Rattle.std.specs.Prelude.{◌≡◌, ◌≤◌, ◌<◌, ◌++◌, ◌↔◌, ◌⊎◌, ℕ, [], length, is_some, All, IfOk, IfErr, OnOk, IsTrue, MatchOption, Option, map};
 ghost use Rattle.bist_host.specs.Files.{OnlyReads};
 ghost use Rattle.march_core.specs.Visits.{is_direction};
 ghost use Rattle.fault_core.specs.Primitive.{has_aggressor};
@@ -9,9 +9,8 @@ ghost use Rattle.bist_inputs.specs.Inputs.{GivesPrim, HasCause, IsOwnRefusal};
 ghost use Rattle.bist_endings.specs.Conclude.{NamesWords};
 ghost use Rattle.bist_endings.specs.Words.{word};
 ghost use Rattle.bist_app.specs.Shared.{FitsAggressor};
-ghost use Rattle.bist_app.specs.Sim.{IsBit, IsLetter, IsAggressorWord, IsSimShape, places_of, content_of, directions_of_letters, FirstDiffers, caught_line, sim_line, LeavesSim, RunsSim, DecidesSim, sim_form};
+ghost use Rattle.bist_app.specs.Sim.{IsAggressorWord, IsSimShape, places_of, content_of, directions_of_letters, FirstDiffers, caught_line, sim_line, LeavesSim, RunsSim, DecidesSim, sim_form};
 ghost use Rattle.bist_app.specs.Forms.{HasForm};
-ghost use Rattle.bist_endings.specs.Then.{SaysOwn};
 
 use crate::directions::{direction_word, fit_directions};
 use array_sim::{Instance, simulate};
@@ -19,7 +18,7 @@ use bist_bits::NoMemory;
 use bist_endings::{Misfit, Plan, Refusal, number_of, put_number};
 use bist_host::Host;
 use bist_inputs::{give_prim, read_march_input};
-use bist_text::put;
+use bist_text::{put, put_number_between};
 use fault_core::{Places, Prim};
 use march_core::{March, Miss};
 use std::alloc::{AllocError, Global};
@@ -42,10 +41,15 @@ fn sim_shape(words: &[&str]) -> Option<SimShape>
     let size = number_of(words[3])?;
     let victim = number_of(words[6])?;
     let aggressor = aggressor_of(words[5], size, victim)?;
-    if size < 2 || size > 4096 || victim >= size || content.len() != size || letters.len() > 64 {
-        return None;
-    }
-    if letters.is_empty() || !are_bits(content.as_bytes()) || !are_letters(letters.as_bytes()) {
+    if size < 2
+        || size > 4096
+        || victim >= size
+        || content.len() != size
+        || letters.is_empty()
+        || letters.len() > 64
+        || !are_of(content.as_bytes(), b'0', b'1')
+        || !are_of(letters.as_bytes(), b'u', b'd')
+    {
         return None;
     }
     Some(SimShape {
@@ -53,18 +57,6 @@ fn sim_shape(words: &[&str]) -> Option<SimShape>
         aggressor,
         victim,
     })
-}
-
-/// What the words say, which are refused where they don't.
-fn own_words(words: &[&str]) -> Result<SimShape, Refusal>
-    requires { HasForm sim_form words.now }
-    ensures answer { SaysOwn (IsSimShape words.now) result }
-    ensures own { IfErr result IsOwnRefusal }
-{
-    match sim_shape(words) {
-        Some(shape) => Ok(shape),
-        None => Err(Refusal::Usage),
-    }
 }
 
 /// The aggressor's cell that a word names, or none.
@@ -81,18 +73,16 @@ fn aggressor_of(word: &str, size: usize, victim: usize) -> Option<Option<usize>>
     Some(Some(cell))
 }
 
-fn are_bits(digits: &[u8]) -> bool
-    ensures { IsTrue result ↔ All IsBit digits.now }
+/// Whether each of the bytes is one of two.
+fn are_of(bytes: &[u8], first: u8, second: u8) -> bool
+    ensures { IsTrue result ↔ All (λ byte. (byte ≡ first) ⊎ (byte ≡ second)) bytes.now }
 {
-    digits.iter().all(|digit| *digit == b'0' || *digit == b'1')
-}
-
-fn are_letters(letters: &[u8]) -> bool
-    ensures { IsTrue result ↔ All IsLetter letters.now }
-{
-    letters
-        .iter()
-        .all(|letter| *letter == b'u' || *letter == b'd')
+    for byte in bytes {
+        if *byte != first && *byte != second {
+            return false;
+        }
+    }
+    true
 }
 
 /// The cells whose digits these are.
@@ -102,25 +92,25 @@ fn cells_of(alloc: Global, digits: &[u8]) -> Result<Vec<bool>, AllocError>
     digits.iter().map(|digit| *digit == b'1').collect(alloc)
 }
 
-fn caught(alloc: Global, miss: Miss) -> Result<Vec<u8>, NoMemory>
-    ensures { IfOk result (λ line. line.items ≡ caught_line miss) }
+/// Appends the line of a read that differs.
+fn put_caught(line: &mut Vec<u8>, miss: Miss) -> Result<(), NoMemory>
+    ensures { OnOk result (line.new.items ≡ line.old.items ++ caught_line miss) }
 {
-    let mut line = Vec::new(alloc);
-    put_number(&mut line, b"caught element ", miss.element)?;
-    put_number(&mut line, b" address ", miss.address)?;
-    put_number(&mut line, b" operation ", miss.op)?;
-    put(&mut line, b"\n")?;
-    Ok(line)
+    put_number(line, b"caught element ", miss.element)?;
+    put_number(line, b" address ", miss.address)?;
+    put_number_between(line, b" operation ", miss.op as u64, b"\n")
 }
 
 /// The line of a run.
 fn line_of(alloc: Global, miss: Option<Miss>) -> Result<Vec<u8>, NoMemory>
     ensures { IfOk result (λ line. line.items ≡ sim_line miss) }
 {
+    let mut line = Vec::new(alloc);
     match miss {
-        None => Vec::from_slice(alloc, b"passes\n").map_err(|_| NoMemory),
-        Some(miss) => caught(alloc, miss),
+        None => put(&mut line, b"passes\n")?,
+        Some(miss) => put_caught(&mut line, miss)?,
     }
+    Ok(line)
 }
 
 /// The primitive of a word.
@@ -250,6 +240,8 @@ pub fn decide_sim<H: Host>(alloc: Global, words: &[&str], host: &mut H) -> Resul
     ensures answer { DecidesSim (H.state host.old).files words.now (plain result) }
     ensures cause { HasCause (H.state host.old) (H.state host.new) result }
 {
-    let shape = own_words(words)?;
-    run_sim(alloc, words, shape, host)
+    match sim_shape(words) {
+        Some(shape) => run_sim(alloc, words, shape, host),
+        None => Err(Refusal::Usage),
+    }
 }

@@ -2,12 +2,12 @@
 
 ghost use Rattle.std.specs.Prelude.{◌≡◌, ◌≤◌, ◌<◌, ◌^◌, ◌++◌, IfOk, IfErr, OnOk};
 ghost use Rattle.bist_host.specs.Files.{OnlyReads};
-ghost use Rattle.word_march.specs.Commands.{port_ops, command_count};
+ghost use Rattle.word_march.specs.Commands.{port_ops};
 ghost use Rattle.bist_endings.specs.Ending.{plain, done_of};
 ghost use Rattle.bist_inputs.specs.Inputs.{HasCause, IsOwnRefusal};
 ghost use Rattle.bist_endings.specs.Conclude.{NamesWords};
 ghost use Rattle.bist_app.specs.Forms.{HasForm};
-ghost use Rattle.bist_app.specs.Vectors.{kind_text, command_line, command_lines, vectors_line, vectors_done, LeavesVectors, DecidesVectors, vectors_form};
+ghost use Rattle.bist_app.specs.Vectors.{kind_text, command_line, command_lines, vectors_done, LeavesVectors, DecidesVectors, vectors_form};
 
 use crate::parts::one_output;
 use crate::shared::fit_length;
@@ -15,7 +15,7 @@ use bist_bits::NoMemory;
 use bist_endings::{Plan, Refusal, numbered};
 use bist_host::Host;
 use bist_inputs::{read_march_input, read_memory_input};
-use bist_text::{put, put_decimal, put_word};
+use bist_text::{put, put_number_between, put_word};
 use march_core::March;
 use memory_desc::Memory;
 use std::alloc::Global;
@@ -24,11 +24,11 @@ use word_march::{PortOp, port_ops};
 /// The word that names the file of the commands.
 const OUT: usize = 3;
 
-/// Appends whether a command writes.
-fn put_kind(out: &mut Vec<u8>, write: bool) -> Result<(), NoMemory>
-    ensures { OnOk result (out.new.items ≡ out.old.items ++ kind_text write) }
+/// How a command's line begins, which says whether it writes.
+fn kind(write: bool) -> &'static [u8]
+    ensures { result.now ≡ kind_text write }
 {
-    put(out, if write { b"w " } else { b"r " })
+    if write { b"w " } else { b"r " }
 }
 
 /// Appends a command's line.
@@ -37,9 +37,7 @@ fn put_command(out: &mut Vec<u8>, command: PortOp, bits: u8) -> Result<(), NoMem
     requires fits { command.word < 2 ^ bits }
     ensures { OnOk result (out.new.items ≡ out.old.items ++ command_line bits command) }
 {
-    put_kind(out, command.write)?;
-    put_decimal(out, u64::from(command.addr))?;
-    put(out, b" ")?;
+    put_number_between(out, kind(command.write), u64::from(command.addr), b" ")?;
     put_word(out, bits, command.word)?;
     put(out, b"\n")
 }
@@ -56,17 +54,6 @@ fn put_commands(alloc: Global, march: &March, memory: &Memory) -> Result<Vec<u8>
     Ok(text)
 }
 
-/// The line that tells how many commands there are.
-fn count_line(alloc: Global, march: &March, memory: &Memory) -> Result<Vec<u8>, NoMemory>
-    ensures { IfOk result (λ line. line.items ≡ vectors_line (command_count march.now memory.now)) }
-{
-    numbered(
-        alloc,
-        b"vectors ",
-        word_march::length(march, memory) as usize,
-    )
-}
-
 /// The commands as a plan.
 #[tactic(auto, unfolding(crate::specs::Vectors::LeavesVectors))]
 fn plan_vectors(alloc: Global, march: &March, memory: &Memory) -> Result<Plan, Refusal>
@@ -75,7 +62,8 @@ fn plan_vectors(alloc: Global, march: &March, memory: &Memory) -> Result<Plan, R
     ensures outputs { IfOk result (λ plan. done_of plan ≡ vectors_done march.now memory.now) }
 {
     let text = put_commands(alloc, march, memory)?;
-    let line = count_line(alloc, march, memory)?;
+    let count = word_march::length(march, memory) as usize;
+    let line = numbered(alloc, b"vectors ", count)?;
     let outputs = one_output(alloc, OUT, text)?;
     Ok(Plan {
         found: false,

@@ -1,5 +1,0 @@
-use Rattle.bist_app.proofs.Making.{names_words}
-use Rattle.bist_app.proofs.make.plan_make.Goals as goal
-
-pub returns-in-Ok-clause-outputs : goal.returns-in-Ok-clause-outputs
-returns-in-Ok-clause-outputs c = names_words c.args.words.now c.args.number _ c.requires.form c.in-Ok.ensures
