@@ -199,26 +199,6 @@ pub fn run_design(
     }
 }
 
-/// Runs a design from registers 0 against a box that is fitted.
-fn run_plan(
-    alloc: Global,
-    design: &mut Design,
-    march: &March,
-    memory: &Memory,
-    device: Box<dyn Device>,
-) -> Result<Plan, NoMemory>
-    requires zero { design.old.registers ≡ zero_registers design.old.tree }
-    requires short { IsShort march.now memory.now }
-    requires ports { wrong_port memory.now design.old.tree.ports ≡ None }
-    requires fitted { (told device).shape ≡ Some (memory_shape memory.now) }
-    ensures run { IfOk result (λ plan. RunsBeside design.old.tree march.now memory.now (told device).tells (done_of plan)) }
-    ensures outputs { IfOk result (λ plan. (done_of plan).outputs ≡ []) }
-{
-    let bits = memory.bits();
-    let end = run_design(design, march, memory, device);
-    end_plan(alloc, bits, end)
-}
-
 /// Runs a design from registers 0 against the first box, which is fitted, planted and taken.
 pub fn run_beside(
     alloc: Global,
@@ -240,7 +220,9 @@ pub fn run_beside(
     ensures left { LeavesFirst (map (λ b. told b) devices.old.items) (map (λ b. told b) devices.new.items) (plain result) }
 {
     let device = take_first(devices, memory, planted)?;
-    let plan = run_plan(alloc, design, march, memory, device)?;
+    let bits = memory.bits();
+    let end = run_design(design, march, memory, device);
+    let plan = end_plan(alloc, bits, end)?;
     Ok(plan)
 }
 

@@ -1,6 +1,6 @@
 //! The self-test module against each box of a list: the module is made, written and read back once, and the line counts the boxes that fail.
 
-ghost use Rattle.std.specs.Prelude.{◌≡◌, ◌<◌, [], None, Some, IfErr, IfOk, OnOk, OnErr, length, map, replicate};
+ghost use Rattle.std.specs.Prelude.{◌≡◌, ◌<◌, ◌++◌, [], None, Some, IfErr, IfOk, OnOk, OnErr, length, map, replicate};
 ghost use Rattle.verilog_cycle.specs.Design.{Fit, registers_of};
 ghost use Rattle.self_test.specs.SelfTest.{SelfTest};
 ghost use Rattle.word_device.specs.Ports.{shape_of as memory_shape};
@@ -30,14 +30,12 @@ fn answers_right(march: &March, memory: &Memory)
     unplanted_passes(march, memory);
 }
 
-/// The line that tells how many boxes failed.
-fn all_boxes_line(alloc: Global, count: usize, failing: usize) -> Result<Vec<u8>, NoMemory>
-    ensures { IfOk result (λ line. line.items ≡ all_line count failing) }
+/// Appends the line that tells how many boxes failed.
+fn put_failing(line: &mut Vec<u8>, count: usize, failing: usize) -> Result<(), NoMemory>
+    ensures { OnOk result (line.new.items ≡ line.old.items ++ all_line count failing) }
 {
-    let mut line = Vec::new(alloc);
-    put_number(&mut line, b"boxes ", count)?;
-    put_number_between(&mut line, b" failing ", failing as u64, b"\n")?;
-    Ok(line)
+    put_number(line, b"boxes ", count)?;
+    put_number_between(line, b" failing ", failing as u64, b"\n")
 }
 
 /// Runs the self-test from registers 0 against a box that is fitted. The answer tells whether it ended with `fail`.
@@ -98,7 +96,8 @@ fn zeros_for(alloc: Global, design: &Design) -> Result<Vec<u64>, NoMemory>
     }
 }
 
-/// Makes the self-test and runs it against each box, which is fitted and taken. The answer is beside how many it ended with `fail`.
+/// Makes the self-test and runs it against each box, which is fitted and taken. The answer is beside how many it ended with `fail`. Where
+/// memory runs out, some box stays.
 fn failing_boxes(
     alloc: Global,
     march: &March,
@@ -135,7 +134,8 @@ pub fn bench_all(
 {
     let count = devices.len();
     let failing = failing_boxes(alloc, march, memory, devices)?;
-    let line = all_boxes_line(alloc, count, failing)?;
+    let mut line = Vec::new(alloc);
+    put_failing(&mut line, count, failing)?;
     Ok(Plan {
         found: failing > 0,
         outputs: Vec::new(alloc),
