@@ -1,9 +1,10 @@
 -- What the runs against a list of boxes leave.
-use Rattle.bist_app.proofs.Common.{◌≡◌, ◌+◌, ◌<◌, ◌≤◌, ◌∙◌, ℕ, zero, suc, Bool, true, false, List, [], ◌∷◌, length, map, drop, replicate, Option, Some, None, is_some, refl, sym, ap, subst, arith, MarchElement, Description, Tells, Told, AllRight, IsPlain, PassesAlone, run_word, Seen, IsFirstRead, Done, Boxes, FirstHasRoom, length-replicate, length-map, drop_all, one-le-pow, Fit}
+use Rattle.bist_app.proofs.Common.{◌≡◌, ◌+◌, ◌<◌, ◌≤◌, ◌∙◌, ℕ, zero, suc, Bool, true, false, List, [], ◌∷◌, length, map, drop, replicate, Option, Some, None, is_some, refl, sym, ap, ap₂, subst, arith, nat_lt, MarchElement, Description, Tells, Told, AllRight, IsPlain, PassesAlone, run_word, Seen, IsFirstRead, Done, Written, Boxes, FirstHasRoom, length-replicate, length-map, drop_all, one-le-pow, Fit}
+use Rattle.std.specs.Int.{from_bool}
 use Rattle.verilog_tree.specs.Names.{Declaration}
 use Rattle.bist_app.specs.Bench.{ready, benched_chip, IsSeen}
-use Rattle.bist_app.specs.BenchAll.{HaveRoom, IsBoxSeen, failing_of, all_done, IsAllBenched, AreGone}
-use Rattle.bist_app.specs.inner.BenchedBoxes.{IsEnd, GoesOn, CountsFailing, more_failing}
+use Rattle.bist_app.specs.BenchAll.{HaveRoom, IsBoxSeen, failing_of, all_line, all_done, IsAllBenched, AreGone}
+use Rattle.bist_app.specs.inner.BenchedBoxes.{IsEnd, GoesOn, CountsFailing}
 use Rattle.bist_app.proofs.Benched.{seen_by}
 
 -- ---- what is seen of one box
@@ -30,30 +31,31 @@ box_seen march d tells failed right end =
 
 -- ---- the boxes one after another
 
-failing_more : (failing : ℕ) (seen : Option Seen) (later : List (Option Seen)) → failing + failing_of (seen ∷ later) ≡ more_failing failing (is_some seen) + failing_of later
-failing_more failing None later = refl
+failing_more : (failing : ℕ) (seen : Option Seen) (later : List (Option Seen)) → failing + failing_of (seen ∷ later) ≡ failing + from_bool (is_some seen) + failing_of later
+failing_more failing None later = omega arith
 failing_more failing (Some s) later = omega arith
 
 goes_box : (march : List MarchElement) (d : Description) (boxes left : Boxes) (box : Told) (failing : ℕ) (seen : Option Seen) → IsBoxSeen march d box.tells seen
-    → GoesOn march d boxes (box ∷ left) failing → GoesOn march d boxes left (more_failing failing (is_some seen))
+    → GoesOn march d boxes (box ∷ left) failing → GoesOn march d boxes left (failing + from_bool (is_some seen))
 goes_box march d boxes left box failing seen is on later h =
     let all = on (seen ∷ later) (is, h) in
     (all.0, all.1, all.2 ∙ failing_more failing seen later)
 
-pub goes_more : {B : Type 0} (f : B → Told) (march : List MarchElement) (d : Description) (boxes : Boxes) (now next : List B) (tells : Tells) (failing : ℕ) (failed : Bool)
+pub goes_more : {B : Type 0} (f : B → Told) (march : List MarchElement) (d : Description) (boxes : Boxes) (now next : List B) (tells : Tells) (failing more : ℕ) (failed : Bool) → more ≡ from_bool failed
     → AllRight march d (run_word march d (benched_chip d None)) → 0 < length now → next ≡ drop 1 now
     → ((b : B) (rest : List B) → now ≡ b ∷ rest → tells ≡ ready d None (f b).tells) → IsEnd march d tells failed
-    → GoesOn march d boxes (map f now) failing → GoesOn march d boxes (map f next) (more_failing failing failed)
-goes_more f march d boxes [] next tells failing failed right some gone told end on = absurd (omega (arith, some))
-goes_more {B} f march d boxes (b ∷ rest) next tells failing failed right some gone told end on =
+    → GoesOn march d boxes (map f now) failing → GoesOn march d boxes (map f next) (failing + more)
+goes_more f march d boxes [] next tells failing more failed adds right some gone told end on = absurd (omega (arith, some))
+goes_more {B} f march d boxes (b ∷ rest) next tells failing more failed adds right some gone told end on =
     let here : IsEnd march d (ready d None (f b).tells) failed = subst (λ (t : Tells). IsEnd march d t failed) (told b rest refl) end in
     let left = goes_box march d boxes (map f rest) (f b) failing here.seen (box_seen march d (f b).tells failed right here) on in
-    let counted = subst (λ (x : Bool). GoesOn march d boxes (map f rest) (more_failing failing x)) (sym here.fail) left in
-    subst (λ (xs : List B). GoesOn march d boxes (map f xs) (more_failing failing failed)) (sym gone) counted
+    let counted = subst (λ (x : Bool). GoesOn march d boxes (map f rest) (failing + from_bool x)) (sym here.fail) left in
+    let added = subst (λ (n : ℕ). GoesOn march d boxes (map f rest) (failing + n)) (sym adds) counted in
+    subst (λ (xs : List B). GoesOn march d boxes (map f xs) (failing + more)) (sym gone) added
 
-pub few_more : (failing : ℕ) (failed : Bool) → more_failing failing failed ≤ failing + 1
-few_more failing false = omega arith
-few_more failing true = omega arith
+pub at_most_one : (failed : Bool) → from_bool failed ≤ 1
+at_most_one false = omega arith
+at_most_one true = omega arith
 
 all_counted : (march : List MarchElement) (d : Description) (boxes : Boxes) (failing : ℕ) → GoesOn march d boxes [] failing → CountsFailing march d boxes failing
 all_counted march d boxes failing on =
@@ -67,12 +69,14 @@ boxes_counted f march d items [] failing on none = all_counted march d (map f it
 boxes_counted f march d items (b ∷ now) failing on none = absurd (omega (arith, none))
 
 -- so many runs of which so many failed
-pub boxes_benched : {B : Type 0} (f : B → Told) (march : List MarchElement) (d : Description) (items : List B) (failing count : ℕ) (done : Done) → CountsFailing march d (map f items) failing
-    → count ≡ length items → done ≡ all_done count failing → IsAllBenched march d (map f items) done
-boxes_benched f march d items failing count done (seen, are, fails) counted is = record {
+pub boxes_benched : {B : Type 0} (f : B → Told) (march : List MarchElement) (d : Description) (items : List B) (failing count : ℕ) (outputs : List Written) (line : List ℕ)
+    → CountsFailing march d (map f items) failing → count ≡ length items → outputs ≡ [] → line ≡ all_line count failing
+    → IsAllBenched march d (map f items) (record { found = nat_lt 0 failing; outputs = outputs; line = line })
+boxes_benched f march d items failing count outputs line (seen, are, fails) counted none is = record {
   seen = seen;
   are_seen = are;
-  done_is = is ∙ ap (λ n. all_done n failing) (counted ∙ sym (length-map items f)) ∙ ap (all_done (length (map f items))) fails;
+  done_is = ap₂ (λ (os : List Written) (xs : List ℕ). let done : Done = record { found = nat_lt 0 failing; outputs = os; line = xs } in done) none is
+      ∙ ap (λ n. all_done n failing) (counted ∙ sym (length-map items f)) ∙ ap (all_done (length (map f items))) fails;
 }
 
 pub all_gone : {B : Type 0} (f : B → Told) (boxes : Boxes) (next : List B) → next ≡ [] → AreGone boxes (map f next)

@@ -2,7 +2,6 @@
 use Rattle.bist_app.proofs.Common.{◌≡◌, ◌<◌, ◌*◌, ◌+◌, ◌%◌, ◌/◌, ◌^◌, ◌∙◌, ℕ, zero, suc, false, List, [], ◌∷◌, length, map, replicate, Option, None, Some, is_some, Bool, Result, Ok, Err, IfOk, IfErr, bit_xor, refl, sym, ap, ap₂, subst, arith, MarchElement, Description, Planted, Chip, shape_of, planted_chip, Tells, TellsChip, TellsScript, TellsNothing, Told, pattern, filled_chip, blank, AllRight, IsPlain, PassesAlone, run_word, Seen, IsFirstRead, EndsSelfTest, IsSeenOf, IsWrongRead, SelfTest, ModuleTree, Plan, Refusal, Done, done_of, plain, OrNoMemory, range_with_len, length-replicate, one-le-pow, mod-eq_of_lt, closed_words, IfOk-weaker}
 use Rattle.word_device.specs.declared.shape.Shape.{Shape}
 use Rattle.bench.specs.Endings.{Runs}
-use Rattle.bist_bits.specs.declared.NoMemory.{NoMemory}
 use Rattle.bist_app.specs.declared.benching.RunEnd.{RunEnd}
 use Rattle.bist_app.specs.Bench.{ready, benched_chip, benched_done, IsSeen, IsRun, IsBenched, IsSoundBenched, LeavesBench}
 use Rattle.bist_app.specs.BenchFile.{IsFileRun, LeavesBenchFile, zero_registers}
@@ -59,12 +58,11 @@ run_is mo march d registers tells end done hold run test is = record {
 }
 
 -- the plan of a run
-pub plan_is : (mo : ModuleTree) (march : List MarchElement) (d : Description) (registers : List ℕ) (tells : Tells) (end : RunEnd) (bits : ℕ) (r : Result Plan NoMemory)
+pub plan_is : (mo : ModuleTree) (march : List MarchElement) (d : Description) (registers : List ℕ) (tells : Tells) (end : RunEnd) (bits : ℕ) (done : Done)
     → registers ≡ zero_registers mo → EndsRun mo march d registers tells end → (SelfTest mo march d → EndsSelfTest march d tells end.fail end.done_cycle end.first)
-    → bits ≡ d.bits → IfOk r (λ plan. done_of plan ≡ benched_done bits end.fail end.done_cycle end.first) → IfOk r (λ plan. RunsBeside mo march d tells (done_of plan))
-plan_is mo march d registers tells end bits (Ok plan) hold run test same is =
-    run_is mo march d registers tells end (done_of plan) hold run test (is ∙ ap (λ n. benched_done n end.fail end.done_cycle end.first) same)
-plan_is mo march d registers tells end bits (Err e) hold run test same is = tt
+    → bits ≡ d.bits → done ≡ benched_done bits end.fail end.done_cycle end.first → RunsBeside mo march d tells done
+plan_is mo march d registers tells end bits done hold run test same is =
+    run_is mo march d registers tells end done hold run test (is ∙ ap (λ n. benched_done n end.fail end.done_cycle end.first) same)
 
 benched_of : (march : List MarchElement) (d : Description) (planted : Option Planted) (tells : Tells) (done : Done) → IsRun march d (ready d planted tells) done
     → IsBenched march d planted tells done

@@ -25,7 +25,7 @@ use crate::compile::module_text;
 use bench::{BenchEnd, Seen, bench};
 use bist_bits::NoMemory;
 use bist_endings::{Plan, Refusal};
-use bist_text::{put, put_decimal, put_word};
+use bist_text::{put, put_decimal, put_number_between, put_word};
 use march_core::March;
 use memory_desc::Memory;
 use std::alloc::Global;
@@ -105,9 +105,7 @@ fn put_read(line: &mut Vec<u8>, bits: u8, seen: Seen) -> Result<(), NoMemory>
     requires fits { AreWords bits (Some seen) }
     ensures { OnOk result (line.new.items ≡ line.old.items ++ seen_text bits (Some seen)) }
 {
-    put(line, b" cycle ")?;
-    put_decimal(line, u64::from(seen.cycle))?;
-    put(line, b" expected ")?;
+    put_number_between(line, b" cycle ", u64::from(seen.cycle), b" expected ")?;
     put_word(line, bits, seen.expected)?;
     put(line, b" returned ")?;
     put_word(line, bits, seen.returned)
@@ -125,25 +123,23 @@ fn put_seen(line: &mut Vec<u8>, bits: u8, seen: Option<Seen>) -> Result<(), NoMe
     }
 }
 
-/// The line that tells how a run ended.
-fn end_line(alloc: Global, bits: u8, end: RunEnd) -> Result<Vec<u8>, NoMemory>
+/// Appends the line that tells how a run ended.
+fn put_end(line: &mut Vec<u8>, bits: u8, end: RunEnd) -> Result<(), NoMemory>
     requires bits { bits ≤ 64 }
     requires fits { AreWords bits end.first }
-    ensures { IfOk result (λ line. line.items ≡ bench_line bits end.fail end.done_cycle end.first) }
+    ensures { OnOk result (line.new.items ≡ line.old.items ++ bench_line bits end.fail end.done_cycle end.first) }
 {
-    let mut line = Vec::new(alloc);
     put(
-        &mut line,
+        line,
         if end.fail {
             b"fail 1 done "
         } else {
             b"fail 0 done "
         },
     )?;
-    put_done(&mut line, end.done_cycle)?;
-    put_seen(&mut line, bits, end.first)?;
-    put(&mut line, b"\n")?;
-    Ok(line)
+    put_done(line, end.done_cycle)?;
+    put_seen(line, bits, end.first)?;
+    put(line, b"\n")
 }
 
 /// The plan of a run that ended so.
@@ -152,7 +148,8 @@ fn end_plan(alloc: Global, bits: u8, end: RunEnd) -> Result<Plan, NoMemory>
     requires fits { AreWords bits end.first }
     ensures { IfOk result (λ plan. done_of plan ≡ benched_done bits end.fail end.done_cycle end.first) }
 {
-    let line = end_line(alloc, bits, end)?;
+    let mut line = Vec::new(alloc);
+    put_end(&mut line, bits, end)?;
     Ok(Plan {
         found: end.fail,
         outputs: Vec::new(alloc),
@@ -202,26 +199,6 @@ pub fn run_design(
     }
 }
 
-/// Runs a design from registers 0 against a box that is fitted.
-fn run_plan(
-    alloc: Global,
-    design: &mut Design,
-    march: &March,
-    memory: &Memory,
-    device: Box<dyn Device>,
-) -> Result<Plan, NoMemory>
-    requires zero { design.old.registers ≡ zero_registers design.old.tree }
-    requires short { IsShort march.now memory.now }
-    requires ports { wrong_port memory.now design.old.tree.ports ≡ None }
-    requires fitted { (told device).shape ≡ Some (memory_shape memory.now) }
-    ensures run { IfOk result (λ plan. RunsBeside design.old.tree march.now memory.now (told device).tells (done_of plan)) }
-    ensures outputs { IfOk result (λ plan. (done_of plan).outputs ≡ []) }
-{
-    let bits = memory.bits();
-    let end = run_design(design, march, memory, device);
-    end_plan(alloc, bits, end)
-}
-
 /// Runs a design from registers 0 against the first box, which is fitted, planted and taken.
 pub fn run_beside(
     alloc: Global,
@@ -243,7 +220,9 @@ pub fn run_beside(
     ensures left { LeavesFirst (map (λ b. told b) devices.old.items) (map (λ b. told b) devices.new.items) (plain result) }
 {
     let device = take_first(devices, memory, planted)?;
-    let plan = run_plan(alloc, design, march, memory, device)?;
+    let bits = memory.bits();
+    let end = run_design(design, march, memory, device);
+    let plan = end_plan(alloc, bits, end)?;
     Ok(plan)
 }
 

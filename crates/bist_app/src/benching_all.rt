@@ -1,6 +1,6 @@
 //! The self-test module against each box of a list: the module is made, written and read back once, and the line counts the boxes that fail.
 
-ghost use Rattle.std.specs.Prelude.{◌≡◌, ◌<◌, [], None, Some, IfErr, IfOk, OnOk, OnErr, length, map, replicate};
+ghost use Rattle.std.specs.Prelude.{◌≡◌, ◌<◌, ◌++◌, [], None, Some, IfErr, IfOk, OnOk, OnErr, length, map, replicate};
 ghost use Rattle.verilog_cycle.specs.Design.{Fit, registers_of};
 ghost use Rattle.self_test.specs.SelfTest.{SelfTest};
 ghost use Rattle.word_device.specs.Ports.{shape_of as memory_shape};
@@ -9,14 +9,14 @@ ghost use Rattle.bist_endings.specs.Ending.{done_of, plain};
 ghost use Rattle.bist_inputs.specs.Inputs.{IsOwnRefusal};
 ghost use Rattle.self_test.specs.Refusals.{IsShort};
 ghost use Rattle.bist_app.specs.Bench.{benched_chip};
-ghost use Rattle.bist_app.specs.BenchAll.{HaveRoom, LeavesAll, LeavesNone, all_line, all_done, AreGone};
-ghost use Rattle.bist_app.specs.inner.BenchedBoxes.{IsEnd, CountsFailing, more_failing};
+ghost use Rattle.bist_app.specs.BenchAll.{HaveRoom, LeavesAll, LeavesNone, all_line, AreGone};
+ghost use Rattle.bist_app.specs.inner.BenchedBoxes.{IsEnd, CountsFailing};
 
 use crate::benching::{run_design, self_test_design};
 use crate::boxes::take_first;
 use bist_bits::NoMemory;
 use bist_endings::{Plan, Refusal, put_number};
-use bist_text::put;
+use bist_text::put_number_between;
 use march_core::March;
 use memory_desc::Memory;
 use std::alloc::Global;
@@ -30,27 +30,12 @@ fn answers_right(march: &March, memory: &Memory)
     unplanted_passes(march, memory);
 }
 
-/// The line that tells how many boxes failed.
-fn all_boxes_line(alloc: Global, count: usize, failing: usize) -> Result<Vec<u8>, NoMemory>
-    ensures { IfOk result (λ line. line.items ≡ all_line count failing) }
+/// Appends the line that tells how many boxes failed.
+fn put_failing(line: &mut Vec<u8>, count: usize, failing: usize) -> Result<(), NoMemory>
+    ensures { OnOk result (line.new.items ≡ line.old.items ++ all_line count failing) }
 {
-    let mut line = Vec::new(alloc);
-    put_number(&mut line, b"boxes ", count)?;
-    put_number(&mut line, b" failing ", failing)?;
-    put(&mut line, b"\n")?;
-    Ok(line)
-}
-
-/// The plan of so many runs, of which so many failed.
-fn all_plan(alloc: Global, count: usize, failing: usize) -> Result<Plan, NoMemory>
-    ensures { IfOk result (λ plan. done_of plan ≡ all_done count failing) }
-{
-    let line = all_boxes_line(alloc, count, failing)?;
-    Ok(Plan {
-        found: failing > 0,
-        outputs: Vec::new(alloc),
-        line,
-    })
+    put_number(line, b"boxes ", count)?;
+    put_number_between(line, b" failing ", failing as u64, b"\n")
 }
 
 /// Runs the self-test from registers 0 against a box that is fitted. The answer tells whether it ended with `fail`.
@@ -72,28 +57,19 @@ fn does_fail(
     run_design(design, march, memory, device).fail
 }
 
-/// How many boxes failed, with one more that failed or didn't.
-fn more_failing(failing: usize, failed: bool) -> usize
-    requires { failing < 18446744073709551615 }
-    ensures { result ≡ more_failing failing failed }
-{
-    if failed { failing + 1 } else { failing }
-}
-
 /// Runs the self-test against each box, which is fitted and taken. The answer is beside how many it ended with `fail`. Where a box finds
 /// no memory to be fitted, it and those behind it stay.
 fn bench_boxes(
-    count: usize,
+    alloc: Global,
     design: &mut Design,
-    zeros: &[u64],
     march: &March,
     memory: &Memory,
     devices: &mut Vec<Box<dyn Device>>,
 ) -> Result<usize, NoMemory>
     requires test { SelfTest design.old.tree march.now memory.now }
     requires short { IsShort march.now memory.now }
-    requires zeros { Fit (registers_of design.old.tree) zeros.now }
-    requires count { count ≡ length devices.old.items }
+    requires zero { design.old.registers ≡ map (λ _. 0) (registers_of design.old.tree) }
+    requires some { 0 < length devices.old.items }
     requires rooms { HaveRoom memory.now.words (map (λ b. told b) devices.old.items) }
     ensures none_left { OnOk result (devices.new.items ≡ []) }
     ensures gone { OnErr result (AreGone (map (λ b. told b) devices.old.items) (map (λ b. told b) devices.new.items)) }
@@ -101,11 +77,11 @@ fn bench_boxes(
     ensures counts { IfOk result (λ failing. CountsFailing march.now memory.now (map (λ b. told b) devices.old.items) failing) }
 {
     answers_right(march, memory);
+    let zeros = zeros_for(alloc, design)?;
     let mut failing = 0;
     while !devices.is_empty() {
         let device = take_first(devices, memory, &None)?;
-        let failed = does_fail(design, zeros, march, memory, device);
-        failing = more_failing(failing, failed);
+        failing += usize::from(does_fail(design, &zeros, march, memory, device));
     }
     Ok(failing)
 }
@@ -114,7 +90,30 @@ fn bench_boxes(
 fn zeros_for(alloc: Global, design: &Design) -> Result<Vec<u64>, NoMemory>
     ensures { IfOk result (λ zeros. zeros.items ≡ replicate (length design.now.registers) 0) }
 {
-    Vec::from_elem(alloc, 0, design.register_count()).map_err(|_| NoMemory)
+    match Vec::from_elem(alloc, 0, design.register_count()) {
+        Ok(zeros) => Ok(zeros),
+        Err(_) => Err(NoMemory),
+    }
+}
+
+/// Makes the self-test and runs it against each box, which is fitted and taken. The answer is beside how many it ended with `fail`. Where
+/// memory runs out, some box stays.
+fn failing_boxes(
+    alloc: Global,
+    march: &March,
+    memory: &Memory,
+    devices: &mut Vec<Box<dyn Device>>,
+) -> Result<usize, NoMemory>
+    requires short { IsShort march.now memory.now }
+    requires some { 0 < length devices.old.items }
+    requires rooms { HaveRoom memory.now.words (map (λ b. told b) devices.old.items) }
+    ensures none_left { OnOk result (devices.new.items ≡ []) }
+    ensures gone { OnErr result (AreGone (map (λ b. told b) devices.old.items) (map (λ b. told b) devices.new.items)) }
+    ensures stays { OnErr result (0 < length devices.new.items) }
+    ensures counts { IfOk result (λ failing. CountsFailing march.now memory.now (map (λ b. told b) devices.old.items) failing) }
+{
+    let mut design = self_test_design(alloc, march, memory)?;
+    bench_boxes(alloc, &mut design, march, memory, devices)
 }
 
 /// The plan of the runs of the self-test against each box, which is fitted and taken.
@@ -126,16 +125,20 @@ pub fn bench_all(
     devices: &mut Vec<Box<dyn Device>>,
 ) -> Result<Plan, Refusal>
     requires short { IsShort march.now memory.now }
+    requires some { 0 < length devices.old.items }
     requires rooms { HaveRoom memory.now.words (map (λ b. told b) devices.old.items) }
     ensures own { IfErr result IsOwnRefusal }
     ensures answer { LeavesAll march.now memory.now (map (λ b. told b) devices.old.items) (plain result) }
     ensures left { LeavesNone (map (λ b. told b) devices.old.items) (map (λ b. told b) devices.new.items) (plain result) }
     ensures outputs { IfOk result (λ plan. (done_of plan).outputs ≡ []) }
 {
-    let mut design = self_test_design(alloc, march, memory)?;
-    let zeros = zeros_for(alloc, &design)?;
     let count = devices.len();
-    let failing = bench_boxes(count, &mut design, &zeros, march, memory, devices)?;
-    let plan = all_plan(alloc, count, failing)?;
-    Ok(plan)
+    let failing = failing_boxes(alloc, march, memory, devices)?;
+    let mut line = Vec::new(alloc);
+    put_failing(&mut line, count, failing)?;
+    Ok(Plan {
+        found: failing > 0,
+        outputs: Vec::new(alloc),
+        line,
+    })
 }

@@ -17,7 +17,7 @@ use bist_bits::NoMemory;
 use bist_endings::{Plan, Refusal, VerilogRefusal, numbered, put_number};
 use bist_host::Host;
 use bist_inputs::{Style, read_design_input, read_march_input, read_memory_input};
-use bist_text::put;
+use bist_text::{put, put_number_between};
 use march_core::March;
 use memory_desc::Memory;
 use port_check::{CheckFault, PortAnswer, check_run};
@@ -29,8 +29,7 @@ use verilog_tree::Name;
 fn put_place(line: &mut Vec<u8>, text: &[u8], cycle: u64, port: &Name) -> Result<(), NoMemory>
     ensures { OnOk result (line.new.items ≡ line.old.items ++ text.now ++ at_text cycle port.now.bytes) }
 {
-    put_number(line, text, cycle as usize)?;
-    put(line, b" port ")?;
+    put_number_between(line, text, cycle, b" port ")?;
     put(line, port.as_str().as_bytes())
 }
 
@@ -47,8 +46,7 @@ fn differs_line(
     let mut line = Vec::new(alloc);
     put_place(&mut line, b"differs cycle ", cycle, port)?;
     put_number(&mut line, b" expected ", expected as usize)?;
-    put_number(&mut line, b" got ", got as usize)?;
-    put(&mut line, b"\n")?;
+    put_number_between(&mut line, b" got ", got, b"\n")?;
     Ok(line)
 }
 

@@ -1,11 +1,11 @@
 //! The command `chip`: several memories of one chip, each tested by a march, within a power budget.
 
-ghost use Rattle.std.specs.Prelude.{◌≡◌, ◌<◌, ◌≤◌, ◌↔◌, [], List, IfOk, IfErr, IsTrue, OnOk, length, suc};
+ghost use Rattle.std.specs.Prelude.{◌≡◌, ◌<◌, ◌≤◌, ◌↔◌, ◌∷◌, ℕ, [], List, IfOk, IfErr, IsTrue, OnOk, length, map, suc};
 ghost use Rattle.bist_host.specs.Files.{OnlyReads};
 ghost use Rattle.chip_plan.specs.Groups.{FirstFit, last_group, end_of};
 ghost use Rattle.chip_rtl.specs.ChipTest.{TestUnit, lengths};
 ghost use Rattle.chip_rtl.specs.ChipLaws.{memories, weights};
-ghost use Rattle.bist_endings.specs.Ending.{plain, done_of};
+ghost use Rattle.bist_endings.specs.Ending.{plain, done_of, written_of};
 ghost use Rattle.bist_endings.specs.Conclude.{NamesWords};
 ghost use Rattle.bist_inputs.specs.Inputs.{HasCause, IsOwnRefusal};
 ghost use Rattle.bist_app.specs.Forms.{HasForm};
@@ -16,10 +16,10 @@ ghost use Rattle.bist_app.specs.inner.ChipParts.{IsRead, IsReady, PutsSelfTest, 
 use crate::parts::one_output;
 use crate::units::{UnitTable, no_units, read_units};
 use bist_bits::NoMemory;
-use bist_endings::{ChipRefusal, Plan, Refusal, put_number};
+use bist_endings::{ChipRefusal, Output, Plan, Refusal, put_number};
 use bist_host::Host;
 use bist_inputs::read_chip_input;
-use bist_text::put;
+use bist_text::{put, put_number_between};
 use chip_desc::ChipDesc;
 use chip_plan::{end_of, first_fit, last_group};
 use chip_rtl::end_chip;
@@ -99,19 +99,19 @@ fn self_tests(alloc: Global, table: &UnitTable) -> Result<Vec<u8>, NoMemory>
     Ok(out)
 }
 
-/// The text of a chip: the modules of its units in their order, and the top that tests them in these groups.
-fn chip_text(
+/// The file of a chip: the modules of its units in their order, and the top that tests them in these groups.
+fn chip_file(
     alloc: Global,
     chip: &ChipDesc,
     groups: &[u8],
     table: &UnitTable,
-) -> Result<Vec<u8>, NoMemory>
+) -> Result<Vec<Output>, NoMemory>
     requires { (us : List TestUnit) × IsReady chip.now table.now us × FirstFit chip.now.budget [] (weights us) groups.now }
-    ensures { IfOk result (λ text. MakesFile chip.now table.now groups.now text.items) }
+    ensures { IfOk result (λ outputs. (text : List ℕ) × MakesFile chip.now table.now groups.now text × (map written_of outputs.items ≡ (record { position = 2; bytes = text }) ∷ [])) }
 {
     let mut text = self_tests(alloc, table)?;
     end_chip(&mut text, alloc, chip.name(), groups, &table.memories)?;
-    Ok(text)
+    one_output(alloc, VERILOG, text)
 }
 
 /// The line of a chip.
@@ -122,8 +122,7 @@ fn chip_line(alloc: Global, groups: &[u8], lengths: &[u64]) -> Result<Vec<u8>, N
     let mut line = Vec::new(alloc);
     put_number(&mut line, b"chip units ", groups.len())?;
     put_number(&mut line, b" groups ", last_group(groups) as usize + 1)?;
-    put_number(&mut line, b" done ", end_of(groups, lengths) as usize)?;
-    put(&mut line, b"\n")?;
+    put_number_between(&mut line, b" done ", end_of(groups, lengths), b"\n")?;
     Ok(line)
 }
 
@@ -135,9 +134,8 @@ fn plan_chip(alloc: Global, chip: &ChipDesc, table: &UnitTable) -> Result<Plan, 
     ensures own { IfErr result IsOwnRefusal }
 {
     let groups = first_fit(&table.weights, chip.budget());
-    let text = chip_text(alloc, chip, &groups, table)?;
     let line = chip_line(alloc, &groups, &table.lengths)?;
-    let outputs = one_output(alloc, VERILOG, text)?;
+    let outputs = chip_file(alloc, chip, &groups, table)?;
     Ok(Plan {
         found: false,
         outputs,

@@ -1,5 +1,5 @@
 -- Inner. For proofs and private contracts alone: the boxes that are benched so far.
-use Rattle.std.specs.Prelude.{◌≡◌, ◌+◌, ◌<◌, ◌≤◌, ◌⊎◌, ℕ, Bool, true, false, List, [], ◌∷◌, Option, is_some}
+use Rattle.std.specs.Prelude.{◌≡◌, ◌+◌, ◌<◌, ◌≤◌, ◌⊎◌, ℕ, Bool, List, [], ◌∷◌, Option, is_some}
 use Rattle.march_core.specs.March.{MarchElement}
 use Rattle.memory_desc.specs.Descriptions.{Description}
 use Rattle.word_device.specs.Boxes.{Tells}
@@ -23,11 +23,6 @@ pub record IsEnd (march : List MarchElement) (d : Description) (tells : Tells) (
   pub is_seen : IsSeenOf march d tells seen
   pub read : IsWrongRead march d seen
   pub fail : failed ≡ is_some seen
-
--- how many failed, with one box more that failed or didn't
-abbrev pub more_failing : ℕ → Bool → ℕ
-more_failing failing false = failing
-more_failing failing true = failing + 1
 
 -- so many boxes failed so far, and these are left: with what is seen of them there is what is seen of all
 abbrev pub GoesOn : List MarchElement → Description → Boxes → Boxes → ℕ → Type 0

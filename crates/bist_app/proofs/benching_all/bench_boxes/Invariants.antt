@@ -10,7 +10,7 @@ invariant-loop-devices g l =
     let left = map (λ b. let B = goal.Device-dyn g (b.vtable, b.value) in B.told b.value) l.devices.items in
     record {
       tree : l.design.tree ≡ l.fn.design.tree;
-      bound : l.failing + length l.devices.items ≤ l.count;
+      bound : l.failing + length l.devices.items ≤ length l.fn.devices.items;
       gone : AreGone first left;
       rooms : HaveRoom l.memory.words left;
       goes_on : GoesOn l.march l.memory first left l.failing;

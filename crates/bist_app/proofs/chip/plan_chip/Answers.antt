@@ -10,15 +10,15 @@ first_fit-groups-requires-clause-light c =
 
 pub chip_line-requires : goal.chip_line-requires
 chip_line-requires c =
-    subst (λ gs. CanStart gs c.deref-4.result.now) (sym c.deref-3.ensures.0)
-    (starts c.args.chip.now c.args.table.now c.requires.0 c.budget.result c.deref.result.now c.first_fit-groups.result.items c.deref-4.result.now c.budget.ensures.value c.deref.ensures.0
-    c.deref-4.ensures.0 c.requires.1.has_read c.first_fit-groups.ensures)
+    subst (λ gs. CanStart gs c.deref-3.result.now) (sym c.deref-2.ensures.0)
+    (starts c.args.chip.now c.args.table.now c.requires.0 c.budget.result c.deref.result.now c.first_fit-groups.result.items c.deref-3.result.now c.budget.ensures.value c.deref.ensures.0
+    c.deref-3.ensures.0 c.requires.1.has_read c.first_fit-groups.ensures)
 
 pub returns-clause-answer : goal.returns-clause-answer
 unfolding LeavesChip
 returns-clause-answer c =
-    tests_table c.args.chip.now c.args.table.now c.budget.result c.deref.result.now c.first_fit-groups.result.items c.deref-4.result.now c.in_ok-text.text.items c.in_ok-line.line.items _
-    c.budget.ensures.value c.deref.ensures.0 c.deref-4.ensures.0 c.first_fit-groups.ensures
-    (subst (λ gs. MakesFile c.args.chip.now c.args.table.now gs c.in_ok-text.text.items) c.deref-2.ensures.0 c.in_ok-text.ensures)
-    (subst (λ gs. c.in_ok-line.line.items ≡ chip_line (length gs) (suc (last_group gs)) (end_of gs c.deref-4.result.now)) c.deref-3.ensures.0 c.in_ok-line.ensures)
-    c.in_ok-outputs.ensures
+    tests_table c.args.chip.now c.args.table.now c.budget.result c.deref.result.now c.first_fit-groups.result.items c.deref-3.result.now c.in_ok-outputs.ensures.0 c.in_ok-line.line.items _
+    c.budget.ensures.value c.deref.ensures.0 c.deref-3.ensures.0 c.first_fit-groups.ensures
+    (subst (λ gs. MakesFile c.args.chip.now c.args.table.now gs c.in_ok-outputs.ensures.0) c.deref-4.ensures.0 c.in_ok-outputs.ensures.1)
+    (subst (λ gs. c.in_ok-line.line.items ≡ chip_line (length gs) (suc (last_group gs)) (end_of gs c.deref-3.result.now)) c.deref-2.ensures.0 c.in_ok-line.ensures)
+    c.in_ok-outputs.ensures.2

@@ -1,8 +1,8 @@
-use Rattle.bist_app.proofs.Common.{◌≡◌, ◌≤◌, true, length, sym, subst}
+use Rattle.bist_app.proofs.Common.{◌≡◌, ◌≤◌, true, length, sym, subst, IfOk-weaker}
 use Rattle.verilog_tree.specs.Words.{is_name}
 use Rattle.chip_rtl.specs.ChipFile.{IsPlanOf}
 use Rattle.bist_app.proofs.ChipTexts.{legal_name, plan_of, makes_file}
-use Rattle.bist_app.proofs.chip.chip_text.Goals as goal
+use Rattle.bist_app.proofs.chip.chip_file.Goals as goal
 
 pub end_chip-requires-clause-named : goal.end_chip-requires-clause-named
 end_chip-requires-clause-named c = subst (λ n. is_name n ≡ true) (sym c.name.ensures.value) (legal_name c.args.chip.now.name c.name.ensures.chip.name)
@@ -17,5 +17,11 @@ end_chip-requires-clause-planned c =
 
 pub returns : goal.returns
 returns c =
-    makes_file c.args.chip.now c.args.table.now c.args.groups.now c.in_ok-text.text.items c.end_chip.new.out.items c.name.result.now c.deref.result.now
-    c.name.ensures.value c.deref.ensures.value c.in_ok-text.ensures c.in_ok-end_chip.ensures.ok
+    IfOk-weaker c.one_output.result _ _
+    (λ outputs e. (
+      c.end_chip.new.out.items,
+      makes_file c.args.chip.now c.args.table.now c.args.groups.now c.in_ok-text.text.items c.end_chip.new.out.items c.name.result.now c.deref.result.now
+          c.name.ensures.value c.deref.ensures.value c.in_ok-text.ensures c.in_ok-end_chip.ensures.ok,
+      e,
+    ))
+    c.one_output.ensures
