@@ -19,10 +19,10 @@ ghost use Rattle.bist_app.specs.Forms.{HasForm};
 use crate::benching::test_beside;
 use crate::boxes::{fit_room, want_box};
 use crate::shared::fit_length;
-use crate::sim::{fit_aggressor, give_word};
+use crate::sim::fit_aggressor;
 use bist_endings::{DeviceRefusal, Plan, Refusal, number_of};
 use bist_host::Host;
-use bist_inputs::{read_march_input, read_memory_input};
+use bist_inputs::{give_prim, read_march_input, read_memory_input};
 use fault_core::Prim;
 use march_core::March;
 use memory_desc::Memory;
@@ -187,7 +187,7 @@ fn run_fault<H: Host>(
 {
     let march = read_march_input(host, words, 1)?;
     let memory = read_memory_input(host, words, 2)?;
-    let prim = give_word(words, 3)?;
+    let prim = give_prim(words[3].as_bytes())?;
     test_fault(alloc, &march, &memory, &prim, shape, devices)
 }
 

@@ -3,9 +3,6 @@
 ghost use Rattle.std.specs.Prelude.{◌≡◌, ◌≤◌, Ok, IfOk, IfErr, map, length};
 ghost use Rattle.march_core.specs.March.{all_ops};
 ghost use Rattle.word_march.specs.Commands.{command_count};
-ghost use Rattle.memory_desc.specs.Descriptions.{IsMemory};
-ghost use Rattle.memory_desc.specs.Printed.{printed};
-ghost use Rattle.memory_desc.specs.Table.{Reads as ReadsMemory};
 ghost use Rattle.dynamic_core.specs.Items.{ReadsItems};
 ghost use Rattle.bist_endings.specs.Ending.{plain, done_of, written_of};
 ghost use Rattle.bist_endings.specs.Conclude.{NamesWords};
@@ -39,16 +36,6 @@ fn own_words(words: &[&str]) -> Result<u16, Refusal>
         Some(number) if number <= MOST => Ok(number as u16),
         _ => Err(Refusal::Usage),
     }
-}
-
-/// The memory's text.
-fn memory_text(alloc: Global, memory: &Memory) -> Result<Vec<u8>, NoMemory>
-    ensures form { IfOk result (λ text. text.items ≡ printed memory.now) }
-    ensures read_back { IfOk result (λ text. ReadsMemory text.items (Ok memory.now)) }
-    ensures memory { IfOk result (λ text. IsMemory memory.now) }
-{
-    let _ = memory.words();
-    print_memory(alloc, memory)
 }
 
 /// The summary.
@@ -119,7 +106,8 @@ fn made_of(
     ensures { IfOk result (λ plan. IsMadeOf march.now memory.now items.now listed.items (done_of plan)) }
 {
     let march_bytes = march_text(alloc, march)?;
-    let memory_bytes = memory_text(alloc, memory)?;
+    let _ = memory.words();
+    let memory_bytes = print_memory(alloc, memory)?;
     let verilog = module_text(alloc, march, memory)?;
     let reported = report_list(alloc, march, Some(memory), items)?;
     let line = summary(alloc, march, memory, reported.covered, items.len())?;

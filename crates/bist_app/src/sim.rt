@@ -5,7 +5,7 @@ ghost use Rattle.fault_core.specs.Primitive.{has_aggressor};
 ghost use Rattle.fault_core.specs.Cells.{FitsPlace};
 ghost use Rattle.bist_app.specs.declared.sim.SimShape.{SimShape};
 ghost use Rattle.bist_endings.specs.Ending.{plain, done_of};
-ghost use Rattle.bist_inputs.specs.Inputs.{GivesPrim, HasCause, IsOwnRefusal};
+ghost use Rattle.bist_inputs.specs.Inputs.{HasCause, IsOwnRefusal};
 ghost use Rattle.bist_endings.specs.Conclude.{NamesWords};
 ghost use Rattle.bist_endings.specs.Words.{word};
 ghost use Rattle.bist_app.specs.Shared.{FitsAggressor};
@@ -113,15 +113,6 @@ fn line_of(alloc: Global, miss: Option<Miss>) -> Result<Vec<u8>, NoMemory>
     Ok(line)
 }
 
-/// The primitive of a word.
-pub fn give_word(words: &[&str], position: usize) -> Result<Prim, Refusal>
-    requires { position < length words.now }
-    ensures answer { GivesPrim (word words.now position) result }
-    ensures own { IfErr result IsOwnRefusal }
-{
-    give_prim(words[position].as_bytes())
-}
-
 /// Refuses an aggressor for a primitive of one cell, and none for one of two cells.
 pub fn fit_aggressor(given: bool, prim: &Prim) -> Result<(), Refusal>
     ensures answer { FitsAggressor given prim.now result }
@@ -217,7 +208,7 @@ fn run_sim<H: Host>(
     ensures cause { HasCause (H.state host.old) (H.state host.new) result }
 {
     let march = read_march_input(host, words, 1)?;
-    let prim = give_word(words, 2)?;
+    let prim = give_prim(words[2].as_bytes())?;
     fit_aggressor(shape.aggressor.is_some(), &prim)?;
     fit_directions(words[7].as_bytes(), &march)?;
     let places = places_for(shape, words, &prim);
