@@ -1,6 +1,6 @@
 //! The command `chip`: several memories of one chip, each tested by a march, within a power budget.
 
-ghost use Rattle.std.specs.Prelude.{◌≡◌, ◌<◌, ◌≤◌, ◌↔◌, ◌∷◌, ℕ, [], List, IfOk, IfErr, IsTrue, OnOk, length, map, suc};
+ghost use Rattle.std.specs.Prelude.{◌≡◌, ◌<◌, ◌≤◌, ◌↔◌, ◌++◌, ◌∷◌, ℕ, [], List, IfOk, IfErr, IsTrue, OnOk, length, map, suc};
 ghost use Rattle.bist_host.specs.Files.{OnlyReads};
 ghost use Rattle.chip_plan.specs.Groups.{FirstFit, last_group, end_of};
 ghost use Rattle.chip_rtl.specs.ChipTest.{TestUnit, lengths};
@@ -114,16 +114,14 @@ fn chip_file(
     one_output(alloc, VERILOG, text)
 }
 
-/// The line of a chip.
-fn chip_line(alloc: Global, groups: &[u8], lengths: &[u64]) -> Result<Vec<u8>, NoMemory>
+/// Appends the line of a chip.
+fn put_chip_line(line: &mut Vec<u8>, groups: &[u8], lengths: &[u64]) -> Result<(), NoMemory>
     requires { CanStart groups.now lengths.now }
-    ensures { IfOk result (λ line. line.items ≡ chip_line (length groups.now) (suc (last_group groups.now)) (end_of groups.now lengths.now)) }
+    ensures { OnOk result (line.new.items ≡ line.old.items ++ chip_line (length groups.now) (suc (last_group groups.now)) (end_of groups.now lengths.now)) }
 {
-    let mut line = Vec::new(alloc);
-    put_number(&mut line, b"chip units ", groups.len())?;
-    put_number(&mut line, b" groups ", last_group(groups) as usize + 1)?;
-    put_number_between(&mut line, b" done ", end_of(groups, lengths), b"\n")?;
-    Ok(line)
+    put_number(line, b"chip units ", groups.len())?;
+    put_number(line, b" groups ", last_group(groups) as usize + 1)?;
+    put_number_between(line, b" done ", end_of(groups, lengths), b"\n")
 }
 
 /// The file and the line of a chip.
@@ -134,7 +132,8 @@ fn plan_chip(alloc: Global, chip: &ChipDesc, table: &UnitTable) -> Result<Plan, 
     ensures own { IfErr result IsOwnRefusal }
 {
     let groups = first_fit(&table.weights, chip.budget());
-    let line = chip_line(alloc, &groups, &table.lengths)?;
+    let mut line = Vec::new(alloc);
+    put_chip_line(&mut line, &groups, &table.lengths)?;
     let outputs = chip_file(alloc, chip, &groups, table)?;
     Ok(Plan {
         found: false,
