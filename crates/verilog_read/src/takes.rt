@@ -197,7 +197,7 @@ fn takes_longer(place: &Place, outer: &Outer, mark: Mark) -> bool
     }
 }
 
-/// Whether a number, told likewise, or a literal may come.
+/// Whether a number may come, told by the same two, or a literal.
 pub(crate) fn takes_digits(place: &Place, outer: &Outer, long: bool, value: u8) -> bool
     ensures { result ≡ (taken (state_of place.now outer.now) (Number long value) || takes_literals (state_of place.now outer.now)) }
 {
