@@ -5,7 +5,7 @@ ghost use Rattle.verilog_text.specs.Steps.{declared, takes_name, range_step, nam
 ghost use Rattle.verilog_read.specs.inner.Holding.{token_of};
 ghost use Rattle.verilog_read.specs.inner.Frames.{head_of};
 ghost use Rattle.verilog_read.specs.inner.Spots.{use_of, item_spot, state_of};
-ghost use Rattle.verilog_read.specs.inner.Answers.{Goes, a_name, bytes_of, is_zero_number};
+ghost use Rattle.verilog_read.specs.inner.Answers.{Goes, a_name, bytes_of};
 
 use crate::expressions::step_expr;
 use crate::fault::ParseFault;
@@ -30,15 +30,6 @@ fn name_in(token: &Lexeme) -> Option<Name>
             }
         }
         _ => None,
-    }
-}
-
-fn is_zero(token: &Lexeme) -> bool
-    ensures { result ≡ is_zero_number (token_of token.now) }
-{
-    match token {
-        Lexeme::Number(long, n) => !*long && n.value == 0,
-        _ => false,
     }
 }
 
@@ -148,7 +139,10 @@ pub(crate) fn step_item(
         ItemSpot::WantColon(what, high) if is_mark(Mark::Colon, token) => {
             ItemSpot::WantZero(*what, *high)
         }
-        ItemSpot::WantZero(what, high) if is_zero(token) => ItemSpot::WantBracket(*what, *high),
+        ItemSpot::WantZero(what, high) => match token {
+            Lexeme::Number(false, n) if n.value == 0 => ItemSpot::WantBracket(*what, *high),
+            _ => return Err(ParseFault::Unexpected),
+        },
         ItemSpot::WantBracket(what, high) if is_mark(Mark::CloseBracket, token) => {
             ItemSpot::WantName(*what, high.value + 1)
         }

@@ -1,9 +1,9 @@
 //! The lexer: what a byte does where it stands.
 ghost use Rattle.std.specs.Prelude.{◌≡◌, ◌+◌, ◌*◌, ◌∷◌, [], ◌++◌, true, Some, None, ◌≤◌, ◌<◌, ◌↔◌, length, IsOk, IfOk, IfErr};
-ghost use Rattle.verilog_tree.specs.Tokens.{is_space, is_query, mark_of, lengthened, spoils};
+ghost use Rattle.verilog_tree.specs.Tokens.{is_space, mark_of, lengthened, spoils};
 ghost use Rattle.bist_text.specs.Identifiers.{is_digit};
 ghost use Rattle.verilog_tree.specs.Words.{digit_value, radix, is_digit_of};
-ghost use Rattle.verilog_text.specs.Lexing.{begin, lex, last, InGap, InWord, InNumber, Quoted, InDigits, Marked};
+ghost use Rattle.verilog_text.specs.Lexing.{begin, lex, last, InGap, InWord, InNumber, InDigits, Marked};
 ghost use Rattle.verilog_read.specs.inner.Lexemes.{lexer_of, tokens_of, behind, ends_of, Scans};
 
 use crate::lexemes::{Lexeme, SmallNumber};
@@ -86,15 +86,6 @@ fn radix(base: Base) -> u8
         Base::Octal => 8,
         Base::Decimal => 10,
         Base::Hexadecimal => 16,
-    }
-}
-
-fn is_query(base: Base, c: u8) -> bool
-    ensures { result ≡ is_query base c }
-{
-    match base {
-        Base::Decimal => false,
-        _ => c == b'?',
     }
 }
 
@@ -272,25 +263,11 @@ fn lex_digits(base: Base, bits: Bits, c: u8) -> Result<Read, LexFault>
         pushed(base, bits.width(), bits.value(), c)
     } else if c == b'_' {
         Ok(silent(Scanner::InDigits(base, bits)))
-    } else if is_query(base, c) {
+    } else if c == b'?' && !matches!(base, Base::Decimal) {
         Ok(silent(Scanner::Whole(Lexeme::Unused)))
     } else {
         begin(Some(Lexeme::Constant(bits)), c)
     }
-}
-
-/// Behind the `'` of a literal.
-fn lex_base(size: Bits, c: u8) -> Result<Read, LexFault>
-    ensures { Scans 63 64 (lex (Quoted size.width) c) result }
-{
-    let base = match c {
-        b'b' | b'B' => Base::Binary,
-        b'o' | b'O' => Base::Octal,
-        b'd' | b'D' => Base::Decimal,
-        b'h' | b'H' => Base::Hexadecimal,
-        _ => return Err(LexFault::Unexpected),
-    };
-    Ok(silent(Scanner::Lettered(size, base)))
 }
 
 fn lex_mark(mark: Mark, c: u8) -> Result<Read, LexFault>
@@ -314,7 +291,16 @@ pub(crate) fn lex(lexer: Scanner, c: u8, most: u8) -> Result<Read, LexFault>
         Scanner::InGap(within) => lex_gap(within, c),
         Scanner::InWord(name) => lex_word(name, c),
         Scanner::InNumber(long, n) => lex_number(long, n, c, most),
-        Scanner::Quoted(size) => lex_base(size, c),
+        Scanner::Quoted(size) => {
+            let base = match c {
+                b'b' | b'B' => Base::Binary,
+                b'o' | b'O' => Base::Octal,
+                b'd' | b'D' => Base::Decimal,
+                b'h' | b'H' => Base::Hexadecimal,
+                _ => return Err(LexFault::Unexpected),
+            };
+            Ok(silent(Scanner::Lettered(size, base)))
+        }
         Scanner::Lettered(size, base) => {
             if is_digit_of(base, c) {
                 pushed(base, size.width(), 0, c)

@@ -1,6 +1,6 @@
 //! Operands and what joins them, operators, parentheses, braces and choices: what a token does where an operand is wanted,
 //! and behind one.
-ghost use Rattle.std.specs.Prelude.{◌≡◌, ◌<◌, if◌then◌else◌, length, Some, IfSome, IfOk, IfErr, [], map};
+ghost use Rattle.std.specs.Prelude.{◌≡◌, if◌then◌else◌, Some, IfOk, IfErr, [], map};
 ghost use Rattle.verilog_tree.specs.Plain.{plain, expressions, Followed, NoMore};
 ghost use Rattle.verilog_tree.specs.Free.{signed};
 ghost use Rattle.verilog_text.specs.Flat.{one_more, in_parens, in_braces, behind, linked};
@@ -9,7 +9,7 @@ ghost use Rattle.verilog_tree.specs.Grammar.{deeper};
 ghost use Rattle.verilog_text.specs.Places.{InList, AtExpr, WantOperand, Linked, more_parts};
 ghost use Rattle.verilog_text.specs.Steps.{in_room, prim_step, operand_step, close_step, have_step};
 ghost use Rattle.verilog_read.specs.inner.Waiting.{lefts_of};
-ghost use Rattle.verilog_read.specs.inner.Holding.{token_of, nest, nests_of, is_expected, PoppedNest};
+ghost use Rattle.verilog_read.specs.inner.Holding.{token_of, nest, nests_of, is_expected};
 ghost use Rattle.verilog_read.specs.inner.Frames.{alone_of};
 ghost use Rattle.verilog_read.specs.inner.Answers.{Goes};
 ghost use Rattle.verilog_read.specs.declared.places.Outer.{Outer};
@@ -130,15 +130,6 @@ fn with_part(parts: Vec<Expr>, x: Expr) -> Result<Vec<Expr>, ParseFault>
     let mut parts = parts;
     parts.push(x)?;
     Ok(parts)
-}
-
-#[tactic(auto, using(crate::proofs::HoldingLemmas::nests_push))]
-fn pop(outer: &mut Outer) -> Option<Nest>
-    ensures popped { PoppedNest (alone_of outer.old) (nests_of outer.old.nests.items (alone_of outer.old)) result (nests_of outer.new.nests.items (alone_of outer.new)) }
-    ensures same { alone_of outer.new ≡ alone_of outer.old }
-    ensures fewer { IfSome result (λ n. length outer.new.nests.items < length outer.old.nests.items) }
-{
-    outer.nests.pop()
 }
 
 /// An expression begins within another.
@@ -263,7 +254,7 @@ fn in_list(
 }
 
 /// What a token does behind a whole expression: each choice whose last part it was ends with it.
-#[tactic(auto, using(crate::proofs::HoldingLemmas::expects_is))]
+#[tactic(auto, using(crate::proofs::HoldingLemmas::expects_is, crate::proofs::HoldingLemmas::nests_push))]
 fn close(
     alloc: Global,
     outer: &mut Outer,
@@ -275,7 +266,7 @@ fn close(
     ensures { Goes (close_step depth count (plain x) (nests_of outer.old.nests.items (alone_of outer.old)) (token_of token.now)) result outer.new }
 {
     let mut last = x;
-    while let Some(around) = pop(outer) {
+    while let Some(around) = outer.nests.pop() {
         match around {
             Nest::IfFalse(c, yes) => last = choose(alloc, c, yes, last)?,
             Nest::List(above, parts, chain) => {

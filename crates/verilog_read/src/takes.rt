@@ -3,7 +3,7 @@ ghost use Rattle.std.specs.Prelude.{◌≡◌, ◌||◌, ℕ, false};
 ghost use Rattle.verilog_tree.specs.Plain.{Expression};
 ghost use Rattle.verilog_tree.specs.Tokens.{Number, Sign};
 ghost use Rattle.verilog_text.specs.Places as Q;
-ghost use Rattle.verilog_read.specs.inner.Ends.{ends_choice, closes, goes_on, may, opens};
+ghost use Rattle.verilog_read.specs.inner.Ends.{ends_choice, closes, goes_on, may};
 ghost use Rattle.verilog_read.specs.inner.Holding.{token_of, nest, standing, nests_of};
 ghost use Rattle.verilog_read.specs.declared.precedence.Chain.{Chain};
 ghost use Rattle.verilog_text.specs.Expected.{is_step, taken, takes_literals, live, longer_marks, some_taken};
@@ -87,21 +87,13 @@ fn operand_takes(count: Count, outer: &Outer, mark: Mark) -> bool
     }
 }
 
-/// Whether an operand may begin with a mark.
-fn opens(mark: Mark) -> bool
-    ensures { result ≡ opens mark }
-{
-    matches!(mark, Mark::Open | Mark::OpenBrace)
-}
-
 #[tactic(auto, using(crate::proofs::Ends::named_takes, crate::proofs::Ends::linked_takes, crate::proofs::Ends::operand_is, crate::proofs::Ends::prim_is))]
 fn expr_takes(place: &ExprSpot, count: Count, outer: &Outer, mark: Mark) -> bool
     ensures { (c : Chain) → c.count ≡ count → result ≡ taken (AtExpr (standing place.now c (nests_of outer.now.nests.items (alone_of outer.now)))) (Sign mark) }
 {
     match place {
         ExprSpot::Operand(_) if unary_of(mark).is_some() => may_link(count),
-        ExprSpot::Operand(_) => opens(mark),
-        ExprSpot::Prim(_) => opens(mark),
+        ExprSpot::Operand(_) | ExprSpot::Prim(_) => matches!(mark, Mark::Open | Mark::OpenBrace),
         ExprSpot::Named(_, _) => matches!(mark, Mark::OpenBracket)
             || operand_takes(count, outer, mark),
         ExprSpot::Bracket(_, _) | ExprSpot::ColonRead(_, _, _) => false,
@@ -205,7 +197,7 @@ fn takes_longer(place: &Place, outer: &Outer, mark: Mark) -> bool
     }
 }
 
-/// Whether a number, told likewise, or a literal may come.
+/// Whether a number may come, told by the same two, or a literal.
 pub(crate) fn takes_digits(place: &Place, outer: &Outer, long: bool, value: u8) -> bool
     ensures { result ≡ (taken (state_of place.now outer.now) (Number long value) || takes_literals (state_of place.now outer.now)) }
 {

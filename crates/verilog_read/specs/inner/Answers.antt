@@ -1,9 +1,9 @@
 -- Inner. What the code answers to a token, by what the step is.
 use Rattle.std.specs.Prelude.{true, if◌then◌else◌, ◌≡◌, Bool, false, ℕ, ⊤, List, Option, Some, None, Result, Ok, Err}
 use Rattle.bist_text.specs.ReservedWords.{is_among, reserved_words}
-use Rattle.verilog_tree.specs.Grammar.{Limit, Style, deeper, is_zero}
+use Rattle.verilog_tree.specs.Grammar.{Limit, Style, deeper}
 use Rattle.verilog_read.specs.inner.Holding.{is_expected}
-use Rattle.verilog_tree.specs.Tokens.{Token, Identifier, Number}
+use Rattle.verilog_tree.specs.Tokens.{Token, Identifier}
 use Rattle.verilog_tree.specs.declared.tokens.Mark.TheVariants.{Open}
 use Rattle.arrayvec.specs.ArrayString.{ArrayString}
 use Rattle.verilog_read.specs.inner.Frames.{holder}
@@ -47,8 +47,3 @@ bytes_of (Some n) = Some n.bytes
 abbrev pub found : Option (List ℕ) → (List ℕ → State) → Option State
 found None f = None
 found (Some n) f = Some (f n)
-
--- the number "0"
-abbrev pub is_zero_number : Token → Bool
-is_zero_number (Number l i) = is_zero l i
-is_zero_number _ = false

@@ -1,5 +1,5 @@
 -- Inner. For proofs and private contracts alone: what the code holds of an expression by precedence.
-use Rattle.std.specs.Prelude.{◌≡◌, Bool, false, List, [], ◌∷◌, map, Option, Some, None}
+use Rattle.std.specs.Prelude.{Bool, false, List, [], ◌∷◌, map}
 use Rattle.verilog_tree.specs.Plain as P
 use Rattle.verilog_tree.specs.Tokens.{Token, Identifier, Number, Based, Unused, Sign}
 use Rattle.verilog_text.specs.Places as Q
@@ -45,11 +45,6 @@ standing (S.HighRead r n h) c o = HighRead r n.bytes h (Linked c.count (lefts_of
 standing (S.ColonRead r n h) c o = ColonRead r n.bytes h (Linked c.count (lefts_of c.lefts.items) c.mark o)
 standing (S.LowRead r n h l) c o = LowRead r n.bytes h l (Linked c.count (lefts_of c.lefts.items) c.mark o)
 standing (S.Have r e) c o = Have r (P.plain e) (Linked c.count (lefts_of c.lefts.items) c.mark o)
-
--- what was the innermost, or there was none
-abbrev pub PoppedNest : Alone → Q.Nest → Option Nest → Q.Nest → Type 0
-PoppedNest b old None new = old ≡ Only b
-PoppedNest b old (Some n) new = old ≡ nest n new
 
 -- a token is this mark
 abbrev pub is_expected : Mark → Token → Bool
