@@ -7,10 +7,10 @@ ghost use Rattle.rtl_layout.specs.inner.Layout as LInner;
 ghost use Rattle.rtl_layout.specs.Seen.{seen};
 
 use crate::element::Element;
-use crate::flags::ElementFlag;
+use crate::flags::MarchFlag;
 use crate::parts::set;
 use crate::plan::Plan;
-use crate::tables::{by_element, by_next, has_several_bits, in_row, of_element};
+use crate::tables::{at_number, by_element, by_next, has_several_bits, in_row};
 use crate::trees::{after_reset, counting, while_all};
 use std::alloc::{AllocError, Global};
 use verilog_tree::build::{binary, choose, flag, literal, name, net};
@@ -99,7 +99,7 @@ fn last_oper_next(alloc: Global, plan: &Plan) -> Result<Expr, AllocError>
     turning(
         alloc,
         name("last_oper"),
-        of_element(&plan.elements[0], ElementFlag::Single),
+        at_number(&plan.elements[0], 0, MarchFlag::Single),
         net(name("ends_next")),
         net(name("ends_again")),
         net(name("ends_more")),
@@ -110,10 +110,10 @@ fn last_oper_next(alloc: Global, plan: &Plan) -> Result<Expr, AllocError>
 fn one_next(alloc: Global, plan: &Plan) -> Result<Expr, AllocError>
     ensures { IfOk result (λ x. plain x ≡ L.one_next (seen plan.now)) }
 {
-    let next = by_next(alloc, plan, ElementFlag::BeginsOne)?;
-    let again = by_element(alloc, plan, ElementFlag::BeginsOne)?;
+    let next = by_next(alloc, plan, MarchFlag::One)?;
+    let again = by_element(alloc, plan, MarchFlag::One)?;
     let more = in_row(alloc, plan, name("ones"))?;
-    let first = of_element(&plan.elements[0], ElementFlag::BeginsOne);
+    let first = at_number(&plan.elements[0], 0, MarchFlag::One);
     turning(alloc, name("one"), first, next, again, more)
 }
 

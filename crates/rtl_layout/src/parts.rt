@@ -1,9 +1,10 @@
 //! Items and statements of the module, added under their names.
-ghost use Rattle.std.specs.Prelude.{◌≡◌, ◌≤◌, IfOk, IsTrue, OnOk, length, map, ◌++◌, ◌∷◌, []};
-ghost use Rattle.verilog_tree.specs.Plain.{Expression, plain, plain_item, plain_stmt, AssignItem, SetTo, WireItem};
+ghost use Rattle.std.specs.Prelude.{◌≡◌, ◌≤◌, IfOk, IsTrue, List, OnOk, length, map, ◌++◌, ◌∷◌, []};
+ghost use Rattle.verilog_tree.specs.Plain.{Expression, plain, plain_item, plain_stmt, ModuleItem, AssignItem, SetTo, WireItem};
 ghost use Rattle.rtl_layout.specs.inner.Layout.{are_names};
+ghost use Rattle.rtl_layout.specs.inner.Rows.{AreRows};
 
-use std::alloc::AllocError;
+use std::alloc::{AllocError, Global};
 use verilog_tree::build::{assign, name, wire};
 use verilog_tree::{Expr, Item, Name, Stmt};
 
@@ -31,6 +32,20 @@ pub fn assign_built(
     ensures { OnOk result ((value : Expression) → IfOk built (λ x. plain x ≡ value) → map plain_item items.new.items ≡ map plain_item items.old.items ++ AssignItem target.now value ∷ []) }
 {
     assign(items, name(target), built?)
+}
+
+/// One assignment more of each row, of what was built for it.
+pub fn assign_all<const N: usize>(
+    items: &mut Vec<Item>,
+    alloc: Global,
+    rows: [(Name, Result<Expr, AllocError>); N],
+) -> Result<(), AllocError>
+    ensures { (wanted : List ModuleItem) → AreRows AssignItem rows.entry wanted → OnOk result (map plain_item items.new.items ≡ map plain_item items.old.items ++ wanted) }
+{
+    for (target, built) in Vec::from_array(alloc, rows)? {
+        assign(items, target, built?)?;
+    }
+    Ok(())
 }
 
 /// One register's next value more, of what was built for it.
