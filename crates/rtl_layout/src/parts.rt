@@ -1,37 +1,39 @@
 //! Items and statements of the module, added under their names.
 ghost use Rattle.std.specs.Prelude.{◌≡◌, ◌≤◌, IfOk, IsTrue, List, OnOk, length, map, ◌++◌, ◌∷◌, []};
-ghost use Rattle.verilog_tree.specs.Plain.{Expression, plain, plain_item, plain_stmt, ModuleItem, AssignItem, SetTo, WireItem};
+ghost use Rattle.verilog_tree.specs.Plain.{Expression, plain, plain_item, plain_stmt, ModuleItem, AssignItem, RegItem, SetTo, WireItem};
 ghost use Rattle.rtl_layout.specs.inner.Layout.{are_names};
 ghost use Rattle.rtl_layout.specs.inner.Rows.{AreRows};
 
 use std::alloc::{AllocError, Global};
-use verilog_tree::build::{assign, name, wire};
+use verilog_tree::build::{assign, name, register, wire};
 use verilog_tree::{Expr, Item, Name, Stmt};
 
-/// Wires of `width` bits, one of each name.
-pub fn wires(items: &mut Vec<Item>, names: &[&str], width: u8) -> Result<(), AllocError>
-    requires { IsTrue (are_names names.now) }
-    ensures { OnOk result (map plain_item items.new.items ≡ map plain_item items.old.items ++ map (λ n. WireItem n.now width) names.now) }
+/// Wires, each of a name and a width.
+pub fn wires(items: &mut Vec<Item>, rows: &[(&str, u8)]) -> Result<(), AllocError>
+    requires { IsTrue (are_names rows.now) }
+    ensures { OnOk result (map plain_item items.new.items ≡ map plain_item items.old.items ++ map (λ r. WireItem r.0.now r.1) rows.now) }
 {
-    match names {
+    match rows {
         [] => Ok(()),
-        [first, rest @ ..] => {
-            wire(items, name(first), width)?;
-            wires(items, rest, width)
+        [(text, width), rest @ ..] => {
+            wire(items, name(text), *width)?;
+            wires(items, rest)
         }
     }
 }
 
-/// One assignment more, of what was built for it.
-pub fn assign_built(
-    items: &mut Vec<Item>,
-    target: &str,
-    built: Result<Expr, AllocError>,
-) -> Result<(), AllocError>
-    requires { length target.now ≤ 64 }
-    ensures { OnOk result ((value : Expression) → IfOk built (λ x. plain x ≡ value) → map plain_item items.new.items ≡ map plain_item items.old.items ++ AssignItem target.now value ∷ []) }
+/// Registers, each of a name and a width.
+pub fn registers(items: &mut Vec<Item>, rows: &[(&str, u8)]) -> Result<(), AllocError>
+    requires { IsTrue (are_names rows.now) }
+    ensures { OnOk result (map plain_item items.new.items ≡ map plain_item items.old.items ++ map (λ r. RegItem r.0.now r.1) rows.now) }
 {
-    assign(items, name(target), built?)
+    match rows {
+        [] => Ok(()),
+        [(text, width), rest @ ..] => {
+            register(items, name(text), *width)?;
+            registers(items, rest)
+        }
+    }
 }
 
 /// One assignment more of each row, of what was built for it.

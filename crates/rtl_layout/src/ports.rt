@@ -6,12 +6,12 @@ ghost use Rattle.rtl_layout.specs.Seen.{seen};
 ghost use Rattle.rtl_layout.specs.Shows.{no_row};
 
 use crate::ages::aged;
-use crate::parts::assign_built;
+use crate::parts::assign_all;
 use crate::plan::Plan;
 use crate::row::Row;
 use crate::trees::gate;
 use std::alloc::{AllocError, Global};
-use verilog_tree::build::{assign, binary, concat, flag, literal, name, net, port, unary};
+use verilog_tree::build::{binary, concat, flag, literal, name, net, port, unary};
 use verilog_tree::{BinOp, Dir, Expr, Item, Port, UnOp};
 
 /// The ports in their order.
@@ -29,7 +29,7 @@ pub fn ports(alloc: Global, plan: &Plan) -> Result<Vec<Port>, AllocError>
         port(Dir::Output, "done", 1),
         port(Dir::Output, "fail", 1),
     ];
-    Vec::from_array(alloc, ports).map_err(|_| AllocError)
+    Ok(Vec::from_array(alloc, ports)?)
 }
 
 // A bit of the address.
@@ -79,13 +79,13 @@ fn address(alloc: Global, plan: &Plan) -> Result<Expr, AllocError>
 pub fn assign_ports(items: &mut Vec<Item>, alloc: Global, plan: &Plan) -> Result<(), AllocError>
     ensures { OnOk result (map plain_item items.new.items ≡ map plain_item items.old.items ++ L.port_assigns (seen plan.now)) }
 {
-    let en = gate(alloc, net(name("live")));
-    assign_built(items, "en", en)?;
-    assign(items, name("we"), net(name("write")))?;
-    assign_built(items, "addr", address(alloc, plan))?;
-    assign(items, name("wdata"), net(name("word")))?;
-    let done = gate(alloc, net(aged("over", plan.delay + 1)));
-    assign_built(items, "done", done)?;
-    let fail = gate(alloc, net(name("bad")));
-    assign_built(items, "fail", fail)
+    let rows = [
+        (name("en"), gate(alloc, net(name("live")))),
+        (name("we"), Ok(net(name("write")))),
+        (name("addr"), address(alloc, plan)),
+        (name("wdata"), Ok(net(name("word")))),
+        (name("done"), gate(alloc, net(aged("over", plan.delay + 1)))),
+        (name("fail"), gate(alloc, net(name("bad")))),
+    ];
+    assign_all(items, alloc, rows)
 }

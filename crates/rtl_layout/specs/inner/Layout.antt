@@ -5,10 +5,10 @@ use Rattle.verilog_tree.specs.Plain.{Net, Statement, SetTo, ModuleItem, RegItem}
 use Rattle.rtl_layout.specs.Plan.{Plan, several, several_bits}
 use Rattle.rtl_layout.specs.Layout.{oper, visit, element, oper_next, visit_next, element_next, back_next, last_oper, last_visit, last_oper_next, last_visit_next, back, value, aged, reads_at, over_at, value_at, gated, digit_regs, maybe, one_reg, stage_regs, end_regs, feed_reads, feed_over, back_set, one_set, next_assigns, last_assigns}
 
--- whether each text fits a name
-abbrev pub are_names : List (Bor (List ℕ)) → Bool
+-- whether the text of each row fits a name
+abbrev pub are_names : List (Bor (List ℕ) × ℕ) → Bool
 are_names [] = true
-are_names (text ∷ texts) = cond (nat_le (length text.now) 64) (are_names texts) false
+are_names (row ∷ rows) = cond (nat_le (length row.0.now) 64) (are_names rows) false
 
 -- ---- registers
 
