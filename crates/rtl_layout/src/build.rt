@@ -9,7 +9,7 @@ ghost use Rattle.rtl_layout.specs.Seen.{seen};
 use crate::ages::{aged, back_at, declare_ages, set_ages, value_at};
 use crate::assigns::assign_wires;
 use crate::digits::set_digits;
-use crate::parts::{registers, set, wires};
+use crate::parts::{registers, set_all, wires};
 use crate::plan::Plan;
 use crate::ports::{assign_ports, ports};
 use crate::tables::{has_several_bits, pattern, row_width, word_of};
@@ -105,21 +105,24 @@ fn bad_next(alloc: Global, delay: u8) -> Result<Expr, AllocError>
 }
 
 // What all registers take.
-fn set_all(block: &mut Vec<Stmt>, alloc: Global, plan: &Plan) -> Result<(), AllocError>
+fn set_registers(block: &mut Vec<Stmt>, alloc: Global, plan: &Plan) -> Result<(), AllocError>
     ensures { OnOk result (map plain_stmt block.new.items ≡ map plain_stmt block.old.items ++ L.sets_all (seen plan.now)) }
 {
     set_digits(block, alloc, plan)?;
     let many = is_several(plan);
     set_ages(block, alloc, many, plan.back_width, plan.delay)?;
-    set(block, name("want"), want_next(alloc, plan))?;
-    set(block, name("bad"), bad_next(alloc, plan.delay))
+    let rows = [
+        (name("want"), want_next(alloc, plan)),
+        (name("bad"), bad_next(alloc, plan.delay)),
+    ];
+    set_all(block, alloc, rows)
 }
 
 fn add_block(items: &mut Vec<Item>, alloc: Global, plan: &Plan) -> Result<(), AllocError>
     ensures { OnOk result (map plain_item items.new.items ≡ map plain_item items.old.items ++ AlwaysItem L.clk (statements (L.sets_all (seen plan.now))) ∷ []) }
 {
     let mut block = Vec::new(alloc);
-    set_all(&mut block, alloc, plan)?;
+    set_registers(&mut block, alloc, plan)?;
     items.push(Item::Always(name("clk"), block))?;
     Ok(())
 }

@@ -1,6 +1,6 @@
 //! Items and statements of the module, added under their names.
 ghost use Rattle.std.specs.Prelude.{◌≡◌, ◌≤◌, IfOk, IsTrue, List, OnOk, length, map, ◌++◌, ◌∷◌, []};
-ghost use Rattle.verilog_tree.specs.Plain.{Expression, plain, plain_item, plain_stmt, ModuleItem, AssignItem, RegItem, SetTo, WireItem};
+ghost use Rattle.verilog_tree.specs.Plain.{Expression, plain, plain_item, plain_stmt, ModuleItem, Statement, AssignItem, RegItem, SetTo, WireItem};
 ghost use Rattle.rtl_layout.specs.inner.Layout.{are_names};
 ghost use Rattle.rtl_layout.specs.inner.Rows.{AreRows};
 
@@ -50,14 +50,16 @@ pub fn assign_all<const N: usize>(
     Ok(())
 }
 
-/// One register's next value more, of what was built for it.
-pub fn set(
+/// One register's next value more of each row, of what was built for it.
+pub fn set_all<const N: usize>(
     block: &mut Vec<Stmt>,
-    register: Name,
-    built: Result<Expr, AllocError>,
+    alloc: Global,
+    rows: [(Name, Result<Expr, AllocError>); N],
 ) -> Result<(), AllocError>
-    ensures { OnOk result ((value : Expression) → IfOk built (λ x. plain x ≡ value) → map plain_stmt block.new.items ≡ map plain_stmt block.old.items ++ SetTo register.bytes value ∷ []) }
+    ensures { (wanted : List Statement) → AreRows SetTo rows.entry wanted → OnOk result (map plain_stmt block.new.items ≡ map plain_stmt block.old.items ++ wanted) }
 {
-    block.push(Stmt::Set(register, built?))?;
+    for (register, built) in Vec::from_array(alloc, rows)? {
+        block.push(Stmt::Set(register, built?))?;
+    }
     Ok(())
 }
