@@ -1,9 +1,8 @@
 //! The ports, and what is assigned to them.
-ghost use Rattle.std.specs.Prelude.{◌≡◌, ℕ, ◌+◌, ◌-◌, ◌<◌, ◌≤◌, ◌^◌, IfOk, OnOk, map, ◌++◌, length, reverse, slice_index_or};
+ghost use Rattle.std.specs.Prelude.{◌≡◌, ◌+◌, ◌-◌, ◌<◌, ◌≤◌, ◌^◌, IfOk, OnOk, map, ◌++◌};
 ghost use Rattle.verilog_tree.specs.Plain.{plain, plain_item, plain_port};
 ghost use Rattle.rtl_layout.specs.Layout as L;
 ghost use Rattle.rtl_layout.specs.Seen.{seen};
-ghost use Rattle.rtl_layout.specs.Shows.{no_row};
 
 use crate::ages::aged;
 use crate::parts::assign_all;
@@ -29,7 +28,10 @@ pub fn ports(alloc: Global, plan: &Plan) -> Result<Vec<Port>, AllocError>
         port(Dir::Output, "done", 1),
         port(Dir::Output, "fail", 1),
     ];
-    Ok(Vec::from_array(alloc, ports)?)
+    match Vec::from_array(alloc, ports) {
+        Ok(list) => Ok(list),
+        Err(_) => Err(AllocError),
+    }
 }
 
 // A bit of the address.
@@ -49,21 +51,7 @@ fn row_bit(alloc: Global, width: u8, row: Row) -> Result<Expr, AllocError>
     binary(alloc, BinOp::Xor, parity, flag(row.flip))
 }
 
-// The bits of the address, the highest first.
-fn address_bits(alloc: Global, width: u8, rows: &[Row]) -> Result<Vec<Expr>, AllocError>
-    requires positive { 1 ≤ width }
-    requires narrow { width ≤ 64 }
-    requires fits { (k : ℕ) → k < length rows.now → (slice_index_or rows.now k no_row).mask < 2 ^ width }
-    ensures { IfOk result (λ v. map plain v.items ≡ reverse (map (L.row_bit width) rows.now)) }
-{
-    let mut bits = Vec::new(alloc);
-    for i in 0..rows.len() {
-        let row = rows[rows.len() - 1 - i];
-        bits.push(row_bit(alloc, width, row)?)?;
-    }
-    Ok(bits)
-}
-
+// The address, of its bits from the highest down.
 fn address(alloc: Global, plan: &Plan) -> Result<Expr, AllocError>
     ensures { IfOk result (λ x. plain x ≡ L.address (seen plan.now)) }
 {
@@ -71,7 +59,11 @@ fn address(alloc: Global, plan: &Plan) -> Result<Expr, AllocError>
         return Ok(net(name("index")));
     }
     let rows = plan.rows.as_slice();
-    let bits = address_bits(alloc, plan.addr_width, rows)?;
+    let mut bits = Vec::new(alloc);
+    for i in 0..rows.len() {
+        let row = rows[rows.len() - 1 - i];
+        bits.push(row_bit(alloc, plan.addr_width, row)?)?;
+    }
     Ok(concat(bits))
 }
 
