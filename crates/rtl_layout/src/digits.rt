@@ -97,23 +97,16 @@ fn visit_ends_more(alloc: Global, plan: &Plan) -> Result<Expr, AllocError>
     binary(alloc, BinOp::Eq, net(name("visit")), last)
 }
 
-// Whether the next element is visited once.
-fn visit_ends_next(alloc: Global, plan: &Plan) -> Result<Expr, AllocError>
-    ensures { IfOk result (λ x. plain x ≡ L.visit_ends_next (seen plan.now)) }
-{
-    choose(
-        alloc,
-        net(name("pause_next")),
-        flag(plan.pause == 1),
-        flag(plan.words == 1),
-    )
-}
-
 // Whether the next visit is the last of its element.
 fn last_visit_next(alloc: Global, plan: &Plan) -> Result<Expr, AllocError>
     ensures { IfOk result (λ x. plain x ≡ L.last_visit_next (seen plan.now)) }
 {
-    let next = visit_ends_next(alloc, plan)?;
+    let next = choose(
+        alloc,
+        net(name("pause_next")),
+        flag(plan.pause == 1),
+        flag(plan.words == 1),
+    )?;
     let more = visit_ends_more(alloc, plan)?;
     let ends = choose(alloc, net(name("last_visit")), next, more)?;
     let stepped = while_all(
