@@ -1,4 +1,4 @@
 pub mod Flags
 pub mod Layout
-pub mod Shows
 pub mod Rows
+pub mod Shows

@@ -1,6 +1,6 @@
 //! Items and statements of the module, added under their names.
-ghost use Rattle.std.specs.Prelude.{◌≡◌, ◌≤◌, IfOk, IsTrue, List, OnOk, length, map, ◌++◌, ◌∷◌, []};
-ghost use Rattle.verilog_tree.specs.Plain.{Expression, plain, plain_item, plain_stmt, ModuleItem, Statement, AssignItem, RegItem, SetTo, WireItem};
+ghost use Rattle.std.specs.Prelude.{◌≡◌, IsTrue, List, OnOk, map, ◌++◌, []};
+ghost use Rattle.verilog_tree.specs.Plain.{plain_item, plain_stmt, ModuleItem, Statement, AssignItem, RegItem, SetTo, WireItem};
 ghost use Rattle.rtl_layout.specs.inner.Layout.{are_names};
 ghost use Rattle.rtl_layout.specs.inner.Rows.{AreRows};
 

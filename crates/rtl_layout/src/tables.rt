@@ -1,13 +1,12 @@
 //! Tables over the march, and the patterns of the backgrounds.
-ghost use Rattle.std.specs.Prelude.{◌≡◌, ℕ, ◌<◌, ◌≤◌, ◌^◌, ◌-◌, false, IfOk, length, map, slice_index, slice_index_or};
+ghost use Rattle.std.specs.Prelude.{◌≡◌, ◌<◌, ◌≤◌, ◌^◌, ◌-◌, IfOk, length, map};
 ghost use Rattle.verilog_tree.specs.Plain.{plain, Net, Prefixed};
 ghost use Rattle.verilog_tree.specs.declared.tree.UnOp.TheVariants.{Invert};
 ghost use Rattle.verilog_tree.specs.Meaning.{bit};
-ghost use Rattle.rtl_layout.specs.Build.{lit, choose, counted, number_of};
-ghost use Rattle.rtl_layout.specs.Control.{nothing};
+ghost use Rattle.rtl_layout.specs.Build.{choose, counted, number_of};
 ghost use Rattle.rtl_layout.specs.inner.Flags.{row_flag, flags_ahead};
 ghost use Rattle.rtl_layout.specs.Layout as L;
-ghost use Rattle.rtl_layout.specs.Plan.{port_word, several_bits};
+ghost use Rattle.rtl_layout.specs.Plan.{several_bits};
 ghost use Rattle.rtl_layout.specs.Seen.{seen};
 
 use crate::element::{Element, Operation};

@@ -1,5 +1,5 @@
 -- Inner. What the tables over the march tell.
-use Rattle.std.specs.Prelude.{ℕ, ◌^◌, Bool, List, ◌++◌, map, drop, take}
+use Rattle.std.specs.Prelude.{ℕ, Bool, ◌++◌, map, drop, take}
 use Rattle.verilog_tree.specs.Plain.{Expression}
 use Rattle.rtl_layout.specs.declared.flags.MarchFlag.{MarchFlag}
 use Rattle.rtl_layout.specs.declared.flags.MarchFlag.TheVariants.{Write, One, OneBehind, EndsBehind, Down, Pause, Single}

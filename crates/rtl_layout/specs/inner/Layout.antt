@@ -3,7 +3,7 @@ use Rattle.std.specs.Prelude.{ℕ, suc, Bool, true, false, cond, nat_le, List, [
 use Rattle.std.specs.Borrow.{Bor}
 use Rattle.verilog_tree.specs.Plain.{Net, Statement, SetTo, ModuleItem, RegItem}
 use Rattle.rtl_layout.specs.Plan.{Plan, several, several_bits}
-use Rattle.rtl_layout.specs.Layout.{oper, visit, element, oper_next, visit_next, element_next, back_next, last_oper, last_visit, last_oper_next, last_visit_next, back, value, aged, reads_at, over_at, value_at, gated, digit_regs, maybe, one_reg, stage_regs, end_regs, feed_reads, feed_over, back_set, one_set, next_assigns, last_assigns}
+use Rattle.rtl_layout.specs.Layout.{back, value, aged, reads_at, over_at, value_at, gated, digit_regs, maybe, one_reg, stage_regs, end_regs, feed_reads, feed_over, back_set}
 
 -- whether the text of each row fits a name
 abbrev pub are_names : List (Bor (List ℕ) × ℕ) → Bool

@@ -1,4 +1,4 @@
-use Rattle.std.proofs.Common.{◌≡◌, OnOk, [], ◌∷◌, ◌++◌, ◌∙◌, map, append-nil, ap, sym, subst}
+use Rattle.std.proofs.Common.{◌≡◌, OnOk, [], ◌∷◌, ◌++◌, ◌∙◌, map, sym, subst}
 use Rattle.verilog_tree.specs.Plain.{SetTo, plain_stmt}
 use Rattle.rtl_layout.specs.Layout as L
 use Rattle.rtl_layout.specs.Seen.{seen}
