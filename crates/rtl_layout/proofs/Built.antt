@@ -1,7 +1,6 @@
 -- Expressions whose parts are told otherwise.
-use Rattle.std.proofs.Common.{◌≡◌, ◌≢◌, ℕ, suc, ◌-◌, ◌<◌, Bool, cond, nat_eq, List, [], ◌∷◌, length, get_or, take, drop, Result, IfOk, sym, ap, ◌∙◌, subst, arith}
+use Rattle.std.proofs.Common.{◌≡◌, ◌≢◌, ℕ, zero, suc, ◌<◌, Bool, cond, nat_eq, List, [], ◌∷◌, length, get_or, Result, IfOk, sym, ap, ◌∙◌, subst, arith}
 use Rattle.std.specs.Prelude.{slice_index_or}
-use Rattle.std.proofs.lemmas.List.{take_all}
 use Rattle.std.proofs.lemmas.Bool.Decides.{nat_tests}
 use Rattle.verilog_tree.specs.declared.tree.Expr.{Expr}
 use Rattle.verilog_tree.specs.declared.tree.BinOp.{BinOp}
@@ -37,11 +36,13 @@ first_of xs (y ∷ ys) x d e some same = same ∙ ap (λ l. get_or l 0 x) e
 pub first_has : (p : Plan) (xs : List Element) (x : Element) → Ready p → xs ≡ p.elements → x ≡ get_or xs 0 x → 0 < length x.operations
 first_has p xs x ready e same = subst (λ (y : Element). 0 < length y.operations) (sym (first_of xs p.elements x nothing e ready.has_element same)) (ready.has_operation 0)
 
--- and so has each element
-pub each_has : (p : Plan) (xs : List Element) → Ready p → xs ≡ p.elements → (k : ℕ) → 0 < length (slice_index_or xs k nothing).operations
-each_has p xs ready e k = subst (λ (l : List Element). 0 < length (slice_index_or l k nothing).operations) (sym e) (ready.has_operation k)
+-- what stands at a number that a list has
+item_is : {A : Type 0} (xs : List A) (k : ℕ) (x d : A) → k < length xs → x ≡ get_or xs k x → x ≡ slice_index_or xs k d
+item_is [] k x d h same = absurd (omega arith)
+item_is (y ∷ ys) zero x d h same = same
+item_is (y ∷ ys) (suc k) x d h same = item_is ys k x d (omega arith) same
 
--- and each of those behind the first
-pub each_behind : (xs : List Element) → 0 < length xs → ((k : ℕ) → 0 < length (slice_index_or xs k nothing).operations) → (k : ℕ) → 0 < length (slice_index_or (take (length xs - 1) (drop 1 xs)) k nothing).operations
-each_behind [] some each k = absurd (omega arith)
-each_behind (x ∷ xs) some each k = subst (λ (l : List Element). 0 < length (slice_index_or l k nothing).operations) (sym (take_all (length (x ∷ xs) - 1) xs (omega arith))) (each (suc k))
+-- and so has each element
+pub item_has : (p : Plan) (xs : List Element) (k : ℕ) (x : Element) → Ready p → xs ≡ p.elements → k < length xs → x ≡ get_or xs k x → 0 < length x.operations
+item_has p xs k x ready e h same =
+    subst (λ (y : Element). 0 < length y.operations) (sym (item_is xs k x nothing h same ∙ ap (λ (l : List Element). slice_index_or l k nothing) e)) (ready.has_operation k)

@@ -1,8 +1,8 @@
 -- One age more.
-use Rattle.std.proofs.Common.{◌≡◌, ℕ, suc, ◌+◌, ◌-◌, ◌<◌, ◌≤◌, Bool, List, [], ◌∷◌, ◌++◌, codes, true, false, refl, sym, ap, ◌∙◌, arith, append_assoc}
+use Rattle.std.proofs.Common.{◌≡◌, ℕ, suc, ◌+◌, ◌-◌, ◌<◌, ◌≤◌, Bool, List, [], ◌∷◌, ◌++◌, codes, true, false, refl, sym, ap, ◌∙◌, arith, append_assoc, Result, Ok, Err, OnOk}
 use Rattle.verilog_tree.specs.Plain.{Statement, ModuleItem, RegItem}
 use Rattle.rtl_layout.specs.Layout.{aged, reads_at, stage_regs, stage_sets}
-use Rattle.rtl_layout.specs.inner.Layout.{age_regs, age_sets}
+use Rattle.rtl_layout.specs.inner.Layout.{age_regs, end_age_sets, age_sets}
 
 pub ages_turn : (many : Bool) (w i d : ℕ) (xs ys q : List ModuleItem) → i < d → ys ≡ xs ++ age_regs many w (i + 1) → xs ++ stage_regs many w i (d - i) ≡ q → ys ++ stage_regs many w (i + 1) (d - (i + 1)) ≡ q
 ages_turn many w i d xs ys q lt is h =
@@ -41,3 +41,11 @@ sets_turn many w i d xs ys q lt is h =
     ∙ ap (λ l. xs ++ l) (sym (next_sets many w i (d - (i + 1))))
     ∙ ap (λ k. xs ++ stage_sets many w i k) left
     ∙ h
+
+-- what the last age takes, which has no value
+pub sets_end : {U E : Type 0} (r : Result U E) (many : Bool) (w i d : ℕ) (xs ys q : List Statement) → d ≤ i → i ≤ d → OnOk r (ys ≡ xs ++ end_age_sets d) → xs ++ stage_sets many w i (d - i) ≡ q → OnOk r (ys ≡ q)
+sets_end (Ok u) many w i d xs ys q low high then_ h =
+    let same : d ≡ i = omega arith in
+    let none : 0 ≡ d - i = omega arith in
+    then_ ∙ ap (λ k. xs ++ end_age_sets k) same ∙ ap (λ k. xs ++ stage_sets many w i k) none ∙ h
+sets_end (Err e) many w i d xs ys q low high then_ h = then_

@@ -12,6 +12,7 @@ pub mod Numbers
 pub mod Outputs
 pub mod Ranked
 pub mod Resets
+pub mod Rowed
 pub mod Rows
 pub mod Sets
 pub mod Stages

@@ -1,14 +1,17 @@
 -- Tables as loops make them.
 use Rattle.std.proofs.Common.{◌≡◌, ℕ, suc, ◌+◌, ◌-◌, ◌<◌, ◌≤◌, false, cond, IfOk, List, [], ◌∷◌, ◌++◌, length, map, take, drop, reverse, get_or, refl, append-nil, append_assoc, sym, ap, ◌∙◌, subst, arith}
-use Rattle.std.proofs.lemmas.List.{length-drop, take_more, take_all, drop_more, drop_all, length-map, map-append, reverse-append}
+use Rattle.std.proofs.lemmas.List.{length-append, length-drop, length-take, drop-map, take-map, take_more, take_all, drop_more, drop_all, length-map, map-append, reverse-append}
 use Rattle.std.specs.Prelude.{Result}
 use Rattle.verilog_tree.specs.declared.tree.Expr.{Expr}
 use Rattle.verilog_tree.specs.Plain.{Expression, Net, Concatenation, NoMore, expressions, plain}
 use Rattle.rtl_layout.proofs.Rows.{length_counted}
-use Rattle.rtl_layout.specs.Build.{pick, rotated, counted}
+use Rattle.verilog_tree.specs.Meaning.{bit}
+use Rattle.rtl_layout.specs.Build.{lit, pick, rotated, counted, number_of}
+use Rattle.rtl_layout.specs.declared.flags.MarchFlag.{MarchFlag}
+use Rattle.rtl_layout.specs.inner.Flags.{row_flag, row_leaf, flags_ahead}
 use Rattle.rtl_layout.specs.declared.row.Row.{Row}
-use Rattle.rtl_layout.specs.Plan.{Plan}
-use Rattle.rtl_layout.specs.Layout.{index, row_bit, address_bits, address}
+use Rattle.rtl_layout.specs.Plan.{Element, Plan}
+use Rattle.rtl_layout.specs.Layout.{element, index, row_width, by_element, by_next, flag_row, row_bit, address_bits, address}
 
 -- a choice whose name and leaves are told otherwise
 pub picked : {E : Type 0} (r : Result Expr E) (n m : List ℕ) (w : ℕ) (xs ys : List Expression) → n ≡ m → xs ≡ ys → IfOk r (λ x. plain x ≡ pick n w xs) → IfOk r (λ x. plain x ≡ pick m w ys)
@@ -86,20 +89,43 @@ one_bit f i ls ms y grown tells inv =
     ∙ sym (map-append f (counted i) (i ∷ []))
     ∙ ap (λ (n : ℕ). map f (counted n)) up
 
--- what stands behind the first, and the first, is the list moved on by one
-pub rotated_leaves : {A : Type 0} (f : A → Expression) (xs : List A) (d : A) (x : A) (ls ms : List Expr) (y : Expr) → 0 < length xs → x ≡ get_or xs 0 d → ms ≡ ls ++ y ∷ [] → plain y ≡ f x
-    → map plain ls ≡ map f (drop 1 xs) → map plain ms ≡ map f (rotated xs)
-rotated_leaves f [] d x ls ms y h is grown tells inv = absurd (omega arith)
-rotated_leaves f (z ∷ xs) d x ls ms y h is grown tells inv =
-    ap (map plain) grown
-    ∙ map-append plain ls (y ∷ [])
-    ∙ ap (λ l. l ++ plain y ∷ []) inv
-    ∙ ap (λ v. map f xs ++ v ∷ []) (tells ∙ ap f is)
-    ∙ sym (map-append f xs (z ∷ []))
-
 pub bits_count : (f : ℕ → Expression) (i : ℕ) (ls : List Expr) → map plain ls ≡ map f (counted i) → length ls ≡ i
 bits_count f i ls told = sym (length-map ls plain) ∙ ap length told ∙ length-map (counted i) f ∙ length_counted i
 
--- a slice from 1 on
-pub behind_first : {A : Type 0} (xs : List A) → take (length xs - 1) (drop 1 xs) ≡ drop 1 xs
-behind_first xs = let l = length-drop 1 xs in take_all (length xs - 1) (drop 1 xs) (omega arith)
+-- leaves moved on
+pub moved : {A : Type 0} (f : A → Expression) (xs ys : List A) (ls ms : List Expr) (k : ℕ) → ms ≡ drop k ls ++ take k ls → map plain ls ≡ map f xs → xs ≡ ys → map plain ms ≡ map f (drop k ys ++ take k ys)
+moved f xs ys ls ms k turned told is =
+    ap (map plain) turned
+    ∙ map-append plain (drop k ls) (take k ls)
+    ∙ ap (λ l. l ++ map plain (take k ls)) (sym (drop-map plain k ls))
+    ∙ ap (λ l. drop k (map plain ls) ++ l) (sym (take-map plain k ls))
+    ∙ ap (λ l. drop k l ++ take k l) (told ∙ ap (map f) is)
+    ∙ sym (map-append f (drop k ys) (take k ys) ∙ ap (λ l. l ++ map f (take k ys)) (sym (drop-map f k ys)) ∙ ap (λ l. drop k (map f ys) ++ l) (sym (take-map f k ys)))
+
+pub moved_count : {A : Type 0} (f : A → Expression) (ys : List A) (ms : List Expr) (k : ℕ) → k ≤ length ys → map plain ms ≡ map f (drop k ys ++ take k ys) → length ms ≡ length ys
+moved_count f ys ms k within told =
+    let all = sym (length-map ms plain) ∙ ap length told ∙ length-map (drop k ys ++ take k ys) f ∙ length-append (drop k ys) (take k ys) in
+    let behind = length-drop k ys in
+    let before = length-take k ys in
+    omega arith
+
+-- a row of one bit is that bit
+narrow_leaves : (which : MarchFlag) (xs : List Element) → map (row_leaf 1 which) xs ≡ map (λ (x : Element). lit 1 (bit (row_flag which x 0))) xs
+narrow_leaves which [] = refl
+narrow_leaves which (x ∷ xs) =
+    let one : number_of (map (row_flag which x) (counted 1)) ≡ bit (row_flag which x 0) = omega arith in
+    ap (λ v. lit 1 v ∷ map (row_leaf 1 which) xs) one ∙ ap (λ l. lit 1 (bit (row_flag which x 0)) ∷ l) (narrow_leaves which xs)
+
+-- none moved on
+none_moved : (p : Plan) (w : ℕ) (which : MarchFlag) → flags_ahead p w which 0 ≡ by_element p w (λ x. number_of (map (row_flag which x) (counted w)))
+none_moved p w which = ap (λ l. pick element p.element_width (map (row_leaf w which) l)) (append-nil p.elements)
+
+pub row_of_all : {E : Type 0} (p : Plan) (which : MarchFlag) (r : Result Expr E) (w : ℕ) → w ≡ row_width p → IfOk r (λ x. plain x ≡ flags_ahead p w which 0) → IfOk r (λ x. plain x ≡ flag_row p (row_flag which))
+row_of_all p which r w wide h = subst (λ v. IfOk r (λ x. plain x ≡ v)) (ap (λ n. flags_ahead p n which 0) wide ∙ none_moved p (row_width p) which) h
+
+pub flag_of_all : {E : Type 0} (p : Plan) (which : MarchFlag) (r : Result Expr E) → IfOk r (λ x. plain x ≡ flags_ahead p 1 which 0) → IfOk r (λ x. plain x ≡ by_element p 1 (λ x. bit (row_flag which x 0)))
+flag_of_all p which r h =
+    subst (λ v. IfOk r (λ x. plain x ≡ v)) (none_moved p 1 which ∙ ap (pick element p.element_width) (narrow_leaves which p.elements)) h
+
+pub flag_of_next : {E : Type 0} (p : Plan) (which : MarchFlag) (r : Result Expr E) → IfOk r (λ x. plain x ≡ flags_ahead p 1 which 1) → IfOk r (λ x. plain x ≡ by_next p (λ x. bit (row_flag which x 0)))
+flag_of_next p which r h = subst (λ v. IfOk r (λ x. plain x ≡ v)) (ap (pick element p.element_width) (narrow_leaves which (rotated p.elements))) h

@@ -1,3 +1,4 @@
 pub mod Flags
 pub mod Layout
+pub mod Rows
 pub mod Shows

@@ -4,7 +4,7 @@ ghost use Rattle.verilog_tree.specs.Plain.{plain, plain_item, plain_stmt};
 ghost use Rattle.rtl_layout.specs.Layout as L;
 ghost use Rattle.rtl_layout.specs.inner.Layout as LInner;
 
-use crate::parts::set;
+use crate::parts::set_all;
 use crate::trees::{after_reset, gate};
 use arrayvec::ArrayString;
 use std::alloc::{AllocError, Global};
@@ -119,36 +119,8 @@ fn gated_over(alloc: Global, age: u8) -> Result<Expr, AllocError>
     gate(alloc, over)
 }
 
-// What an age takes from the one before it, whether it read and whether the run was over.
-fn set_ends(block: &mut Vec<Stmt>, alloc: Global, age: u8) -> Result<(), AllocError>
-    requires { age ≤ 3 }
-    ensures { OnOk result (map plain_stmt block.new.items ≡ map plain_stmt block.old.items ++ LInner.end_age_sets age) }
-{
-    set(block, aged("reads", age + 1), gated_reads(alloc, age))?;
-    set(block, aged("over", age + 1), gated_over(alloc, age))
-}
-
-// The number of its background, where there are several.
-fn set_back(
-    block: &mut Vec<Stmt>,
-    alloc: Global,
-    many: bool,
-    width: u8,
-    age: u8,
-) -> Result<(), AllocError>
-    requires few { age ≤ 3 }
-    requires positive { 1 ≤ width }
-    requires narrow { width ≤ 64 }
-    ensures { OnOk result (map plain_stmt block.new.items ≡ map plain_stmt block.old.items ++ L.maybe many (L.back_set width age)) }
-{
-    if many {
-        let back = after_reset(alloc, literal(width, 0), net(back_at(true, age)));
-        return set(block, aged("back", age + 1), back);
-    }
-    Ok(())
-}
-
-// The same, its value and its background.
+// What an age takes from the one before it: whether it read, whether the run was over, its value, and the number of its
+// background where there are several.
 fn set_age(
     block: &mut Vec<Stmt>,
     alloc: Global,
@@ -161,10 +133,17 @@ fn set_age(
     requires narrow { width ≤ 64 }
     ensures { OnOk result (map plain_stmt block.new.items ≡ map plain_stmt block.old.items ++ LInner.age_sets many width age) }
 {
-    set_ends(block, alloc, age)?;
-    let value = gate(alloc, net(value_at(age)));
-    set(block, aged("value", age + 1), value)?;
-    set_back(block, alloc, many, width, age)
+    let rows = [
+        (aged("reads", age + 1), gated_reads(alloc, age)),
+        (aged("over", age + 1), gated_over(alloc, age)),
+        (aged("value", age + 1), gate(alloc, net(value_at(age)))),
+    ];
+    set_all(block, alloc, rows)?;
+    if many {
+        let back = after_reset(alloc, literal(width, 0), net(back_at(true, age)));
+        return set_all(block, alloc, [(aged("back", age + 1), back)]);
+    }
+    Ok(())
 }
 
 /// What all ages take, of which `delay` have a value.
@@ -183,5 +162,9 @@ pub fn set_ages(
     for i in 0..delay {
         set_age(block, alloc, many, width, i)?;
     }
-    set_ends(block, alloc, delay)
+    let rows = [
+        (aged("reads", delay + 1), gated_reads(alloc, delay)),
+        (aged("over", delay + 1), gated_over(alloc, delay)),
+    ];
+    set_all(block, alloc, rows)
 }

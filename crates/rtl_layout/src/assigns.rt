@@ -4,11 +4,10 @@ ghost use Rattle.verilog_tree.specs.Plain.{plain, plain_item, Net, Infixed};
 ghost use Rattle.verilog_tree.specs.declared.tree.BinOp.TheVariants.{Eq};
 ghost use Rattle.rtl_layout.specs.Build.{lit};
 ghost use Rattle.rtl_layout.specs.Layout as L;
-ghost use Rattle.rtl_layout.specs.inner.Layout as LInner;
 ghost use Rattle.rtl_layout.specs.Seen.{seen};
 
-use crate::flags::{ElementFlag, RowFlag};
-use crate::parts::assign_built;
+use crate::flags::MarchFlag;
+use crate::parts::assign_all;
 use crate::plan::Plan;
 use crate::tables::{by_element, by_next, flag_row, has_several_bits, in_row, pattern, word_of};
 use std::alloc::{AllocError, Global};
@@ -56,9 +55,9 @@ fn ones_row(alloc: Global, plan: &Plan) -> Result<Expr, AllocError>
     ensures { IfOk result (λ x. plain x ≡ L.flag_row (seen plan.now) (L.ones_row (seen plan.now))) }
 {
     if has_several_bits(plan) {
-        flag_row(alloc, plan, RowFlag::OneBehind)
+        flag_row(alloc, plan, MarchFlag::OneBehind)
     } else {
-        flag_row(alloc, plan, RowFlag::One)
+        flag_row(alloc, plan, MarchFlag::One)
     }
 }
 
@@ -73,74 +72,41 @@ fn value_now(alloc: Global, plan: &Plan) -> Result<Expr, AllocError>
     }
 }
 
-// What the element has at each number of an operation.
-fn assign_rows(items: &mut Vec<Item>, alloc: Global, plan: &Plan) -> Result<(), AllocError>
-    ensures { OnOk result (map plain_item items.new.items ≡ map plain_item items.old.items ++ L.row_assigns (seen plan.now)) }
+/// All wires.
+pub fn assign_wires(items: &mut Vec<Item>, alloc: Global, plan: &Plan) -> Result<(), AllocError>
+    ensures { OnOk result (map plain_item items.new.items ≡ map plain_item items.old.items ++ L.wire_assigns (seen plan.now)) }
 {
-    let writes = flag_row(alloc, plan, RowFlag::Write);
-    assign_built(items, "writes", writes)?;
-    assign_built(items, "ones", ones_row(alloc, plan))?;
-    let ends = flag_row(alloc, plan, RowFlag::EndsBehind);
-    assign_built(items, "ends", ends)
-}
-
-// What stands at this place of the march.
-fn assign_flags(items: &mut Vec<Item>, alloc: Global, plan: &Plan) -> Result<(), AllocError>
-    ensures { OnOk result (map plain_item items.new.items ≡ map plain_item items.old.items ++ L.flag_assigns (seen plan.now)) }
-{
-    let write = in_row(alloc, plan, name("writes"));
-    assign_built(items, "write", write)?;
-    assign_built(items, "value", value_now(alloc, plan))?;
-    let down = by_element(alloc, plan, ElementFlag::Down);
-    assign_built(items, "down", down)?;
-    let pause = by_element(alloc, plan, ElementFlag::Pause);
-    assign_built(items, "pause", pause)
-}
-
-// Whether the next operation is the last of its element, whether the next element is a pause, and what ends at this place
-// of the march.
-fn assign_ends(items: &mut Vec<Item>, alloc: Global, plan: &Plan) -> Result<(), AllocError>
-    ensures { OnOk result (map plain_item items.new.items ≡ map plain_item items.old.items ++ LInner.end_assigns (seen plan.now)) }
-{
-    let more = in_row(alloc, plan, name("ends"));
-    assign_built(items, "ends_more", more)?;
-    let again = by_element(alloc, plan, ElementFlag::Single);
-    assign_built(items, "ends_again", again)?;
-    let next = by_next(alloc, plan, ElementFlag::Single);
-    assign_built(items, "ends_next", next)?;
-    let pause = by_next(alloc, plan, ElementFlag::Pause);
-    assign_built(items, "pause_next", pause)?;
     let element = is_last(
         alloc,
         name("element"),
         plan.element_width,
         plan.elements.len(),
     );
-    assign_built(items, "last_element", element)?;
     let back = is_last(alloc, name("back"), plan.back_width, plan.backgrounds.len());
-    assign_built(items, "last_back", back)
-}
-
-// The command.
-fn assign_command(items: &mut Vec<Item>, alloc: Global, plan: &Plan) -> Result<(), AllocError>
-    ensures { OnOk result (map plain_item items.new.items ≡ map plain_item items.old.items ++ L.command_assigns (seen plan.now)) }
-{
     let live = choose(alloc, net(name("pause")), flag(false), net(name("run")));
-    assign_built(items, "live", live)?;
-    assign_built(items, "index", index(alloc, plan))?;
-    let zeros = pattern(alloc, plan, name("back"));
-    assign_built(items, "pattern", zeros)?;
-    let pattern = name("pattern");
-    let word = word_of(alloc, name("value"), net(pattern), net(pattern));
-    assign_built(items, "word", word)
-}
-
-/// All wires.
-pub fn assign_wires(items: &mut Vec<Item>, alloc: Global, plan: &Plan) -> Result<(), AllocError>
-    ensures { OnOk result (map plain_item items.new.items ≡ map plain_item items.old.items ++ L.wire_assigns (seen plan.now)) }
-{
-    assign_rows(items, alloc, plan)?;
-    assign_flags(items, alloc, plan)?;
-    assign_ends(items, alloc, plan)?;
-    assign_command(items, alloc, plan)
+    let pattern_net = name("pattern");
+    let word = word_of(alloc, name("value"), net(pattern_net), net(pattern_net));
+    let rows = [
+        (name("writes"), flag_row(alloc, plan, MarchFlag::Write)),
+        (name("ones"), ones_row(alloc, plan)),
+        (name("ends"), flag_row(alloc, plan, MarchFlag::EndsBehind)),
+        (name("write"), in_row(alloc, plan, name("writes"))),
+        (name("value"), value_now(alloc, plan)),
+        (name("down"), by_element(alloc, plan, MarchFlag::Down)),
+        (name("pause"), by_element(alloc, plan, MarchFlag::Pause)),
+        (name("ends_more"), in_row(alloc, plan, name("ends"))),
+        (
+            name("ends_again"),
+            by_element(alloc, plan, MarchFlag::Single),
+        ),
+        (name("ends_next"), by_next(alloc, plan, MarchFlag::Single)),
+        (name("pause_next"), by_next(alloc, plan, MarchFlag::Pause)),
+        (name("last_element"), element),
+        (name("last_back"), back),
+        (name("live"), live),
+        (name("index"), index(alloc, plan)),
+        (name("pattern"), pattern(alloc, plan, name("back"))),
+        (name("word"), word),
+    ];
+    assign_all(items, alloc, rows)
 }

@@ -9,7 +9,7 @@ ghost use Rattle.rtl_layout.specs.Seen.{seen};
 use crate::ages::{aged, back_at, declare_ages, set_ages, value_at};
 use crate::assigns::assign_wires;
 use crate::digits::set_digits;
-use crate::parts::{set, wires};
+use crate::parts::{registers, set_all, wires};
 use crate::plan::Plan;
 use crate::ports::{assign_ports, ports};
 use crate::tables::{has_several_bits, pattern, row_width, word_of};
@@ -22,18 +22,6 @@ fn is_several(plan: &Plan) -> bool
     ensures { result ≡ several (seen plan.now) }
 {
     plan.backgrounds.len() > 1
-}
-
-fn declare_digits(items: &mut Vec<Item>, plan: &Plan) -> Result<(), AllocError>
-    ensures { OnOk result (map plain_item items.new.items ≡ map plain_item items.old.items ++ L.digit_regs (seen plan.now)) }
-{
-    register(items, name("oper"), plan.oper_width)?;
-    register(items, name("visit"), plan.visit_width)?;
-    register(items, name("element"), plan.element_width)?;
-    register(items, name("back"), plan.back_width)?;
-    register(items, name("run"), 1)?;
-    register(items, name("last_oper"), 1)?;
-    register(items, name("last_visit"), 1)
 }
 
 fn declare_one(items: &mut Vec<Item>, plan: &Plan) -> Result<(), AllocError>
@@ -49,27 +37,46 @@ fn declare_one(items: &mut Vec<Item>, plan: &Plan) -> Result<(), AllocError>
 fn declare_registers(items: &mut Vec<Item>, plan: &Plan) -> Result<(), AllocError>
     ensures { OnOk result (map plain_item items.new.items ≡ map plain_item items.old.items ++ LInner.registers (seen plan.now)) }
 {
-    declare_digits(items, plan)?;
+    let digits = [
+        ("oper", plan.oper_width),
+        ("visit", plan.visit_width),
+        ("element", plan.element_width),
+        ("back", plan.back_width),
+        ("run", 1),
+        ("last_oper", 1),
+        ("last_visit", 1),
+    ];
+    registers(items, &digits)?;
     declare_one(items, plan)?;
     declare_ages(items, is_several(plan), plan.back_width, plan.delay)?;
-    register(items, name("want"), plan.bits)?;
-    register(items, name("bad"), 1)
+    registers(items, &[("want", plan.bits), ("bad", 1)])
 }
 
 // All wires.
 fn declare_wires(items: &mut Vec<Item>, plan: &Plan) -> Result<(), AllocError>
     ensures { OnOk result (map plain_item items.new.items ≡ map plain_item items.old.items ++ L.wires (seen plan.now)) }
 {
-    wires(items, &["writes", "ones", "ends"], row_width(plan))?;
-    wires(items, &["write", "value", "down", "pause"], 1)?;
-    wires(
-        items,
-        &["ends_more", "ends_again", "ends_next", "pause_next"],
-        1,
-    )?;
-    wires(items, &["last_element", "last_back", "live"], 1)?;
-    wires(items, &["index"], plan.addr_width)?;
-    wires(items, &["pattern", "word"], plan.bits)
+    let row = row_width(plan);
+    let rows = [
+        ("writes", row),
+        ("ones", row),
+        ("ends", row),
+        ("write", 1),
+        ("value", 1),
+        ("down", 1),
+        ("pause", 1),
+        ("ends_more", 1),
+        ("ends_again", 1),
+        ("ends_next", 1),
+        ("pause_next", 1),
+        ("last_element", 1),
+        ("last_back", 1),
+        ("live", 1),
+        ("index", plan.addr_width),
+        ("pattern", plan.bits),
+        ("word", plan.bits),
+    ];
+    wires(items, &rows)
 }
 
 // The word that the read of the last age expects.
@@ -98,21 +105,24 @@ fn bad_next(alloc: Global, delay: u8) -> Result<Expr, AllocError>
 }
 
 // What all registers take.
-fn set_all(block: &mut Vec<Stmt>, alloc: Global, plan: &Plan) -> Result<(), AllocError>
+fn set_registers(block: &mut Vec<Stmt>, alloc: Global, plan: &Plan) -> Result<(), AllocError>
     ensures { OnOk result (map plain_stmt block.new.items ≡ map plain_stmt block.old.items ++ L.sets_all (seen plan.now)) }
 {
     set_digits(block, alloc, plan)?;
     let many = is_several(plan);
     set_ages(block, alloc, many, plan.back_width, plan.delay)?;
-    set(block, name("want"), want_next(alloc, plan))?;
-    set(block, name("bad"), bad_next(alloc, plan.delay))
+    let rows = [
+        (name("want"), want_next(alloc, plan)),
+        (name("bad"), bad_next(alloc, plan.delay)),
+    ];
+    set_all(block, alloc, rows)
 }
 
 fn add_block(items: &mut Vec<Item>, alloc: Global, plan: &Plan) -> Result<(), AllocError>
     ensures { OnOk result (map plain_item items.new.items ≡ map plain_item items.old.items ++ AlwaysItem L.clk (statements (L.sets_all (seen plan.now))) ∷ []) }
 {
     let mut block = Vec::new(alloc);
-    set_all(&mut block, alloc, plan)?;
+    set_registers(&mut block, alloc, plan)?;
     items.push(Item::Always(name("clk"), block))?;
     Ok(())
 }

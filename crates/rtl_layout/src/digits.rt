@@ -3,58 +3,17 @@ ghost use Rattle.std.specs.Prelude.{◌≡◌, IfOk, OnOk, map, ◌++◌};
 ghost use Rattle.verilog_tree.specs.Plain.{plain, plain_stmt};
 ghost use Rattle.rtl_layout.specs.Layout as L;
 ghost use Rattle.rtl_layout.specs.Plan.{limit, several_bits};
-ghost use Rattle.rtl_layout.specs.inner.Layout as LInner;
 ghost use Rattle.rtl_layout.specs.Seen.{seen};
 
 use crate::element::Element;
-use crate::flags::ElementFlag;
-use crate::parts::set;
+use crate::flags::MarchFlag;
+use crate::parts::set_all;
 use crate::plan::Plan;
-use crate::tables::{by_element, by_next, has_several_bits, in_row, of_element};
+use crate::tables::{at_number, by_element, by_next, has_several_bits, in_row};
 use crate::trees::{after_reset, counting, while_all};
 use std::alloc::{AllocError, Global};
 use verilog_tree::build::{binary, choose, flag, literal, name, net};
 use verilog_tree::{BinOp, Expr, Name, Stmt};
-
-// What counts the operations, the visits, the elements and the backgrounds.
-fn set_counters(block: &mut Vec<Stmt>, alloc: Global, plan: &Plan) -> Result<(), AllocError>
-    ensures { OnOk result (map plain_stmt block.new.items ≡ map plain_stmt block.old.items ++ LInner.counter_sets (seen plan.now)) }
-{
-    let run = name("run");
-    let oper = name("oper");
-    let visit = name("visit");
-    let element = name("element");
-    let back = name("back");
-    let last_oper = name("last_oper");
-    let last_visit = name("last_visit");
-    let last_element = name("last_element");
-    let next = counting(alloc, oper, plan.oper_width, &[run], last_oper);
-    set(block, oper, next)?;
-    let next = counting(
-        alloc,
-        visit,
-        plan.visit_width,
-        &[run, last_oper],
-        last_visit,
-    );
-    set(block, visit, next)?;
-    let next = counting(
-        alloc,
-        element,
-        plan.element_width,
-        &[run, last_oper, last_visit],
-        last_element,
-    );
-    set(block, element, next)?;
-    let next = counting(
-        alloc,
-        back,
-        plan.back_width,
-        &[run, last_oper, last_visit, last_element],
-        name("last_back"),
-    );
-    set(block, back, next)
-}
 
 // Whether the run goes on.
 fn run_next(alloc: Global) -> Result<Expr, AllocError>
@@ -99,7 +58,7 @@ fn last_oper_next(alloc: Global, plan: &Plan) -> Result<Expr, AllocError>
     turning(
         alloc,
         name("last_oper"),
-        of_element(&plan.elements[0], ElementFlag::Single),
+        at_number(&plan.elements[0], 0, MarchFlag::Single),
         net(name("ends_next")),
         net(name("ends_again")),
         net(name("ends_more")),
@@ -110,10 +69,10 @@ fn last_oper_next(alloc: Global, plan: &Plan) -> Result<Expr, AllocError>
 fn one_next(alloc: Global, plan: &Plan) -> Result<Expr, AllocError>
     ensures { IfOk result (λ x. plain x ≡ L.one_next (seen plan.now)) }
 {
-    let next = by_next(alloc, plan, ElementFlag::BeginsOne)?;
-    let again = by_element(alloc, plan, ElementFlag::BeginsOne)?;
+    let next = by_next(alloc, plan, MarchFlag::One)?;
+    let again = by_element(alloc, plan, MarchFlag::One)?;
     let more = in_row(alloc, plan, name("ones"))?;
-    let first = of_element(&plan.elements[0], ElementFlag::BeginsOne);
+    let first = at_number(&plan.elements[0], 0, MarchFlag::One);
     turning(alloc, name("one"), first, next, again, more)
 }
 
@@ -138,23 +97,16 @@ fn visit_ends_more(alloc: Global, plan: &Plan) -> Result<Expr, AllocError>
     binary(alloc, BinOp::Eq, net(name("visit")), last)
 }
 
-// Whether the next element is visited once.
-fn visit_ends_next(alloc: Global, plan: &Plan) -> Result<Expr, AllocError>
-    ensures { IfOk result (λ x. plain x ≡ L.visit_ends_next (seen plan.now)) }
-{
-    choose(
-        alloc,
-        net(name("pause_next")),
-        flag(plan.pause == 1),
-        flag(plan.words == 1),
-    )
-}
-
 // Whether the next visit is the last of its element.
 fn last_visit_next(alloc: Global, plan: &Plan) -> Result<Expr, AllocError>
     ensures { IfOk result (λ x. plain x ≡ L.last_visit_next (seen plan.now)) }
 {
-    let next = visit_ends_next(alloc, plan)?;
+    let next = choose(
+        alloc,
+        net(name("pause_next")),
+        flag(plan.pause == 1),
+        flag(plan.words == 1),
+    )?;
     let more = visit_ends_more(alloc, plan)?;
     let ends = choose(alloc, net(name("last_visit")), next, more)?;
     let stepped = while_all(
@@ -167,25 +119,52 @@ fn last_visit_next(alloc: Global, plan: &Plan) -> Result<Expr, AllocError>
     after_reset(alloc, flag(first == 1), stepped)
 }
 
-// What the next operation and visit have, and the operation's bit where a register holds it.
-fn set_place(block: &mut Vec<Stmt>, alloc: Global, plan: &Plan) -> Result<(), AllocError>
-    ensures { OnOk result (map plain_stmt block.new.items ≡ map plain_stmt block.old.items ++ LInner.place_sets (seen plan.now)) }
+// What counts the operations, the visits, the elements and the backgrounds, whether the run goes on, and what the next
+// operation and visit have.
+fn set_counters(block: &mut Vec<Stmt>, alloc: Global, plan: &Plan) -> Result<(), AllocError>
+    ensures { OnOk result (map plain_stmt block.new.items ≡ map plain_stmt block.old.items ++ L.digit_sets (seen plan.now)) }
 {
-    let oper = last_oper_next(alloc, plan);
-    set(block, name("last_oper"), oper)?;
-    let visit = last_visit_next(alloc, plan);
-    set(block, name("last_visit"), visit)?;
-    if has_several_bits(plan) {
-        return set(block, name("one"), one_next(alloc, plan));
-    }
-    Ok(())
+    let run = name("run");
+    let oper = name("oper");
+    let visit = name("visit");
+    let element = name("element");
+    let back = name("back");
+    let last_oper = name("last_oper");
+    let last_visit = name("last_visit");
+    let last_element = name("last_element");
+    let last_back = name("last_back");
+    let opers = counting(alloc, oper, plan.oper_width, &[run], last_oper);
+    let conditions = [run, last_oper];
+    let visits = counting(alloc, visit, plan.visit_width, &conditions, last_visit);
+    let conditions = [run, last_oper, last_visit];
+    let elements = counting(
+        alloc,
+        element,
+        plan.element_width,
+        &conditions,
+        last_element,
+    );
+    let conditions = [run, last_oper, last_visit, last_element];
+    let backs = counting(alloc, back, plan.back_width, &conditions, last_back);
+    let rows = [
+        (oper, opers),
+        (visit, visits),
+        (element, elements),
+        (back, backs),
+        (run, run_next(alloc)),
+        (last_oper, last_oper_next(alloc, plan)),
+        (last_visit, last_visit_next(alloc, plan)),
+    ];
+    set_all(block, alloc, rows)
 }
 
-/// The place in the march, and whether the run goes on.
+/// The place in the march, whether the run goes on, and the operation's bit where a register holds it.
 pub fn set_digits(block: &mut Vec<Stmt>, alloc: Global, plan: &Plan) -> Result<(), AllocError>
     ensures { OnOk result (map plain_stmt block.new.items ≡ map plain_stmt block.old.items ++ (L.digit_sets (seen plan.now) ++ L.one_set (seen plan.now) (several_bits (seen plan.now)))) }
 {
     set_counters(block, alloc, plan)?;
-    set(block, name("run"), run_next(alloc))?;
-    set_place(block, alloc, plan)
+    if has_several_bits(plan) {
+        return set_all(block, alloc, [(name("one"), one_next(alloc, plan))]);
+    }
+    Ok(())
 }

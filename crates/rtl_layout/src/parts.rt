@@ -1,46 +1,65 @@
 //! Items and statements of the module, added under their names.
-ghost use Rattle.std.specs.Prelude.{◌≡◌, ◌≤◌, IfOk, IsTrue, OnOk, length, map, ◌++◌, ◌∷◌, []};
-ghost use Rattle.verilog_tree.specs.Plain.{Expression, plain, plain_item, plain_stmt, AssignItem, SetTo, WireItem};
+ghost use Rattle.std.specs.Prelude.{◌≡◌, IsTrue, List, OnOk, map, ◌++◌, []};
+ghost use Rattle.verilog_tree.specs.Plain.{plain_item, plain_stmt, ModuleItem, Statement, AssignItem, RegItem, SetTo, WireItem};
 ghost use Rattle.rtl_layout.specs.inner.Layout.{are_names};
+ghost use Rattle.rtl_layout.specs.inner.Rows.{AreRows};
 
-use std::alloc::AllocError;
-use verilog_tree::build::{assign, name, wire};
+use std::alloc::{AllocError, Global};
+use verilog_tree::build::{assign, name, register, wire};
 use verilog_tree::{Expr, Item, Name, Stmt};
 
-/// Wires of `width` bits, one of each name.
-pub fn wires(items: &mut Vec<Item>, names: &[&str], width: u8) -> Result<(), AllocError>
-    requires { IsTrue (are_names names.now) }
-    ensures { OnOk result (map plain_item items.new.items ≡ map plain_item items.old.items ++ map (λ n. WireItem n.now width) names.now) }
+/// Wires, each of a name and a width.
+pub fn wires(items: &mut Vec<Item>, rows: &[(&str, u8)]) -> Result<(), AllocError>
+    requires { IsTrue (are_names rows.now) }
+    ensures { OnOk result (map plain_item items.new.items ≡ map plain_item items.old.items ++ map (λ r. WireItem r.0.now r.1) rows.now) }
 {
-    match names {
+    match rows {
         [] => Ok(()),
-        [first, rest @ ..] => {
-            wire(items, name(first), width)?;
-            wires(items, rest, width)
+        [(text, width), rest @ ..] => {
+            wire(items, name(text), *width)?;
+            wires(items, rest)
         }
     }
 }
 
-/// One assignment more, of what was built for it.
-pub fn assign_built(
-    items: &mut Vec<Item>,
-    target: &str,
-    built: Result<Expr, AllocError>,
-) -> Result<(), AllocError>
-    requires { length target.now ≤ 64 }
-    ensures { OnOk result ((value : Expression) → IfOk built (λ x. plain x ≡ value) → map plain_item items.new.items ≡ map plain_item items.old.items ++ AssignItem target.now value ∷ []) }
+/// Registers, each of a name and a width.
+pub fn registers(items: &mut Vec<Item>, rows: &[(&str, u8)]) -> Result<(), AllocError>
+    requires { IsTrue (are_names rows.now) }
+    ensures { OnOk result (map plain_item items.new.items ≡ map plain_item items.old.items ++ map (λ r. RegItem r.0.now r.1) rows.now) }
 {
-    assign(items, name(target), built?)
+    match rows {
+        [] => Ok(()),
+        [(text, width), rest @ ..] => {
+            register(items, name(text), *width)?;
+            registers(items, rest)
+        }
+    }
 }
 
-/// One register's next value more, of what was built for it.
-pub fn set(
-    block: &mut Vec<Stmt>,
-    register: Name,
-    built: Result<Expr, AllocError>,
+/// One assignment more of each row, of what was built for it.
+pub fn assign_all<const N: usize>(
+    items: &mut Vec<Item>,
+    alloc: Global,
+    rows: [(Name, Result<Expr, AllocError>); N],
 ) -> Result<(), AllocError>
-    ensures { OnOk result ((value : Expression) → IfOk built (λ x. plain x ≡ value) → map plain_stmt block.new.items ≡ map plain_stmt block.old.items ++ SetTo register.bytes value ∷ []) }
+    ensures { (wanted : List ModuleItem) → AreRows AssignItem rows.entry wanted → OnOk result (map plain_item items.new.items ≡ map plain_item items.old.items ++ wanted) }
 {
-    block.push(Stmt::Set(register, built?))?;
+    for (target, built) in Vec::from_array(alloc, rows)? {
+        assign(items, target, built?)?;
+    }
+    Ok(())
+}
+
+/// One register's next value more of each row, of what was built for it.
+pub fn set_all<const N: usize>(
+    block: &mut Vec<Stmt>,
+    alloc: Global,
+    rows: [(Name, Result<Expr, AllocError>); N],
+) -> Result<(), AllocError>
+    ensures { (wanted : List Statement) → AreRows SetTo rows.entry wanted → OnOk result (map plain_stmt block.new.items ≡ map plain_stmt block.old.items ++ wanted) }
+{
+    for (register, built) in Vec::from_array(alloc, rows)? {
+        block.push(Stmt::Set(register, built?))?;
+    }
     Ok(())
 }

@@ -1,17 +1,16 @@
 //! The ports, and what is assigned to them.
-ghost use Rattle.std.specs.Prelude.{◌≡◌, ℕ, ◌+◌, ◌-◌, ◌<◌, ◌≤◌, ◌^◌, IfOk, OnOk, map, ◌++◌, length, reverse, slice_index_or};
+ghost use Rattle.std.specs.Prelude.{◌≡◌, ◌+◌, ◌-◌, ◌<◌, ◌≤◌, ◌^◌, IfOk, OnOk, map, ◌++◌};
 ghost use Rattle.verilog_tree.specs.Plain.{plain, plain_item, plain_port};
 ghost use Rattle.rtl_layout.specs.Layout as L;
 ghost use Rattle.rtl_layout.specs.Seen.{seen};
-ghost use Rattle.rtl_layout.specs.Shows.{no_row};
 
 use crate::ages::aged;
-use crate::parts::assign_built;
+use crate::parts::assign_all;
 use crate::plan::Plan;
 use crate::row::Row;
 use crate::trees::gate;
 use std::alloc::{AllocError, Global};
-use verilog_tree::build::{assign, binary, concat, flag, literal, name, net, port, unary};
+use verilog_tree::build::{binary, concat, flag, literal, name, net, port, unary};
 use verilog_tree::{BinOp, Dir, Expr, Item, Port, UnOp};
 
 /// The ports in their order.
@@ -29,7 +28,10 @@ pub fn ports(alloc: Global, plan: &Plan) -> Result<Vec<Port>, AllocError>
         port(Dir::Output, "done", 1),
         port(Dir::Output, "fail", 1),
     ];
-    Vec::from_array(alloc, ports).map_err(|_| AllocError)
+    match Vec::from_array(alloc, ports) {
+        Ok(list) => Ok(list),
+        Err(_) => Err(AllocError),
+    }
 }
 
 // A bit of the address.
@@ -49,21 +51,7 @@ fn row_bit(alloc: Global, width: u8, row: Row) -> Result<Expr, AllocError>
     binary(alloc, BinOp::Xor, parity, flag(row.flip))
 }
 
-// The bits of the address, the highest first.
-fn address_bits(alloc: Global, width: u8, rows: &[Row]) -> Result<Vec<Expr>, AllocError>
-    requires positive { 1 ≤ width }
-    requires narrow { width ≤ 64 }
-    requires fits { (k : ℕ) → k < length rows.now → (slice_index_or rows.now k no_row).mask < 2 ^ width }
-    ensures { IfOk result (λ v. map plain v.items ≡ reverse (map (L.row_bit width) rows.now)) }
-{
-    let mut bits = Vec::new(alloc);
-    for i in 0..rows.len() {
-        let row = rows[rows.len() - 1 - i];
-        bits.push(row_bit(alloc, width, row)?)?;
-    }
-    Ok(bits)
-}
-
+// The address, of its bits from the highest down.
 fn address(alloc: Global, plan: &Plan) -> Result<Expr, AllocError>
     ensures { IfOk result (λ x. plain x ≡ L.address (seen plan.now)) }
 {
@@ -71,7 +59,11 @@ fn address(alloc: Global, plan: &Plan) -> Result<Expr, AllocError>
         return Ok(net(name("index")));
     }
     let rows = plan.rows.as_slice();
-    let bits = address_bits(alloc, plan.addr_width, rows)?;
+    let mut bits = Vec::new(alloc);
+    for i in 0..rows.len() {
+        let row = rows[rows.len() - 1 - i];
+        bits.push(row_bit(alloc, plan.addr_width, row)?)?;
+    }
     Ok(concat(bits))
 }
 
@@ -79,13 +71,13 @@ fn address(alloc: Global, plan: &Plan) -> Result<Expr, AllocError>
 pub fn assign_ports(items: &mut Vec<Item>, alloc: Global, plan: &Plan) -> Result<(), AllocError>
     ensures { OnOk result (map plain_item items.new.items ≡ map plain_item items.old.items ++ L.port_assigns (seen plan.now)) }
 {
-    let en = gate(alloc, net(name("live")));
-    assign_built(items, "en", en)?;
-    assign(items, name("we"), net(name("write")))?;
-    assign_built(items, "addr", address(alloc, plan))?;
-    assign(items, name("wdata"), net(name("word")))?;
-    let done = gate(alloc, net(aged("over", plan.delay + 1)));
-    assign_built(items, "done", done)?;
-    let fail = gate(alloc, net(name("bad")));
-    assign_built(items, "fail", fail)
+    let rows = [
+        (name("en"), gate(alloc, net(name("live")))),
+        (name("we"), Ok(net(name("write")))),
+        (name("addr"), address(alloc, plan)),
+        (name("wdata"), Ok(net(name("word")))),
+        (name("done"), gate(alloc, net(aged("over", plan.delay + 1)))),
+        (name("fail"), gate(alloc, net(name("bad")))),
+    ];
+    assign_all(items, alloc, rows)
 }

@@ -1,21 +1,20 @@
 //! Tables over the march, and the patterns of the backgrounds.
-ghost use Rattle.std.specs.Prelude.{◌≡◌, ℕ, ◌<◌, ◌≤◌, ◌^◌, ◌-◌, false, IfOk, length, map, slice_index, slice_index_or};
+ghost use Rattle.std.specs.Prelude.{◌≡◌, ◌<◌, ◌≤◌, ◌^◌, ◌-◌, IfOk, length, map};
 ghost use Rattle.verilog_tree.specs.Plain.{plain, Net, Prefixed};
 ghost use Rattle.verilog_tree.specs.declared.tree.UnOp.TheVariants.{Invert};
 ghost use Rattle.verilog_tree.specs.Meaning.{bit};
-ghost use Rattle.rtl_layout.specs.Build.{lit, choose, counted, number_of};
-ghost use Rattle.rtl_layout.specs.Control.{nothing};
-ghost use Rattle.rtl_layout.specs.inner.Flags.{row_flag, element_flag};
+ghost use Rattle.rtl_layout.specs.Build.{choose, counted, number_of};
+ghost use Rattle.rtl_layout.specs.inner.Flags.{row_flag, flags_ahead};
 ghost use Rattle.rtl_layout.specs.Layout as L;
-ghost use Rattle.rtl_layout.specs.Plan.{port_word, several_bits};
+ghost use Rattle.rtl_layout.specs.Plan.{several_bits};
 ghost use Rattle.rtl_layout.specs.Seen.{seen};
 
 use crate::element::{Element, Operation};
-use crate::flags::{ElementFlag, RowFlag};
+use crate::flags::MarchFlag;
 use crate::plan::Plan;
 use crate::trees::{bit, pick_leaf};
 use std::alloc::{AllocError, Global};
-use verilog_tree::build::{choose, flag, literal, name, net, unary};
+use verilog_tree::build::{choose, literal, name, net, unary};
 use verilog_tree::{Expr, Name, UnOp};
 
 // The operation of a number, and behind the last the last.
@@ -31,29 +30,20 @@ fn operation_in(element: &Element, i: usize) -> Operation
     }
 }
 
-fn at_number(element: &Element, i: usize, flag: RowFlag) -> bool
+/// A flag of an element at a number of an operation.
+pub fn at_number(element: &Element, i: usize, flag: MarchFlag) -> bool
     requires some { 0 < length element.now.operations }
     requires small { i < 64 }
     ensures { result ≡ row_flag flag element.now i }
 {
     match flag {
-        RowFlag::Write => operation_in(element, i).write,
-        RowFlag::One => operation_in(element, i).bit,
-        RowFlag::OneBehind => operation_in(element, i + 1).bit,
-        RowFlag::EndsBehind => element.operations().len() <= i + 2,
-    }
-}
-
-/// A flag of an element.
-pub fn of_element(element: &Element, flag: ElementFlag) -> bool
-    requires { 0 < length element.now.operations }
-    ensures { result ≡ element_flag flag element.now }
-{
-    match flag {
-        ElementFlag::Down => element.is_down(),
-        ElementFlag::Pause => element.is_pause(),
-        ElementFlag::Single => element.operations().len() == 1,
-        ElementFlag::BeginsOne => operation_in(element, 0).bit,
+        MarchFlag::Write => operation_in(element, i).write,
+        MarchFlag::One => operation_in(element, i).bit,
+        MarchFlag::OneBehind => operation_in(element, i + 1).bit,
+        MarchFlag::EndsBehind => element.operations().len() <= i + 2,
+        MarchFlag::Down => element.is_down(),
+        MarchFlag::Pause => element.is_pause(),
+        MarchFlag::Single => element.operations().len() == 1,
     }
 }
 
@@ -64,7 +54,7 @@ fn one_if(flag: bool) -> u64
 }
 
 // What an element has at each of these numbers, at 0 in the lowest bit.
-fn row_number(element: &Element, width: u8, which: RowFlag) -> u64
+fn row_number(element: &Element, width: u8, which: MarchFlag) -> u64
     requires some { 0 < length element.now.operations }
     requires narrow { width ≤ 64 }
     ensures { result ≡ number_of (map (row_flag which element.now) (counted width)) }
@@ -76,22 +66,25 @@ fn row_number(element: &Element, width: u8, which: RowFlag) -> u64
     row
 }
 
-fn row_leaves(
+// What the element so many places on has at each of these numbers.
+fn flags_ahead(
     alloc: Global,
+    plan: &Plan,
     width: u8,
-    elements: &[Element],
-    which: RowFlag,
-) -> Result<Vec<Expr>, AllocError>
-    requires some { (k : ℕ) → 0 < length (slice_index_or elements.now k nothing).operations }
+    which: MarchFlag,
+    ahead: usize,
+) -> Result<Expr, AllocError>
     requires positive { 1 ≤ width }
     requires narrow { width ≤ 64 }
-    ensures { IfOk result (λ v. map plain v.items ≡ map (λ x. lit width (number_of (map (row_flag which x) (counted width)))) elements.now) }
+    requires near { ahead ≤ 1 }
+    ensures { IfOk result (λ x. plain x ≡ flags_ahead (seen plan.now) width which ahead) }
 {
     let mut leaves = Vec::new(alloc);
-    for element in elements {
+    for element in plan.elements.as_slice() {
         leaves.push(literal(width, row_number(element, width, which)))?;
     }
-    Ok(leaves)
+    leaves.rotate_left(ahead);
+    pick_leaf(alloc, name("element"), plan.element_width, &mut leaves)
 }
 
 /// Whether a word has several bits.
@@ -109,12 +102,24 @@ pub fn row_width(plan: &Plan) -> u8
 }
 
 /// What the element at this place of the march has at each number of an operation.
-pub fn flag_row(alloc: Global, plan: &Plan, which: RowFlag) -> Result<Expr, AllocError>
+pub fn flag_row(alloc: Global, plan: &Plan, which: MarchFlag) -> Result<Expr, AllocError>
     ensures { IfOk result (λ x. plain x ≡ L.flag_row (seen plan.now) (row_flag which)) }
 {
-    let elements = plan.elements.as_slice();
-    let mut leaves = row_leaves(alloc, row_width(plan), elements, which)?;
-    pick_leaf(alloc, name("element"), plan.element_width, &mut leaves)
+    flags_ahead(alloc, plan, row_width(plan), which, 0)
+}
+
+/// A flag of the element at this place of the march.
+pub fn by_element(alloc: Global, plan: &Plan, which: MarchFlag) -> Result<Expr, AllocError>
+    ensures { IfOk result (λ x. plain x ≡ L.by_element (seen plan.now) 1 (λ x. bit (row_flag which x 0))) }
+{
+    flags_ahead(alloc, plan, 1, which, 0)
+}
+
+/// A flag of the element behind it, which is the first behind the last.
+pub fn by_next(alloc: Global, plan: &Plan, which: MarchFlag) -> Result<Expr, AllocError>
+    ensures { IfOk result (λ x. plain x ≡ L.by_next (seen plan.now) (λ x. bit (row_flag which x 0))) }
+{
+    flags_ahead(alloc, plan, 1, which, 1)
 }
 
 /// The bit of the operation at this place in a row.
@@ -129,58 +134,14 @@ pub fn in_row(alloc: Global, plan: &Plan, row: Name) -> Result<Expr, AllocError>
     pick_leaf(alloc, name("oper"), plan.oper_width, &mut leaves)
 }
 
-fn element_leaves(
-    alloc: Global,
-    elements: &[Element],
-    which: ElementFlag,
-) -> Result<Vec<Expr>, AllocError>
-    requires { (k : ℕ) → 0 < length (slice_index_or elements.now k nothing).operations }
-    ensures { IfOk result (λ v. map plain v.items ≡ map (λ x. lit 1 (bit (element_flag which x))) elements.now) }
-{
-    let mut leaves = Vec::new(alloc);
-    for element in elements {
-        leaves.push(flag(of_element(element, which)))?;
-    }
-    Ok(leaves)
-}
-
-/// A flag of the element at this place of the march.
-pub fn by_element(alloc: Global, plan: &Plan, which: ElementFlag) -> Result<Expr, AllocError>
-    ensures { IfOk result (λ x. plain x ≡ L.by_element (seen plan.now) 1 (λ x. bit (element_flag which x))) }
-{
-    let elements = plan.elements.as_slice();
-    let mut leaves = element_leaves(alloc, elements, which)?;
-    pick_leaf(alloc, name("element"), plan.element_width, &mut leaves)
-}
-
-/// A flag of the element behind it, which is the first behind the last.
-pub fn by_next(alloc: Global, plan: &Plan, which: ElementFlag) -> Result<Expr, AllocError>
-    ensures { IfOk result (λ x. plain x ≡ L.by_next (seen plan.now) (λ x. bit (element_flag which x))) }
-{
-    let elements = plan.elements.as_slice();
-    let mut leaves = element_leaves(alloc, &elements[1..], which)?;
-    leaves.push(flag(of_element(&elements[0], which)))?;
-    pick_leaf(alloc, name("element"), plan.element_width, &mut leaves)
-}
-
-// The words of the value 0 of the backgrounds, as they stand on a port.
-fn pattern_leaves(alloc: Global, plan: &Plan, backgrounds: &[u64]) -> Result<Vec<Expr>, AllocError>
-    requires { (k : ℕ) → k < length backgrounds.now → slice_index backgrounds.now k < 2 ^ plan.now.bits }
-    ensures { IfOk result (λ v. map plain v.items ≡ map (λ b. lit plan.now.bits (port_word (seen plan.now) false b)) backgrounds.now) }
-{
-    let mut leaves = Vec::new(alloc);
-    for background in backgrounds {
-        leaves.push(literal(plan.bits, *background ^ plan.polarity))?;
-    }
-    Ok(leaves)
-}
-
-/// The word of the value 0 of the background that a name holds.
+/// The word of the value 0 of the background that a name holds, as it stands on a port.
 pub fn pattern(alloc: Global, plan: &Plan, back: Name) -> Result<Expr, AllocError>
     ensures { IfOk result (λ x. plain x ≡ L.pattern_of (seen plan.now) back.bytes) }
 {
-    let backgrounds = plan.backgrounds.as_slice();
-    let mut leaves = pattern_leaves(alloc, plan, backgrounds)?;
+    let mut leaves = Vec::new(alloc);
+    for background in plan.backgrounds.as_slice() {
+        leaves.push(literal(plan.bits, *background ^ plan.polarity))?;
+    }
     pick_leaf(alloc, back, plan.back_width, &mut leaves)
 }
 

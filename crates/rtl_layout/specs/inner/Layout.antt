@@ -3,12 +3,12 @@ use Rattle.std.specs.Prelude.{ℕ, suc, Bool, true, false, cond, nat_le, List, [
 use Rattle.std.specs.Borrow.{Bor}
 use Rattle.verilog_tree.specs.Plain.{Net, Statement, SetTo, ModuleItem, RegItem}
 use Rattle.rtl_layout.specs.Plan.{Plan, several, several_bits}
-use Rattle.rtl_layout.specs.Layout.{oper, visit, element, oper_next, visit_next, element_next, back_next, last_oper, last_visit, last_oper_next, last_visit_next, back, value, aged, reads_at, over_at, value_at, gated, digit_regs, maybe, one_reg, stage_regs, end_regs, feed_reads, feed_over, back_set, one_set, next_assigns, last_assigns}
+use Rattle.rtl_layout.specs.Layout.{back, value, aged, reads_at, over_at, value_at, gated, digit_regs, maybe, one_reg, stage_regs, end_regs, feed_reads, feed_over, back_set}
 
--- whether each text fits a name
-abbrev pub are_names : List (Bor (List ℕ)) → Bool
+-- whether the text of each row fits a name
+abbrev pub are_names : List (Bor (List ℕ) × ℕ) → Bool
 are_names [] = true
-are_names (text ∷ texts) = cond (nat_le (length text.now) 64) (are_names texts) false
+are_names (row ∷ rows) = cond (nat_le (length row.0.now) 64) (are_names rows) false
 
 -- ---- registers
 
@@ -22,21 +22,13 @@ registers p = digit_regs p ++ (one_reg (several_bits p) ++ (stage_regs (several 
 
 -- ---- what they are assigned and set to
 
--- whether the next operation is the last of its element, whether the next element is a pause, and what ends here
-abbrev pub end_assigns : Plan → List ModuleItem
-end_assigns p = next_assigns p ++ last_assigns p
-
--- the digits: the operation, the visit, the element and the background
-abbrev pub counter_sets : Plan → List Statement
-counter_sets p = SetTo oper (oper_next p) ∷ SetTo visit (visit_next p) ∷ SetTo element (element_next p) ∷ SetTo back (back_next p) ∷ []
-
--- what the next operation and visit have, and the operation's bit
-abbrev pub place_sets : Plan → List Statement
-place_sets p = SetTo last_oper (last_oper_next p) ∷ SetTo last_visit (last_visit_next p) ∷ one_set p (several_bits p)
-
 -- what age suc i takes from age i
 abbrev pub end_age_sets : ℕ → List Statement
 end_age_sets i = SetTo (reads_at (suc i)) (gated (feed_reads i)) ∷ SetTo (over_at (suc i)) (gated (feed_over i)) ∷ []
+
+-- and what it takes where it has a value
+abbrev pub valued_sets : ℕ → List Statement
+valued_sets i = SetTo (reads_at (suc i)) (gated (feed_reads i)) ∷ SetTo (over_at (suc i)) (gated (feed_over i)) ∷ SetTo (value_at (suc i)) (gated (Net (value_at i))) ∷ []
 
 abbrev pub age_sets : Bool → ℕ → ℕ → List Statement
 age_sets many w i =

@@ -9,12 +9,12 @@ pub returns : goal.returns
 returns c =
     told c.turning.result _ _
     (turned _ _ _ _ _ _ _ _ _ _ c.name.ensures
-    (c.of_element.ensures ∙ ap is_single (first_of _ _ _ nothing c.deref.ensures.0 c.args.plan.now.is_plan.ready.has_element c.index-deref-0.is))
+    (c.at_number.ensures ∙ ap is_single (first_of _ _ _ nothing c.deref.ensures.0 c.args.plan.now.is_plan.ready.has_element c.index-deref-0.is))
     (c.net.ensures ∙ ap Net c.name-2.ensures) (c.net-2.ensures ∙ ap Net c.name-3.ensures) (c.net-3.ensures ∙ ap Net c.name-4.ensures))
     c.turning.ensures
 
 pub bounds-deref-0 : goal.bounds-deref-0
 bounds-deref-0 c = subst (λ l. 0 < length l) (sym c.deref.ensures.0) c.args.plan.now.is_plan.ready.has_element
 
-pub of_element-requires : goal.of_element-requires
-of_element-requires c = first_has _ _ _ c.args.plan.now.is_plan.ready c.deref.ensures.0 c.index-deref-0.is
+pub at_number-requires-clause-some : goal.at_number-requires-clause-some
+at_number-requires-clause-some c = first_has _ _ _ c.args.plan.now.is_plan.ready c.deref.ensures.0 c.index-deref-0.is

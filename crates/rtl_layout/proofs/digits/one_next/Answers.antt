@@ -10,12 +10,12 @@ returns c =
     let p = seen c.args.plan.now in
     told c.turning.result _ _
     (turned _ _ _ _ _ _ _ _ _ _ c.name-2.ensures
-    (c.of_element-first.ensures ∙ ap L.begins_one (first_of _ _ _ nothing c.deref.ensures.0 c.args.plan.now.is_plan.ready.has_element c.index-deref-0.is))
+    (c.at_number-first.ensures ∙ ap L.begins_one (first_of _ _ _ nothing c.deref.ensures.0 c.args.plan.now.is_plan.ready.has_element c.index-deref-0.is))
     c.in_ok-next.ensures c.in_ok-again.ensures (c.in_ok-more.ensures ∙ ap (L.in_row p) c.name.ensures))
     c.turning.ensures
 
 pub bounds-deref-0 : goal.bounds-deref-0
 bounds-deref-0 c = subst (λ l. 0 < length l) (sym c.deref.ensures.0) c.args.plan.now.is_plan.ready.has_element
 
-pub of_element-first-requires : goal.of_element-first-requires
-of_element-first-requires c = first_has _ _ _ c.args.plan.now.is_plan.ready c.deref.ensures.0 c.index-deref-0.is
+pub at_number-first-requires-clause-some : goal.at_number-first-requires-clause-some
+at_number-first-requires-clause-some c = first_has _ _ _ c.args.plan.now.is_plan.ready c.deref.ensures.0 c.index-deref-0.is
