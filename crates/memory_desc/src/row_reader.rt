@@ -2,7 +2,7 @@
 
 ghost use Rattle.std.specs.Prelude.{◌≡◌, [], Some, MatchResult};
 ghost use Rattle.bist_text.specs.keyed.Reading.{took, stuck};
-ghost use Rattle.memory_desc.specs.inner.Heard.{next_term_of, row_from_of, row_of, term_of};
+ghost use Rattle.memory_desc.specs.inner.Heard.{next_term_of, row_of, term_of};
 ghost use Rattle.memory_desc.specs.inner.Seen.{plain_content};
 
 use crate::content::{Content, Term};
@@ -106,21 +106,6 @@ impl<'a> Iterator for Terms<'a> {
     }
 }
 
-/// The row of a bit, whose first term was read.
-fn row_from<'a>(bit: u32, first: Term, text: &'a [u8]) -> Read<'a, Content<'a>>
-    ensures { MatchResult result (λ r. row_from_of bit first text.now ≡ took (Some (plain_content r.0)) r.1.now) (λ left. row_from_of bit first text.now ≡ stuck left.now) }
-{
-    let mut left = text;
-    loop {
-        let (next, rest) = next_term(left)?;
-        let Some(_) = next else {
-            let next = Some(first);
-            return Ok((Content::Scramble(bit, Terms { next, left: text }), rest));
-        };
-        left = rest;
-    }
-}
-
 /// The row of a `scramble` line.
 pub fn row(text: &[u8]) -> Read<'_, Content<'_>>
     ensures { MatchResult result (λ r. row_of text.now ≡ took (Some (plain_content r.0)) r.1.now) (λ left. row_of text.now ≡ stuck left.now) }
@@ -128,6 +113,17 @@ pub fn row(text: &[u8]) -> Read<'_, Content<'_>>
     let ((), text) = byte(text, b'a')?;
     let (bit, text) = number(text)?;
     let ((), text) = byte(blanks(text), b'=')?;
-    let (first, text) = term(blanks(text))?;
-    row_from(bit, first, text)
+    let (first, further) = term(blanks(text))?;
+    let mut left = further;
+    loop {
+        let (next, rest) = next_term(left)?;
+        let Some(_) = next else {
+            let terms = Terms {
+                next: Some(first),
+                left: further,
+            };
+            return Ok((Content::Scramble(bit, terms), rest));
+        };
+        left = rest;
+    }
 }

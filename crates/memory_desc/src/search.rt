@@ -1,6 +1,6 @@
 //! Searches in the lines of a text.
 
-ghost use Rattle.std.specs.Prelude.{◌≡◌, ◌≤◌, ◌^◌, ◌||◌, nat_le, nat_lt, length, false, find, option_map};
+ghost use Rattle.std.specs.Prelude.{◌≡◌, ◌≤◌, ◌||◌, nat_lt, length, false, find, option_map};
 ghost use Rattle.std.specs.List.{list_any};
 ghost use Rattle.bist_text.specs.ReservedWords.{is_among, reserved_words};
 ghost use Rattle.bist_text.specs.Lines.{text_lines};
@@ -10,7 +10,7 @@ ghost use Rattle.memory_desc.specs.Subjects.{about, said};
 ghost use Rattle.memory_desc.specs.Table.{at_line, is_other, is_out_of_range, is_scrambled, is_term_too_wide, is_too_wide, missing, repeated};
 ghost use Rattle.memory_desc.specs.inner.Heard.{statements};
 ghost use Rattle.memory_desc.specs.inner.Met.{MayBeMet};
-ghost use Rattle.memory_desc.specs.inner.Seeking.{is_outside, is_sought, IsPosed};
+ghost use Rattle.memory_desc.specs.inner.Seeking.{is_sought, IsPosed};
 ghost use Rattle.memory_desc.specs.inner.Seen.{plain_content, plain_statement};
 
 use crate::content::{Content, Quantity, Statement, Subject, Term, subject_of};
@@ -117,12 +117,6 @@ pub fn check_repeats(bytes: &[u8]) -> Result<(), MemoryFault>
     Ok(())
 }
 
-fn is_outside(value: u32, least: u32, most: u32) -> bool
-    ensures { result ≡ is_outside value least most }
-{
-    value < least || value > most
-}
-
 /// Whether a name has more than 48 bytes or is a reserved word.
 pub fn is_name_outside(name: &[u8]) -> bool
     ensures { result ≡ (nat_lt 48 (length name.now) || is_among name.now reserved_words) }
@@ -136,21 +130,11 @@ fn is_out_of_range(content: &Content<'_>) -> bool
 {
     match content {
         Content::Name(name) => is_name_outside(name),
-        Content::Number(Quantity::Words, count) => is_outside(*count, 2, 65536),
-        Content::Number(Quantity::Bits, count) => is_outside(*count, 1, 64),
-        Content::Number(Quantity::Latency, cycles) => is_outside(*cycles, 1, 4),
-        Content::Number(Quantity::Pause, cycles) => is_outside(*cycles, 1, 65535),
+        Content::Number(Quantity::Words, count) => *count < 2 || *count > 65536,
+        Content::Number(Quantity::Bits, count) => *count < 1 || *count > 64,
+        Content::Number(Quantity::Latency, cycles) => *cycles < 1 || *cycles > 4,
+        Content::Number(Quantity::Pause, cycles) => *cycles < 1 || *cycles > 65535,
         _ => false,
-    }
-}
-
-/// Whether a term goes past the address.
-fn is_term_too_wide(term: Term, width: u8) -> bool
-    ensures { result ≡ is_term_too_wide width term }
-{
-    match term {
-        Term::IndexBit(bit) => bit >= u32::from(width),
-        Term::Constant(_) => false,
     }
 }
 
@@ -159,29 +143,20 @@ fn is_any_term_too_wide(terms: Terms<'_>, width: u8) -> bool
     ensures { result ≡ list_any (is_term_too_wide width) terms.entry }
 {
     for term in terms {
-        if is_term_too_wide(term, width) {
-            return true;
+        match term {
+            Term::IndexBit(bit) if bit >= u32::from(width) => return true,
+            _ => {}
         }
     }
     false
 }
 
-/// Whether a background or a polarity goes past the word.
-#[tactic(auto, using(crate::proofs::LineTests::past_ones))]
-fn is_word_too_wide(word: u64, bits: u8) -> bool
-    requires { (1 ≤ bits) × (bits ≤ 64) }
-    ensures { result ≡ nat_le (2 ^ bits) word }
-{
-    word > all_ones(bits)
-}
-
-/// Whether one of some words goes past the bits of a word.
-fn is_any_word_too_wide(words: Words<'_>, bits: u8) -> bool
-    requires { (1 ≤ bits) × (bits ≤ 64) }
-    ensures { result ≡ list_any (nat_le (2 ^ bits)) words.entry }
+/// Whether one of some words is past the greatest.
+fn is_any_past(words: Words<'_>, greatest: u64) -> bool
+    ensures { result ≡ list_any (nat_lt greatest) words.entry }
 {
     for word in words {
-        if is_word_too_wide(word, bits) {
+        if word > greatest {
             return true;
         }
     }
@@ -189,6 +164,7 @@ fn is_any_word_too_wide(words: Words<'_>, bits: u8) -> bool
 }
 
 /// Whether a row goes past the address, or a background or a polarity past the word.
+#[tactic(auto, using(crate::proofs::LineTests::past_ones, crate::proofs::LineTests::any_past))]
 fn is_too_wide(content: &Content<'_>, width: u8, bits: u8) -> bool
     requires { (1 ≤ bits) × (bits ≤ 64) }
     ensures { result ≡ is_too_wide width bits (plain_content content.now) }
@@ -197,8 +173,8 @@ fn is_too_wide(content: &Content<'_>, width: u8, bits: u8) -> bool
         Content::Scramble(bit, terms) => {
             *bit >= u32::from(width) || is_any_term_too_wide(terms.again(), width)
         }
-        Content::Polarity(word) => is_word_too_wide(*word, bits),
-        Content::Backgrounds(words) => is_any_word_too_wide(words.again(), bits),
+        Content::Polarity(word) => *word > all_ones(bits),
+        Content::Backgrounds(words) => is_any_past(words.again(), all_ones(bits)),
         _ => false,
     }
 }
