@@ -1,13 +1,13 @@
 //! Searches in the lines of a text.
 
-ghost use Rattle.std.specs.Prelude.{◌≡◌, ◌≤◌, ◌||◌, nat_lt, length, false, find, option_map};
+ghost use Rattle.std.specs.Prelude.{◌≡◌, ◌||◌, nat_lt, length, false, find, option_map};
 ghost use Rattle.std.specs.List.{list_any};
 ghost use Rattle.bist_text.specs.ReservedWords.{is_among, reserved_words};
 ghost use Rattle.bist_text.specs.Lines.{text_lines};
 ghost use Rattle.bist_text.specs.keyed.Texts.{checked};
 ghost use Rattle.memory_desc.specs.declared.fault.MemoryFault.TheVariants.{OutOfRange};
 ghost use Rattle.memory_desc.specs.Subjects.{about, said};
-ghost use Rattle.memory_desc.specs.Table.{at_line, is_other, is_out_of_range, is_scrambled, is_term_too_wide, is_too_wide, missing, repeated};
+ghost use Rattle.memory_desc.specs.Table.{at_line, is_other, is_term_too_wide, missing, repeated};
 ghost use Rattle.memory_desc.specs.inner.Heard.{statements};
 ghost use Rattle.memory_desc.specs.inner.Met.{MayBeMet};
 ghost use Rattle.memory_desc.specs.inner.Seeking.{is_sought, IsPosed};
@@ -35,20 +35,35 @@ pub enum Sought {
 }
 
 /// Whether a content line is sought.
+#[tactic(auto, using(crate::proofs::LineTests::past_ones, crate::proofs::LineTests::any_past))]
 fn is_sought(content: &Content<'_>, sought: Sought) -> bool
     requires { IsPosed sought }
     ensures { result ≡ is_sought sought (plain_content content.now) }
 {
     match sought {
         Sought::About(wanted) => subject_of(content) == wanted,
-        Sought::OutOfRange => is_out_of_range(content),
         Sought::Row => matches!(content, Content::Scramble(..)),
-        Sought::TooWide { width, bits } => is_too_wide(content, width, bits),
+        Sought::OutOfRange => match content {
+            Content::Name(name) => is_name_outside(name),
+            Content::Number(Quantity::Words, count) => *count < 2 || *count > 65536,
+            Content::Number(Quantity::Bits, count) => *count < 1 || *count > 64,
+            Content::Number(Quantity::Latency, cycles) => *cycles < 1 || *cycles > 4,
+            Content::Number(Quantity::Pause, cycles) => *cycles < 1 || *cycles > 65535,
+            _ => false,
+        },
+        Sought::TooWide { width, bits } => match content {
+            Content::Scramble(bit, terms) => {
+                *bit >= u32::from(width) || is_any_term_too_wide(terms.again(), width)
+            }
+            Content::Polarity(word) => *word > all_ones(bits),
+            Content::Backgrounds(words) => is_any_past(words.again(), all_ones(bits)),
+            _ => false,
+        },
     }
 }
 
 /// The first content line that is sought.
-fn first_line<'a>(bytes: &'a [u8], sought: Sought) -> Option<Statement<'a>>
+pub fn first_line<'a>(bytes: &'a [u8], sought: Sought) -> Option<Statement<'a>>
     requires { IsPosed sought }
     ensures { option_map plain_statement result ≡ find (λ s. is_sought sought s.content) (statements (text_lines bytes.now)) }
 {
@@ -124,20 +139,6 @@ pub fn is_name_outside(name: &[u8]) -> bool
     name.len() > 48 || is_reserved(name)
 }
 
-/// Whether the name, the number of words or of bits, the latency or the pause of a line is outside its range.
-fn is_out_of_range(content: &Content<'_>) -> bool
-    ensures { result ≡ is_out_of_range (plain_content content.now) }
-{
-    match content {
-        Content::Name(name) => is_name_outside(name),
-        Content::Number(Quantity::Words, count) => *count < 2 || *count > 65536,
-        Content::Number(Quantity::Bits, count) => *count < 1 || *count > 64,
-        Content::Number(Quantity::Latency, cycles) => *cycles < 1 || *cycles > 4,
-        Content::Number(Quantity::Pause, cycles) => *cycles < 1 || *cycles > 65535,
-        _ => false,
-    }
-}
-
 /// Whether one of some terms goes past the address.
 fn is_any_term_too_wide(terms: Terms<'_>, width: u8) -> bool
     ensures { result ≡ list_any (is_term_too_wide width) terms.entry }
@@ -163,22 +164,6 @@ fn is_any_past(words: Words<'_>, greatest: u64) -> bool
     false
 }
 
-/// Whether a row goes past the address, or a background or a polarity past the word.
-#[tactic(auto, using(crate::proofs::LineTests::past_ones, crate::proofs::LineTests::any_past))]
-fn is_too_wide(content: &Content<'_>, width: u8, bits: u8) -> bool
-    requires { (1 ≤ bits) × (bits ≤ 64) }
-    ensures { result ≡ is_too_wide width bits (plain_content content.now) }
-{
-    match content {
-        Content::Scramble(bit, terms) => {
-            *bit >= u32::from(width) || is_any_term_too_wide(terms.again(), width)
-        }
-        Content::Polarity(word) => *word > all_ones(bits),
-        Content::Backgrounds(words) => is_any_past(words.again(), all_ones(bits)),
-        _ => false,
-    }
-}
-
 /// No content line is sought, else the first is out of its range.
 pub fn check_none(bytes: &[u8], sought: Sought) -> Result<(), MemoryFault>
     requires { IsPosed sought }
@@ -190,11 +175,4 @@ pub fn check_none(bytes: &[u8], sought: Sought) -> Result<(), MemoryFault>
         }),
         None => Ok(()),
     }
-}
-
-/// Whether there is a row.
-pub fn is_scrambled(bytes: &[u8]) -> bool
-    ensures { result ≡ is_scrambled (statements (text_lines bytes.now)) }
-{
-    first_line(bytes, Sought::Row).is_some()
 }
