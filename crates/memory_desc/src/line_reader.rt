@@ -39,10 +39,12 @@ fn keys_of(given: Option<Version>) -> &'static [Keyword<Key>]
     }
 }
 
-/// What stands behind a first word and blanks.
-fn argument<'a>(text: &'a [u8], key: Key) -> Read<'a, Content<'a>>
-    ensures { MatchResult result (λ r. argument_of key text.now ≡ took (Some (plain_content r.0)) r.1.now) (λ left. argument_of key text.now ≡ stuck left.now) }
+/// A content line.
+fn keyed<'a>(text: &'a [u8], given: Option<Version>) -> Read<'a, Content<'a>>
+    ensures { MatchResult result (λ r. keyed_of (keys_of given) argument_of text.now ≡ took (Some (plain_content r.0)) r.1.now) (λ left. keyed_of (keys_of given) argument_of text.now ≡ stuck left.now) }
 {
+    let (key, text) = key(text, keys_of(given))?;
+    let ((), text) = gap(text)?;
     let quantity = match key {
         Key::Memory => Quantity::Version,
         Key::Words => Quantity::Words,
@@ -62,15 +64,6 @@ fn argument<'a>(text: &'a [u8], key: Key) -> Read<'a, Content<'a>>
     };
     let (number, text) = number(text)?;
     ended(text, Content::Number(quantity, number))
-}
-
-/// A content line.
-fn keyed<'a>(text: &'a [u8], given: Option<Version>) -> Read<'a, Content<'a>>
-    ensures { MatchResult result (λ r. keyed_of (keys_of given) argument_of text.now ≡ took (Some (plain_content r.0)) r.1.now) (λ left. keyed_of (keys_of given) argument_of text.now ≡ stuck left.now) }
-{
-    let (key, text) = key(text, keys_of(given))?;
-    let ((), text) = gap(text)?;
-    argument(text, key)
 }
 
 /// What a line says, or None where it has no content. Before a version is known only a `memory` line may stand.

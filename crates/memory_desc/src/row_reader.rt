@@ -15,19 +15,13 @@ fn term(text: &[u8]) -> Read<'_, Term>
     ensures { MatchResult result (λ r. term_of text.now ≡ took r.0 r.1.now) (λ left. term_of text.now ≡ stuck left.now) }
 {
     match text {
-        [] => Err(text),
-        [first, rest @ ..] => {
-            if *first == b'p' {
-                let (bit, rest) = number(rest)?;
-                Ok((Term::IndexBit(bit), rest))
-            } else if *first == b'0' {
-                Ok((Term::Constant(false), rest))
-            } else if *first == b'1' {
-                Ok((Term::Constant(true), rest))
-            } else {
-                Err(text)
-            }
+        [b'p', rest @ ..] => {
+            let (bit, rest) = number(rest)?;
+            Ok((Term::IndexBit(bit), rest))
         }
+        [b'0', rest @ ..] => Ok((Term::Constant(false), rest)),
+        [b'1', rest @ ..] => Ok((Term::Constant(true), rest)),
+        _ => Err(text),
     }
 }
 
