@@ -1,6 +1,6 @@
 ghost use Rattle.std.specs.Prelude.{◌≡◌, ◌<◌, ◌≤◌, if◌then◌else◌, length, map};
 ghost use Rattle.std.specs.List.{range_with_len};
-ghost use Rattle.word_device.specs.Chips.{words_after, reply_to, words_paused, closed_by};
+ghost use Rattle.word_device.specs.Chips.{words_after, reply_to};
 ghost use Rattle.word_device.specs.Ports.{addressed, acted_at, answer_at, rested, idle_more};
 ghost use Rattle.word_device.specs.Boxes.{IsShape, FitsPlanted, pattern};
 ghost use Rattle.word_device.specs.WayBack.{IsWayBack};
@@ -82,26 +82,6 @@ fn operate(planted: &Option<Planted>, words: &mut [u64], op: WordOp) -> u64
     }
 }
 
-/// A pause of the words.
-fn pause_by(planted: &Option<Planted>, words: &mut [u64])
-    requires { FitsPlanted planted.now (length words.old) 64 }
-    ensures { words.new ≡ words_paused planted.now words.old }
-{
-    if let Some(instance) = planted {
-        pause(instance, words);
-    }
-}
-
-/// Closes the words, where an instance is planted.
-fn close_by(planted: &Option<Planted>, words: &mut [u64])
-    requires { FitsPlanted planted.now (length words.old) 64 }
-    ensures { words.new ≡ closed_by planted.now words.old }
-{
-    if let Some(instance) = planted {
-        close(instance, words);
-    }
-}
-
 /// The words that a number stands for.
 fn fill_words(words: &mut [u64], number: u64, bits: u8)
     requires { (1 ≤ bits) × (bits ≤ 64) }
@@ -151,7 +131,9 @@ fn rest(shape: &Shape, planted: &Option<Planted>, words: &mut [u64], idle: u32) 
         shape.pause
     };
     if count == shape.pause {
-        pause_by(planted, words);
+        if let Some(instance) = planted {
+            pause(instance, words);
+        }
     }
     count
 }
@@ -199,7 +181,9 @@ impl Device for ArrayDevice {
             return;
         };
         fill_words(&mut self.words, number, shape.bits);
-        close_by(&self.planted, &mut self.words);
+        if let Some(instance) = &self.planted {
+            close(instance, &mut self.words);
+        }
     }
 
     fn cycle(&mut self, cmd: &PortCmd) -> u64 {
