@@ -17,7 +17,7 @@ use crate::fault::{Field, MemoryFault};
 use crate::lines::check_lines;
 use crate::memory::Memory;
 use crate::search::{Sought, check_none, check_repeats, check_there, first_line};
-use crate::values::{name_said, number_said, polarity_said};
+use crate::values::{name_said, number_said};
 use arrayvec::ArrayString;
 use bist_bits::width_of;
 use bist_text::keyed_lines::TextFault;
@@ -61,7 +61,7 @@ fn described(bytes: &[u8]) -> Result<Memory, MemoryFault>
     ensures { Describes (statements (text_lines bytes.now)) result }
 {
     check_fields(bytes)?;
-    let words = number_said(bytes, Subject::Words, 0);
+    let words = number_said(bytes, Subject::Words, 0) as u32;
     let bits = number_said(bytes, Subject::Bits, 0) as u8;
     let width = width_of(u64::from(words - 1));
     let scrambled = first_line(bytes, Sought::Row).is_some();
@@ -70,13 +70,14 @@ fn described(bytes: &[u8]) -> Result<Memory, MemoryFault>
     let scramble = scramble_from(bytes, scrambled, width)?;
     let backgrounds = backgrounds_from(bytes, bits)?;
     let latency = number_said(bytes, Subject::Latency, 1) as u8;
+    let pause = number_said(bytes, Subject::Pause, 1) as u32;
     Ok(Memory {
         name: name_from(name_said(bytes)),
         words,
         bits,
         latency,
-        polarity: polarity_said(bytes),
-        pause: number_said(bytes, Subject::Pause, 1),
+        polarity: number_said(bytes, Subject::Polarity, 0),
+        pause,
         scramble,
         backgrounds,
     })

@@ -7,9 +7,8 @@ ghost use Rattle.bist_text.specs.Lines.{text_lines};
 ghost use Rattle.bist_text.specs.keyed.Texts.{checked};
 ghost use Rattle.memory_desc.specs.declared.fault.MemoryFault.TheVariants.{OutOfRange};
 ghost use Rattle.memory_desc.specs.Subjects.{about, said};
-ghost use Rattle.memory_desc.specs.Table.{at_line, is_other, is_term_too_wide, missing, repeated};
+ghost use Rattle.memory_desc.specs.Table.{at_line, is_term_too_wide, missing, repeated};
 ghost use Rattle.memory_desc.specs.inner.Heard.{statements};
-ghost use Rattle.memory_desc.specs.inner.Met.{MayBeMet};
 ghost use Rattle.memory_desc.specs.inner.Seeking.{is_sought, IsPosed};
 ghost use Rattle.memory_desc.specs.inner.Seen.{plain_content, plain_statement};
 
@@ -99,22 +98,6 @@ pub fn check_there(bytes: &[u8], wanted: Subject, field: Field) -> Result<(), Me
     }
 }
 
-/// Whether an earlier line than this one speaks of the same, where the numbers of the earlier rows were met.
-fn is_repeat(bytes: &[u8], line: usize, subject: Subject, met: &mut RowNumbers) -> bool
-    ensures repeat { ((MayBeMet met.old.numbers.items subject → ⊥) → is_other line (about subject (statements (text_lines bytes.now))) ≡ false)
-        → result ≡ is_other line (about subject (statements (text_lines bytes.now))) }
-    ensures kept { MayBeMet met.new.numbers.items subject }
-    ensures stay { (q : Subject) → MayBeMet met.old.numbers.items q → MayBeMet met.new.numbers.items q }
-{
-    if met.is_new(subject) {
-        return false;
-    }
-    match first_line(bytes, Sought::About(subject)) {
-        Some(first) => first.line != line,
-        None => false,
-    }
-}
-
 /// No line may speak of what an earlier one speaks of.
 #[tactic(auto, using(crate::proofs::Repeats::passing_begun))]
 pub fn check_repeats(bytes: &[u8]) -> Result<(), MemoryFault>
@@ -125,7 +108,14 @@ pub fn check_repeats(bytes: &[u8]) -> Result<(), MemoryFault>
         let Some(content) = said(line.text) else {
             continue;
         };
-        if is_repeat(bytes, line.number, subject_of(&content), &mut met) {
+        let subject = subject_of(&content);
+        if met.is_new(subject) {
+            continue;
+        }
+        let Some(first) = first_line(bytes, Sought::About(subject)) else {
+            continue;
+        };
+        if first.line != line.number {
             return Err(MemoryFault::Repeated { line: line.number });
         }
     }

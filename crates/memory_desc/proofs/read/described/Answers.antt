@@ -3,7 +3,7 @@ use Rattle.memory_desc.specs.inner.Heard.{statements}
 use Rattle.memory_desc.specs.Described.{AreOfMemory}
 use Rattle.memory_desc.proofs.Built.{are_sized, backgrounds_refused, is_memory, of_memory, power_refused, same_memory, scrambling_refused, sized_bits, sized_words, width_refused}
 use Rattle.memory_desc.proofs.Parts.{width_small}
-use Rattle.memory_desc.proofs.Within.{any_found, bits_are, latency_inside, latency_is, named, pause_is, words_are}
+use Rattle.memory_desc.proofs.Within.{any_found, bits_are, latency_inside, latency_is, named, pause_inside, pause_is, polarity_is, words_are}
 use Rattle.memory_desc.proofs.read.described.Goals as goal
 
 pub overflow_sub-words : goal.overflow_sub-words
@@ -82,7 +82,7 @@ invariant_of-result c =
     let s = c.in_ok-scramble in
     let power = c.in_ok-check_power_of_two.ensures ss (c.is_some-scrambled.ensures ∙ any_found plain_statement (λ s. is_row s.content) ss c.first_line.result c.first_line.ensures) (c.number_said-words.ensures ∙ words_are ss) in
     subst IsMemory (sym (same_memory ss s.scramble c.in_ok-backgrounds.backgrounds.items (c.name_from.ensures ∙ c.name_said.ensures)
-    (c.number_said-words.ensures ∙ words_are ss) (c.number_said-bits.ensures ∙ bits_are ss) (c.number_said-latency.ensures ∙ latency_is ss) c.polarity_said.ensures (c.number_said.ensures ∙ pause_is ss)))
+    (c.number_said-words.ensures ∙ words_are ss) (c.number_said-bits.ensures ∙ bits_are ss) (c.number_said-latency.ensures ∙ latency_is ss) (c.number_said.ensures ∙ polarity_is ss) (c.number_said-pause.ensures ∙ pause_is ss)))
     (is_memory ss (passed (unsized ss) c.in_ok-check_fields.ensures) (c.number_said-words.ensures ∙ words_are ss) (c.number_said-bits.ensures ∙ bits_are ss) c.from.ensures c.width_of-width.ensures.width power c.in_ok-check_none.ensures s.scramble s.ensures.gives c.in_ok-backgrounds.backgrounds.items
     c.in_ok-backgrounds.ensures (named ls f.in_range f.has_name) s.ensures.width s.ensures.full s.ensures.invertible)
 
@@ -93,7 +93,7 @@ returns c =
     let power = c.in_ok-check_power_of_two.ensures ss (c.is_some-scrambled.ensures ∙ any_found plain_statement (λ s. is_row s.content) ss c.first_line.result c.first_line.ensures) (c.number_said-words.ensures ∙ words_are ss) in
     subst (AreOfMemory ss)
     (sym (same_memory ss s.scramble c.in_ok-backgrounds.backgrounds.items (c.name_from.ensures ∙ c.name_said.ensures)
-    (c.number_said-words.ensures ∙ words_are ss) (c.number_said-bits.ensures ∙ bits_are ss) (c.number_said-latency.ensures ∙ latency_is ss) c.polarity_said.ensures (c.number_said.ensures ∙ pause_is ss)))
+    (c.number_said-words.ensures ∙ words_are ss) (c.number_said-bits.ensures ∙ bits_are ss) (c.number_said-latency.ensures ∙ latency_is ss) (c.number_said.ensures ∙ polarity_is ss) (c.number_said-pause.ensures ∙ pause_is ss)))
     (of_memory ss (passed (unsized ss) c.in_ok-check_fields.ensures) (c.number_said-words.ensures ∙ words_are ss) (c.number_said-bits.ensures ∙ bits_are ss) c.from.ensures c.width_of-width.ensures.width power c.in_ok-check_none.ensures s.scramble s.ensures.gives c.in_ok-backgrounds.backgrounds.items
     c.in_ok-backgrounds.ensures)
 
@@ -110,3 +110,16 @@ overflow_cast-bits c =
 pub scramble_from-requires-clause-rows : goal.scramble_from-requires-clause-rows
 scramble_from-requires-clause-rows c =
     let ss = statements (text_lines c.args.bytes.now) in c.is_some-scrambled.ensures ∙ any_found plain_statement (λ s. is_row s.content) ss c.first_line.result c.first_line.ensures
+
+pub overflow_cast-words : goal.overflow_cast-words
+overflow_cast-words c =
+    let ss = statements (text_lines c.args.bytes.now) in
+    let few = (sized_words ss (passed (unsized ss) c.in_ok-check_fields.ensures) (c.number_said-words.ensures ∙ words_are ss)).1 in
+    omega arith
+
+pub overflow_cast-pause : goal.overflow_cast-pause
+overflow_cast-pause c =
+    let ss = statements (text_lines c.args.bytes.now) in
+    let small = (pause_inside ss (are_sized ss (passed (unsized ss) c.in_ok-check_fields.ensures)).in_range).1 in
+    let same = c.number_said-pause.ensures ∙ pause_is ss in
+    omega arith
