@@ -14,7 +14,6 @@ use crate::way_back::WayBack;
 use arrayvec::ArrayVec;
 use std::alloc::Global;
 use std::marker::Model;
-use word_march::WordOp;
 
 /// A memory of words that tells its chip. A word takes 8 bytes.
 #[derive(Drop)]
@@ -68,20 +67,6 @@ impl ArrayDevice {
     }
 }
 
-/// One operation on the words.
-#[tactic(auto, unfolding(crate::specs::Chips::words_after, crate::specs::Chips::reply_to))]
-fn operate(planted: &Option<Planted>, words: &mut [u64], op: WordOp) -> u64
-    requires fits { FitsPlanted planted.now (length words.old) 64 }
-    requires within { op.index < length words.old }
-    ensures words { words.new ≡ words_after planted.now words.old op }
-    ensures reply { result ≡ reply_to planted.now words.old op }
-{
-    match planted {
-        Some(instance) => operate_planted(instance, words, op),
-        None => do_plainly(words, op),
-    }
-}
-
 /// The words that a number stands for.
 fn fill_words(words: &mut [u64], number: u64, bits: u8)
     requires { (1 ≤ bits) × (bits ≤ 64) }
@@ -94,6 +79,7 @@ fn fill_words(words: &mut [u64], number: u64, bits: u8)
 }
 
 /// A command that is enabled: its own answer.
+#[tactic(auto, unfolding(crate::specs::Chips::words_after, crate::specs::Chips::reply_to))]
 fn act(
     shape: &Shape,
     way: &WayBack,
@@ -108,13 +94,15 @@ fn act(
     ensures words { words.new ≡ acted_at shape.now planted.now words.old cmd.now (addressed shape.now cmd.now.addr) }
     ensures answer { result ≡ answer_at shape.now planted.now words.old cmd.now (addressed shape.now cmd.now.addr) }
 {
-    match addressed(shape, way, cmd.addr) {
-        Some(index) => {
-            let op = stored_op(shape, cmd, index);
-            shown(cmd.we, shape.polarity, operate(planted, words, op))
-        }
-        None => 0,
-    }
+    let Some(index) = addressed(shape, way, cmd.addr) else {
+        return 0;
+    };
+    let op = stored_op(shape, cmd, index);
+    let word = match planted {
+        Some(instance) => operate_planted(instance, words, op),
+        None => do_plainly(words, op),
+    };
+    shown(cmd.we, shape.polarity, word)
 }
 
 /// An idle cycle behind so many others: how many they are then, up to the pause.

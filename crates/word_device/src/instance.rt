@@ -2,12 +2,12 @@ ghost use Rattle.std.specs.Prelude.{◌≡◌, ◌<◌, ◌↔◌, if◌then◌e
 ghost use Rattle.fault_core.specs.Primitive.{has_aggressor};
 ghost use Rattle.fault_core.specs.Cells.{has_act};
 ghost use Rattle.word_device.specs.Boxes.{FitsBox};
-ghost use Rattle.word_device.specs.Chips.{bit_in, with_bit_in, agg_bit_holds, bits_hold, closed_words, paused_words, falls_on, falls_on_agg, matches, plain_words, plain_reply, words_after, reply_to, FitsMemory, FitsAggPlace};
+ghost use Rattle.word_device.specs.Chips.{bit_in, with_bit_in, bits_hold, closed_words, paused_words, falls_on, matches, plain_words, plain_reply, words_after, reply_to, FitsMemory};
 
 use crate::bits::{has_bit, with_bit};
 use crate::device::{DeviceFault, Place, Planted};
 use crate::shape::Shape;
-use fault_core::{Act, Prim, Sense};
+use fault_core::{Act, Prim};
 use word_march::WordOp;
 
 fn bit_in(words: &[u64], at: Place) -> bool
@@ -26,24 +26,18 @@ fn set_bit(words: &mut [u64], at: Place, bit: bool)
     words[at.word as usize] = with_bit(words[at.word as usize], at.bit, bit);
 }
 
-/// Whether the aggressor's bit holds its state.
-fn does_agg_hold(agg: Option<Sense>, place: Option<Place>, vic: Place, words: &[u64]) -> bool
-    requires { FitsAggPlace agg place vic (length words.now) 64 }
-    ensures { result ≡ agg_bit_holds agg place words.now }
-{
-    match (agg, place) {
-        (Some(sense), Some(at)) => bit_in(words, at) == sense.state,
-        _ => true,
-    }
-}
-
 /// Whether every state of the instance holds.
 fn do_states_hold(planted: &Planted, words: &[u64]) -> bool
     requires { FitsMemory planted.now (length words.now) 64 }
     ensures { result ≡ bits_hold planted.now words.now }
 {
-    bit_in(words, planted.vic) == planted.prim.vic().state
-        && does_agg_hold(planted.prim.agg(), planted.agg, planted.vic, words)
+    if bit_in(words, planted.vic) != planted.prim.vic().state {
+        return false;
+    }
+    match (planted.prim.agg(), planted.agg) {
+        (Some(sense), Some(at)) => bit_in(words, at) == sense.state,
+        _ => true,
+    }
 }
 
 fn has_any_act(prim: &Prim) -> bool
@@ -101,30 +95,17 @@ fn does_fall_on(act: Option<Act>, at: Place, op: WordOp) -> bool
     at.word == op.index && act == Some(done)
 }
 
-fn does_fall_on_agg(
-    agg: Option<Sense>,
-    place: Option<Place>,
-    vic: Place,
-    words: &[u64],
-    op: WordOp,
-) -> bool
-    requires { FitsAggPlace agg place vic (length words.now) 64 }
-    ensures { result ≡ falls_on_agg agg place op }
-{
-    match (agg, place) {
-        (Some(sense), Some(at)) => does_fall_on(sense.act, at, op),
-        _ => false,
-    }
-}
-
 /// Whether the operation is the act of the instance, on words where its states hold.
 #[tactic(auto, unfolding(crate::specs::Chips::matches))]
 fn does_match(planted: &Planted, words: &[u64], op: WordOp) -> bool
     requires { FitsMemory planted.now (length words.now) 64 }
     ensures { result ≡ matches planted.now words.now op }
 {
-    (does_fall_on(planted.prim.vic().act, planted.vic, op)
-        || does_fall_on_agg(planted.prim.agg(), planted.agg, planted.vic, words, op))
+    let falls_on_agg = match (planted.prim.agg(), planted.agg) {
+        (Some(sense), Some(at)) => does_fall_on(sense.act, at, op),
+        _ => false,
+    };
+    (falls_on_agg || does_fall_on(planted.prim.vic().act, planted.vic, op))
         && do_states_hold(planted, words)
 }
 
