@@ -89,7 +89,9 @@ impl<'a> Iterator for Terms<'a> {
     ghost remaining = { item_count (λ s. s) };
 
     fn next(&mut self) -> Option<Term> {
-        let term = self.next?;
+        let Some(term) = self.next else {
+            return None;
+        };
         if let Ok((Some(next), left)) = next_term(self.left) {
             self.next = Some(next);
             self.left = left;

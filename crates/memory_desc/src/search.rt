@@ -84,8 +84,10 @@ pub fn first_line<'a>(bytes: &'a [u8], sought: Sought) -> Option<Statement<'a>>
 pub fn content_about<'a>(bytes: &'a [u8], wanted: Subject) -> Option<Content<'a>>
     ensures { option_map plain_content result ≡ said wanted (statements (text_lines bytes.now)) }
 {
-    let statement = first_line(bytes, Sought::About(wanted))?;
-    Some(statement.content)
+    match first_line(bytes, Sought::About(wanted)) {
+        Some(statement) => Some(statement.content),
+        None => None,
+    }
 }
 
 /// A field must be there.

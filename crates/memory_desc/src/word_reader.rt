@@ -75,7 +75,9 @@ impl<'a> Iterator for Words<'a> {
     ghost remaining = { item_count (λ s. s) };
 
     fn next(&mut self) -> Option<u64> {
-        let word = self.next?;
+        let Some(word) = self.next else {
+            return None;
+        };
         if let Ok((Some(next), left)) = next_word(self.left) {
             self.next = Some(next);
             self.left = left;
