@@ -1,9 +1,9 @@
 //! Searches in the lines of a text.
 
-ghost use Rattle.std.specs.Prelude.{◌≡◌, ◌||◌, nat_lt, length, option_map, find};
+ghost use Rattle.std.specs.Prelude.{◌≡◌, ◌||◌, option_map, find};
 ghost use Rattle.bist_text.specs.Lines.{text_lines};
 ghost use Rattle.bist_text.specs.keyed.Texts.{checked};
-ghost use Rattle.chip_desc.specs.ChipTable.{at_line, first_of, is_heavier, is_out_of_range, is_outside, is_repeat};
+ghost use Rattle.chip_desc.specs.ChipTable.{at_line, first_of, is_out_of_range, is_outside, is_repeat};
 ghost use Rattle.chip_desc.specs.inner.Heard.{plain_content, plain_statement, statements};
 ghost use Rattle.chip_desc.specs.inner.Seeking.{fault_of, is_sought, line_of, GivesField};
 
@@ -68,7 +68,10 @@ fn is_sought(bytes: &[u8], statement: &Statement<'_>, sought: Sought) -> bool
     match sought {
         Sought::Repeat => is_repeat(bytes, statement),
         Sought::OutOfRange => is_out_of_range(&statement.content),
-        Sought::Heavier(budget) => is_heavier(&statement.content, budget),
+        Sought::Heavier(most) => match &statement.content {
+            Content::Unit(unit) => unit.weight > most,
+            Content::Version(_) | Content::Name(_) | Content::Budget(_) => false,
+        },
     }
 }
 
@@ -92,12 +95,6 @@ fn is_outside(value: u32) -> bool
     value < 1 || value > 1_000_000
 }
 
-fn is_unit_outside(unit: &UnitLine<'_>) -> bool
-    ensures { result ≡ (is_outside unit.now.weight || nat_lt 255 (length unit.now.march.now) || nat_lt 255 (length unit.now.memory.now)) }
-{
-    is_outside(unit.weight) || unit.march.len() > 255 || unit.memory.len() > 255
-}
-
 /// Whether the name, the budget, the weight or the name of a file of a line is outside its range.
 fn is_out_of_range(content: &Content<'_>) -> bool
     ensures { result ≡ is_out_of_range (plain_content content.now) }
@@ -106,17 +103,9 @@ fn is_out_of_range(content: &Content<'_>) -> bool
         Content::Version(_) => false,
         Content::Name(name) => is_name_outside(name),
         Content::Budget(most) => is_outside(*most),
-        Content::Unit(unit) => is_unit_outside(unit),
-    }
-}
-
-/// Whether a line is that of a unit that weighs more.
-fn is_heavier(content: &Content<'_>, most: u32) -> bool
-    ensures { result ≡ is_heavier most (plain_content content.now) }
-{
-    match content {
-        Content::Unit(unit) => unit.weight > most,
-        Content::Version(_) | Content::Name(_) | Content::Budget(_) => false,
+        Content::Unit(unit) => {
+            is_outside(unit.weight) || unit.march.len() > 255 || unit.memory.len() > 255
+        }
     }
 }
 
