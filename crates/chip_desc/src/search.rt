@@ -3,8 +3,8 @@
 ghost use Rattle.std.specs.Prelude.{◌≡◌, ◌||◌, option_map, find};
 ghost use Rattle.bist_text.specs.Lines.{text_lines};
 ghost use Rattle.bist_text.specs.keyed.Texts.{checked};
-ghost use Rattle.chip_desc.specs.ChipTable.{at_line, first_of, is_out_of_range, is_outside, is_repeat};
-ghost use Rattle.chip_desc.specs.inner.Heard.{plain_content, plain_statement, statements};
+ghost use Rattle.chip_desc.specs.ChipTable.{at_line, first_of, is_outside, is_repeat};
+ghost use Rattle.chip_desc.specs.inner.Heard.{plain_statement, statements};
 ghost use Rattle.chip_desc.specs.inner.Seeking.{fault_of, is_sought, line_of, GivesField};
 
 use crate::content::{Content, Key, Statement, UnitLine, kind_of};
@@ -67,7 +67,14 @@ fn is_sought(bytes: &[u8], statement: &Statement<'_>, sought: Sought) -> bool
 {
     match sought {
         Sought::Repeat => is_repeat(bytes, statement),
-        Sought::OutOfRange => is_out_of_range(&statement.content),
+        Sought::OutOfRange => match &statement.content {
+            Content::Version(_) => false,
+            Content::Name(name) => is_name_outside(name),
+            Content::Budget(most) => is_outside(*most),
+            Content::Unit(unit) => {
+                is_outside(unit.weight) || unit.march.len() > 255 || unit.memory.len() > 255
+            }
+        },
         Sought::Heavier(most) => match &statement.content {
             Content::Unit(unit) => unit.weight > most,
             Content::Version(_) | Content::Name(_) | Content::Budget(_) => false,
@@ -93,20 +100,6 @@ fn is_outside(value: u32) -> bool
     ensures { result ≡ is_outside value }
 {
     value < 1 || value > 1_000_000
-}
-
-/// Whether the name, the budget, the weight or the name of a file of a line is outside its range.
-fn is_out_of_range(content: &Content<'_>) -> bool
-    ensures { result ≡ is_out_of_range (plain_content content.now) }
-{
-    match content {
-        Content::Version(_) => false,
-        Content::Name(name) => is_name_outside(name),
-        Content::Budget(most) => is_outside(*most),
-        Content::Unit(unit) => {
-            is_outside(unit.weight) || unit.march.len() > 255 || unit.memory.len() > 255
-        }
-    }
 }
 
 /// The line of a field that must be there.
