@@ -109,23 +109,16 @@ pub fn field<'a>(bytes: &'a [u8], wanted: Key, field: ChipField) -> Result<State
     first_of(bytes, wanted).ok_or(ChipFault::Missing { field })
 }
 
-/// The refusal of a line that is sought.
-fn fault_of(sought: Sought, line: usize) -> ChipFault
-    ensures { result ≡ fault_of sought line }
-{
-    match sought {
-        Sought::Repeat => ChipFault::Repeated { line },
-        Sought::OutOfRange => ChipFault::OutOfRange { line },
-        Sought::Heavier(_) => ChipFault::TooHeavy { line },
-    }
-}
-
 /// No line is sought, else the first is refused.
 pub fn check_none(bytes: &[u8], sought: Sought) -> Result<(), ChipFault>
     ensures { result ≡ checked (at_line (fault_of sought) (find (is_sought sought (statements (text_lines bytes.now))) (statements (text_lines bytes.now)))) }
 {
-    match first_line(bytes, sought) {
-        Some(line) => Err(fault_of(sought, line)),
-        None => Ok(()),
-    }
+    let Some(line) = first_line(bytes, sought) else {
+        return Ok(());
+    };
+    Err(match sought {
+        Sought::Repeat => ChipFault::Repeated { line },
+        Sought::OutOfRange => ChipFault::OutOfRange { line },
+        Sought::Heavier(_) => ChipFault::TooHeavy { line },
+    })
 }
