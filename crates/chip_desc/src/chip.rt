@@ -1,5 +1,5 @@
-ghost use Rattle.std.specs.Prelude.{◌≡◌, ◌≤◌, length, map};
-ghost use Rattle.chip_desc.specs.Chips.{ChipDescription, IsChip, described_as, unit_of};
+ghost use Rattle.std.specs.Prelude.{◌≡◌, map};
+ghost use Rattle.chip_desc.specs.Chips.{IsChip, unit_of};
 
 use arrayvec::{ArrayString, ArrayVec};
 use std::marker::Model;
@@ -18,9 +18,9 @@ pub struct ChipUnit {
 /// A chip: its name, the budget of its tests, and its memories. It has some nine kilobytes.
 #[derive(Drop)]
 pub struct ChipDesc {
-    name: ArrayString<48>,
-    budget: u32,
-    units: ArrayVec<ChipUnit, 16>,
+    pub(crate) name: ArrayString<48>,
+    pub(crate) budget: u32,
+    pub(crate) units: ArrayVec<ChipUnit, 16>,
 }
 
 impl Model for ChipDesc {
@@ -34,17 +34,6 @@ impl Model for ChipDesc {
 }
 
 impl ChipDesc {
-    pub(crate) fn new(name: ArrayString<48>, budget: u32, units: ArrayVec<ChipUnit, 16>) -> ChipDesc
-        requires { IsChip (described_as name.bytes budget units.items) }
-        ensures { result ≡ described_as name.bytes budget units.items }
-    {
-        ChipDesc {
-            name,
-            budget,
-            units,
-        }
-    }
-
     /// The chip's name: a simple identifier of Verilog of at most 48 bytes.
     pub fn name(&self) -> &str
         ensures value { result.now ≡ self.now.name }

@@ -46,10 +46,12 @@ fn unit<'a>(text: &'a [u8]) -> Read<'a, Content<'a>>
     ended(text, Content::Unit(line))
 }
 
-/// What stands behind a first word and blanks.
-fn argument<'a>(text: &'a [u8], key: Key) -> Read<'a, Content<'a>>
-    ensures { MatchResult result (λ r. argument_of key text.now ≡ took (Some (plain_content r.0)) r.1.now) (λ left. argument_of key text.now ≡ stuck left.now) }
+/// A content line.
+fn keyed<'a>(text: &'a [u8], given: Option<Version>) -> Read<'a, Content<'a>>
+    ensures { MatchResult result (λ r. keyed_of (keys_of given) argument_of text.now ≡ took (Some (plain_content r.0)) r.1.now) (λ left. keyed_of (keys_of given) argument_of text.now ≡ stuck left.now) }
 {
+    let (key, text) = key(text, keys_of(given))?;
+    let ((), text) = gap(text)?;
     match key {
         Key::Chip => {
             let (number, text) = number(text)?;
@@ -65,15 +67,6 @@ fn argument<'a>(text: &'a [u8], key: Key) -> Read<'a, Content<'a>>
         }
         Key::Unit => unit(text),
     }
-}
-
-/// A content line.
-fn keyed<'a>(text: &'a [u8], given: Option<Version>) -> Read<'a, Content<'a>>
-    ensures { MatchResult result (λ r. keyed_of (keys_of given) argument_of text.now ≡ took (Some (plain_content r.0)) r.1.now) (λ left. keyed_of (keys_of given) argument_of text.now ≡ stuck left.now) }
-{
-    let (key, text) = key(text, keys_of(given))?;
-    let ((), text) = gap(text)?;
-    argument(text, key)
 }
 
 /// What a line says, or None where it has no content. Before there was a `chip` line only one may stand.

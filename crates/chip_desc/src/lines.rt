@@ -3,30 +3,20 @@
 ghost use Rattle.std.specs.Prelude.{◌≡◌, None, Some};
 ghost use Rattle.bist_text.specs.Lines.{text_lines};
 ghost use Rattle.bist_text.specs.keyed.Texts.{checked, walk};
-ghost use Rattle.chip_desc.specs.ChipLines.{version_in};
-ghost use Rattle.chip_desc.specs.inner.Heard.{plain_content, version_at};
+ghost use Rattle.chip_desc.specs.inner.Heard.{version_at};
 
 use crate::content::{Content, Version};
 use crate::line_reader::read_line;
 use bist_text::Lines;
 use bist_text::keyed_lines::{LineFault, TextFault, known_behind};
 
-/// The version that a line's content gives.
-fn version_in(content: &Content<'_>) -> Option<Version>
-    ensures { result ≡ version_in (plain_content content.now) }
-{
-    match content {
-        Content::Version(1) => Some(Version::One),
-        _ => None,
-    }
-}
-
 /// The version that a line gives, where it has content.
 fn version_at(text: &[u8], given: Option<Version>) -> Result<Option<Option<Version>>, LineFault>
     ensures { result ≡ version_at given text.now }
 {
     match read_line(text, given)? {
-        Some(content) => Ok(Some(version_in(&content))),
+        Some(Content::Version(1)) => Ok(Some(Some(Version::One))),
+        Some(_) => Ok(Some(None)),
         None => Ok(None),
     }
 }

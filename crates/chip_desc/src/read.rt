@@ -1,10 +1,10 @@
 //! The reader of chip files.
 
-ghost use Rattle.std.specs.Prelude.{◌≡◌, ◌↔◌, ℕ, Some, Ok, Err, Result};
+ghost use Rattle.std.specs.Prelude.{◌≡◌, ◌↔◌, Some, Ok, Err, Result};
 ghost use Rattle.bist_text.specs.Lines.{text_lines};
-ghost use Rattle.chip_desc.specs.Chips.{ChipDescription, IsChip};
+ghost use Rattle.chip_desc.specs.Chips.{ChipDescription};
 ghost use Rattle.chip_desc.specs.ChipTable.{Reads, by_statements, of_lines, refusal, name_in, budget_in};
-ghost use Rattle.chip_desc.specs.inner.Heard.{plain_content, statements, reading};
+ghost use Rattle.chip_desc.specs.inner.Heard.{plain_content, statements};
 ghost use Rattle.chip_desc.specs.declared.fault.ChipFault.{ChipFault};
 
 use crate::chip::ChipDesc;
@@ -49,7 +49,11 @@ fn described(bytes: &[u8]) -> Result<ChipDesc, ChipFault>
     let budget = budget_of(&budget_line.content);
     check_none(bytes, Sought::Heavier(budget))?;
     let name = name_from(name_of(&name_line.content));
-    Ok(ChipDesc::new(name, budget, units))
+    Ok(ChipDesc {
+        name,
+        budget,
+        units,
+    })
 }
 
 /// The refusal of a text for its lines.

@@ -1,10 +1,10 @@
 //! Searches in the lines of a text.
 
-ghost use Rattle.std.specs.Prelude.{◌≡◌, ◌||◌, nat_lt, length, option_map, find};
+ghost use Rattle.std.specs.Prelude.{◌≡◌, ◌||◌, option_map, find};
 ghost use Rattle.bist_text.specs.Lines.{text_lines};
 ghost use Rattle.bist_text.specs.keyed.Texts.{checked};
-ghost use Rattle.chip_desc.specs.ChipTable.{at_line, first_of, is_heavier, is_out_of_range, is_outside, is_repeat};
-ghost use Rattle.chip_desc.specs.inner.Heard.{plain_content, plain_statement, statements};
+ghost use Rattle.chip_desc.specs.ChipTable.{at_line, first_of, is_outside, is_repeat};
+ghost use Rattle.chip_desc.specs.inner.Heard.{plain_statement, statements};
 ghost use Rattle.chip_desc.specs.inner.Seeking.{fault_of, is_sought, line_of, GivesField};
 
 use crate::content::{Content, Key, Statement, UnitLine, kind_of};
@@ -67,8 +67,18 @@ fn is_sought(bytes: &[u8], statement: &Statement<'_>, sought: Sought) -> bool
 {
     match sought {
         Sought::Repeat => is_repeat(bytes, statement),
-        Sought::OutOfRange => is_out_of_range(&statement.content),
-        Sought::Heavier(budget) => is_heavier(&statement.content, budget),
+        Sought::OutOfRange => match &statement.content {
+            Content::Version(_) => false,
+            Content::Name(name) => is_name_outside(name),
+            Content::Budget(most) => is_outside(*most),
+            Content::Unit(unit) => {
+                is_outside(unit.weight) || unit.march.len() > 255 || unit.memory.len() > 255
+            }
+        },
+        Sought::Heavier(most) => match &statement.content {
+            Content::Unit(unit) => unit.weight > most,
+            Content::Version(_) | Content::Name(_) | Content::Budget(_) => false,
+        },
     }
 }
 
@@ -92,34 +102,6 @@ fn is_outside(value: u32) -> bool
     value < 1 || value > 1_000_000
 }
 
-fn is_unit_outside(unit: &UnitLine<'_>) -> bool
-    ensures { result ≡ (is_outside unit.now.weight || nat_lt 255 (length unit.now.march.now) || nat_lt 255 (length unit.now.memory.now)) }
-{
-    is_outside(unit.weight) || unit.march.len() > 255 || unit.memory.len() > 255
-}
-
-/// Whether the name, the budget, the weight or the name of a file of a line is outside its range.
-fn is_out_of_range(content: &Content<'_>) -> bool
-    ensures { result ≡ is_out_of_range (plain_content content.now) }
-{
-    match content {
-        Content::Version(_) => false,
-        Content::Name(name) => is_name_outside(name),
-        Content::Budget(most) => is_outside(*most),
-        Content::Unit(unit) => is_unit_outside(unit),
-    }
-}
-
-/// Whether a line is that of a unit that weighs more.
-fn is_heavier(content: &Content<'_>, most: u32) -> bool
-    ensures { result ≡ is_heavier most (plain_content content.now) }
-{
-    match content {
-        Content::Unit(unit) => unit.weight > most,
-        Content::Version(_) | Content::Name(_) | Content::Budget(_) => false,
-    }
-}
-
 /// The line of a field that must be there.
 pub fn field<'a>(bytes: &'a [u8], wanted: Key, field: ChipField) -> Result<Statement<'a>, ChipFault>
     ensures { GivesField (statements (text_lines bytes.now)) wanted field result }
@@ -127,23 +109,16 @@ pub fn field<'a>(bytes: &'a [u8], wanted: Key, field: ChipField) -> Result<State
     first_of(bytes, wanted).ok_or(ChipFault::Missing { field })
 }
 
-/// The refusal of a line that is sought.
-fn fault_of(sought: Sought, line: usize) -> ChipFault
-    ensures { result ≡ fault_of sought line }
-{
-    match sought {
-        Sought::Repeat => ChipFault::Repeated { line },
-        Sought::OutOfRange => ChipFault::OutOfRange { line },
-        Sought::Heavier(_) => ChipFault::TooHeavy { line },
-    }
-}
-
 /// No line is sought, else the first is refused.
 pub fn check_none(bytes: &[u8], sought: Sought) -> Result<(), ChipFault>
     ensures { result ≡ checked (at_line (fault_of sought) (find (is_sought sought (statements (text_lines bytes.now))) (statements (text_lines bytes.now)))) }
 {
-    match first_line(bytes, sought) {
-        Some(line) => Err(fault_of(sought, line)),
-        None => Ok(()),
-    }
+    let Some(line) = first_line(bytes, sought) else {
+        return Ok(());
+    };
+    Err(match sought {
+        Sought::Repeat => ChipFault::Repeated { line },
+        Sought::OutOfRange => ChipFault::OutOfRange { line },
+        Sought::Heavier(_) => ChipFault::TooHeavy { line },
+    })
 }

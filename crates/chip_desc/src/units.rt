@@ -1,6 +1,6 @@
 //! The units of a text whose lines are all lines of a chip file.
 
-ghost use Rattle.std.specs.Prelude.{◌≡◌, ◌≤◌, length, false, true, None, Ok, Err, MatchResult, option_map};
+ghost use Rattle.std.specs.Prelude.{◌≡◌, ◌≤◌, length, true, None, Ok, Err, MatchResult, option_map};
 ghost use Rattle.bist_text.specs.Lines.{text_lines};
 ghost use Rattle.chip_desc.specs.Chips.{is_file, unit_of};
 ghost use Rattle.chip_desc.specs.ChipTable.{out_of_range};

@@ -1,5 +1,5 @@
 -- The search for a repeated line: a line that is the first about something repeats none.
-use Rattle.memory_desc.proofs.Common.{Bool, Content, Err, List, MayBeMet, MayHave, None, Ok, Option, Repeated, Some, Statement, Subject, TextLine, [], about, ap, append_assoc, at_line, checked, cond, eq-eqb, eqb-true, false, find, find-append, is_about, is_other, is_same, not, option_or, refl, repeated, subject, subst, sym, true, ℕ, ◌++◌, ◌∙◌, ◌∷◌, ◌≡◌}
+use Rattle.memory_desc.proofs.Common.{Bool, Content, Err, List, MayBeMet, MayHave, None, Ok, Option, Repeated, Some, Statement, Subject, TextLine, [], about, ap, append_assoc, at_line, checked, cond, eq-eqb, eqb-true, false, find, find-append, is_about, is_other, is_same, ne_eqb, not, option_or, refl, repeated, subject, subst, sym, true, ℕ, ◌++◌, ◌∙◌, ◌∷◌, ◌≡◌}
 use Rattle.memory_desc.specs.Statements.{stated}
 use Rattle.memory_desc.specs.inner.Heard.{said, statements}
 use Rattle.memory_desc.specs.Table.{is_repeat}
@@ -50,6 +50,12 @@ first_repeats_none passed more ss s e f =
     let q : Subject = subject s.content in
     let here : about q ss ≡ Some s = ap (about q) e ∙ find_behind (is_about q) passed (s ∷ more) f ∙ find_one (is_about q) s more (self_same q) in
     ap (is_other s.line) here ∙ ap not (eq-eqb s.line s.line refl)
+
+pub same_line : {n : ℕ} (s : Statement) → s.line ≡ n → is_other n (Some s) ≡ false
+same_line s e = ap (λ m. is_other m (Some s)) (sym e) ∙ ap not (eq-eqb s.line s.line refl)
+
+pub other_line : {n : ℕ} (s : Statement) → (s.line ≡ n → ⊥) → is_other n (Some s) ≡ true
+other_line {n} s f = ap not (ne_eqb s.line n f)
 
 -- ---- one line further
 

@@ -1,5 +1,6 @@
 -- The scrambling of the rows, each of which is there.
-use Rattle.memory_desc.proofs.Common.{Bool, GivesScrambling, IsInvertible, IsScrambling, IsSome, List, Missing, None, Ok, Scrambling, Statement, about, ap, arith, cases_lt, false, inl, inr, is_there, matrix_said, missing_row, none_first, or_else, refl, subst, suc, sym, there, true, unless_there, unrowed, zero, ℕ, ◌<◌, ◌∙◌, ◌≡◌}
+use Rattle.memory_desc.proofs.Common.{Bool, Err, GivesScrambling, IsInvertible, IsScrambling, IsSome, List, Missing, None, Ok, Scrambling, Singular, Statement, about, ap, arith, cases_lt, false, inl, inr, is_there, matrix_said, missing_row, none_first, or_else, refl, subst, suc, sym, there, true, unless_there, unrowed, zero, ℕ, ◌<◌, ◌∙◌, ◌≡◌}
+use Rattle.scrambler.specs.Scrambling.{IsLeastDependence}
 use Rattle.memory_desc.specs.Table.{is_scrambled}
 use Rattle.memory_desc.specs.declared.content.Subject.TheVariants.{Row}
 use Rattle.memory_desc.specs.declared.fault.Field.TheVariants.{Row as RowField}
@@ -25,6 +26,9 @@ module _ (ss : List Statement) (width : ℕ) where
   scrambled m s e f g h i =
       let same : s ≡ matrix_said ss width = h ∙ g in
       (rw e f, rw e (rows_there ss width f, subst IsInvertible same i, same))
+
+  pub dependent : (m : Scrambling) (rows : ℕ) → is_scrambled ss ≡ true → missing_row ss width ≡ None → m ≡ matrix_said ss width → IsLeastDependence m rows → GivesScrambling ss width (Err (Singular rows))
+  dependent m rows e f g h = inr (rw e f, rows, e, subst (λ m. IsLeastDependence m rows) g h, refl)
 
   pub invertible : (s : Scrambling) → IsScrambling ss width s → is_scrambled ss ≡ true → IsInvertible (matrix_said ss width)
   invertible s h e = (rw e at h).1

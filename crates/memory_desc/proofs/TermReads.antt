@@ -1,5 +1,5 @@
 -- What a term is read as, by its first byte; and that behind the last term or word of a line its end is read.
-use Rattle.memory_desc.proofs.Common.{Bool, List, None, Option, Read, [], ap, arith, at_bool, by_byte, constant, drop, end_of, false, get_or, if◌then◌else◌, index_bit, is_blank, length, onward, refl, remark_of, spaced, stuck, sym, take, take_all, term_of, took, true, ℕ, ◌-◌, ◌∙◌, ◌∷◌, ◌≡◌, ◌≤◌}
+use Rattle.memory_desc.proofs.Common.{Bool, List, None, Option, Read, [], ap, arith, at_bool, by_byte, constant, drop, end_of, false, get_or, if◌then◌else◌, index_bit, is_blank, length, next_word_of, onward, refl, remark_of, spaced, spaced_word_of, stuck, sym, take, take_all, term_of, took, true, ℕ, ◌-◌, ◌∙◌, ◌∷◌, ◌≡◌, ◌≤◌}
 use Rattle.bist_text.specs.keyed.Parts.{comment_of, number_of}
 
 abbrev pub Rest : List ℕ → List ℕ
@@ -44,3 +44,8 @@ over {A} p r a b o e l f h = ap choice (sym e) ∙ go b l f ∙ ap (λ o. onward
     go : (b : List ℕ) → 1 ≤ length b → p (get_or b 0 0) ≡ false → choice b ≡ remark_of None b
     go [] l f = absurd (omega arith)
     go (c ∷ b) l f = ap (λ (t : Bool). if t then r (c ∷ b) else remark_of None (c ∷ b)) f
+
+-- behind a blank comes a word, or the end of the line
+pub behind_blank : (b : List ℕ) → 1 ≤ length b → is_blank (get_or b 0 0) ≡ true → next_word_of b ≡ spaced_word_of (spaced b)
+behind_blank [] l e = absurd (omega arith)
+behind_blank (c ∷ b) l e = ap (λ (t : Bool). if t then spaced_word_of (spaced (c ∷ b)) else remark_of None (c ∷ b)) e

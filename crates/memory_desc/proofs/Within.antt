@@ -63,6 +63,14 @@ pause_is ss = go (said Pause ss) (is_about_it Pause ss)
     go (Some (pause n)) f = refl
     go (Some c) f = (let e = f c refl in let z : ⊥ = cc in absurd z)
 
+pub polarity_is : (ss : List Statement) → number_or 0 (said Polarity ss) ≡ polarity_said ss
+polarity_is ss = go (said Polarity ss) (is_about_it Polarity ss)
+  where
+    go : (o : Option Content) → IsAbout Polarity o → number_or 0 o ≡ polarity_in o
+    go None f = refl
+    go (Some (polarity w)) f = refl
+    go (Some c) f = (let e = f c refl in let z : ⊥ = cc in absurd z)
+
 inside : (low high n : ℕ) → (nat_lt n low || nat_lt high n) ≡ false → (low ≤ n) × (n ≤ high)
 inside low high n h = let p = or_parts (nat_lt n low) (nat_lt high n) h in (ltb-false n low p.0, ltb-false high n p.1)
 

@@ -3,14 +3,13 @@
 ghost use Rattle.std.specs.Prelude.{◌≡◌, ◌≤◌, ℕ, false, None, Some, Ok, Err, IfOk, MatchResult};
 ghost use Rattle.std.specs.List.{list_any};
 ghost use Rattle.bist_text.specs.Lines.{text_lines};
-ghost use Rattle.scrambler.specs.Scrambling.{IsFull, IsInvertible, IsWithin};
+ghost use Rattle.scrambler.specs.Scrambling.{IsFull, IsInvertible};
 ghost use Rattle.memory_desc.specs.Subjects.{said};
 ghost use Rattle.memory_desc.specs.Table.{is_scrambled, is_term_too_wide, too_wide};
-ghost use Rattle.memory_desc.specs.LineText.{backgrounds as backgrounds_line};
 ghost use Rattle.memory_desc.specs.Values.{constant_of, index_bits};
 ghost use Rattle.memory_desc.specs.declared.content.Subject.TheVariants.{Backgrounds as OfBackgrounds};
 ghost use Rattle.memory_desc.specs.inner.Heard.{statements};
-ghost use Rattle.memory_desc.specs.inner.Standing.{GivesBackgrounds, GivesMatrix, GivesScrambling};
+ghost use Rattle.memory_desc.specs.inner.Standing.{GivesBackgrounds, GivesScrambling};
 
 use crate::content::{Content, Subject, Term};
 use crate::fault::{Field, MemoryFault};
@@ -50,32 +49,7 @@ fn row_of(terms: Terms<'_>) -> Row
     row
 }
 
-/// The matrix of the rows; each row of the address must be there.
-fn matrix_from(bytes: &[u8], width: u8) -> Result<Matrix, MemoryFault>
-    requires width { (1 ≤ width) × (width ≤ 16) }
-    requires fit { (size : ℕ) × (too_wide (statements (text_lines bytes.now)) width size ≡ None) }
-    ensures within { IfOk result (λ m. (m.width ≡ width) × IsWithin m.width m.rows m.constant) }
-    ensures rows { GivesMatrix (statements (text_lines bytes.now)) width result }
-{
-    let mut rows = [0; 16];
-    let mut constant = 0;
-    for bit in 0..width {
-        let Some(content) = content_about(bytes, Subject::Row(u32::from(bit))) else {
-            let field = Field::Row(bit);
-            return Err(MemoryFault::Missing { field });
-        };
-        let row = row_of(terms_in(content));
-        rows[bit as usize] = row.names;
-        constant |= (row.constant as u16) << bit;
-    }
-    Ok(Matrix {
-        width,
-        rows,
-        constant,
-    })
-}
-
-/// The scrambling of the rows, or the identity where there are none.
+/// The scrambling of the rows, each of which must be there, or the identity where there are none.
 pub fn scramble_from(bytes: &[u8], scrambled: bool, width: u8) -> Result<Scramble, MemoryFault>
     requires width { (1 ≤ width) × (width ≤ 16) }
     requires fit { (size : ℕ) × (too_wide (statements (text_lines bytes.now)) width size ≡ None) }
@@ -88,7 +62,22 @@ pub fn scramble_from(bytes: &[u8], scrambled: bool, width: u8) -> Result<Scrambl
     if !scrambled {
         return Ok(Scramble::identity(width));
     }
-    let matrix = matrix_from(bytes, width)?;
+    let mut rows = [0; 16];
+    let mut constant = 0;
+    for bit in 0..width {
+        let Some(content) = content_about(bytes, Subject::Row(u32::from(bit))) else {
+            let field = Field::Row(bit);
+            return Err(MemoryFault::Missing { field });
+        };
+        let row = row_of(terms_in(content));
+        rows[bit as usize] = row.names;
+        constant |= (row.constant as u16) << bit;
+    }
+    let matrix = Matrix {
+        width,
+        rows,
+        constant,
+    };
     match invert(&matrix) {
         Ok(scramble) => Ok(scramble),
         Err(dependence) => Err(MemoryFault::Singular {
@@ -97,10 +86,15 @@ pub fn scramble_from(bytes: &[u8], scrambled: bool, width: u8) -> Result<Scrambl
     }
 }
 
-/// The backgrounds of a list.
-fn listed(words: Words<'_>) -> Result<ArrayVec<u64, 8>, MemoryFault>
-    ensures { (size : ℕ) → MatchResult result (λ b. GivesBackgrounds (Some (backgrounds_line words.entry)) size (Ok b.items)) (λ fault. GivesBackgrounds (Some (backgrounds_line words.entry)) size (Err fault)) }
+/// The backgrounds that are listed, or the logarithmic set where none are.
+pub fn backgrounds_from(bytes: &[u8], bits: u8) -> Result<ArrayVec<u64, 8>, MemoryFault>
+    requires { (1 ≤ bits) × (bits ≤ 64) }
+    ensures { MatchResult result (λ b. GivesBackgrounds (said OfBackgrounds (statements (text_lines bytes.now))) bits (Ok b.items))
+        (λ fault. GivesBackgrounds (said OfBackgrounds (statements (text_lines bytes.now))) bits (Err fault)) }
 {
+    let Some(Content::Backgrounds(words)) = content_about(bytes, Subject::Backgrounds) else {
+        return Ok(log_set(bits));
+    };
     let mut set = ArrayVec::new();
     for word in words {
         if set.is_full() {
@@ -112,16 +106,4 @@ fn listed(words: Words<'_>) -> Result<ArrayVec<u64, 8>, MemoryFault>
         return Err(MemoryFault::NoSolidBackground);
     }
     Ok(set)
-}
-
-/// The backgrounds that are listed, or the logarithmic set where none are.
-pub fn backgrounds_from(bytes: &[u8], bits: u8) -> Result<ArrayVec<u64, 8>, MemoryFault>
-    requires { (1 ≤ bits) × (bits ≤ 64) }
-    ensures { MatchResult result (λ b. GivesBackgrounds (said OfBackgrounds (statements (text_lines bytes.now))) bits (Ok b.items))
-        (λ fault. GivesBackgrounds (said OfBackgrounds (statements (text_lines bytes.now))) bits (Err fault)) }
-{
-    match content_about(bytes, Subject::Backgrounds) {
-        Some(Content::Backgrounds(words)) => listed(words),
-        _ => Ok(log_set(bits)),
-    }
 }

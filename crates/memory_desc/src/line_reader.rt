@@ -4,8 +4,8 @@ ghost use Rattle.std.specs.Prelude.{◌≡◌, Some, MatchResult, map};
 ghost use Rattle.bist_text.specs.Keywords.{word_of};
 ghost use Rattle.bist_text.specs.keyed.Lines.{answer, keyed_of};
 ghost use Rattle.bist_text.specs.keyed.Reading.{took, stuck};
-ghost use Rattle.memory_desc.specs.inner.Heard.{argument_of, heard, keys_of, numbered_of, said};
-ghost use Rattle.memory_desc.specs.inner.Seen.{number_content, plain_content, plain_line_content, plain_said};
+ghost use Rattle.memory_desc.specs.inner.Heard.{argument_of, heard, keys_of, said};
+ghost use Rattle.memory_desc.specs.inner.Seen.{plain_content, plain_line_content, plain_said};
 
 use crate::content::{Content, Key, Quantity, Version};
 use crate::row_reader::row;
@@ -39,44 +39,31 @@ fn keys_of(given: Option<Version>) -> &'static [Keyword<Key>]
     }
 }
 
-/// A number, to the end of the line.
-fn numbered<'a>(text: &'a [u8], quantity: Quantity) -> Read<'a, Content<'a>>
-    ensures { MatchResult result (λ r. numbered_of (number_content quantity) text.now ≡ took (Some (plain_content r.0)) r.1.now) (λ left. numbered_of (number_content quantity) text.now ≡ stuck left.now) }
-{
-    let (number, text) = number(text)?;
-    ended(text, Content::Number(quantity, number))
-}
-
-/// What stands behind a first word and blanks.
-fn argument<'a>(text: &'a [u8], key: Key) -> Read<'a, Content<'a>>
-    ensures { MatchResult result (λ r. argument_of key text.now ≡ took (Some (plain_content r.0)) r.1.now) (λ left. argument_of key text.now ≡ stuck left.now) }
-{
-    match key {
-        Key::Memory => numbered(text, Quantity::Version),
-        Key::Name => {
-            let (name, text) = word(text, Class::Name)?;
-            ended(text, Content::Name(name))
-        }
-        Key::Words => numbered(text, Quantity::Words),
-        Key::Bits => numbered(text, Quantity::Bits),
-        Key::Latency => numbered(text, Quantity::Latency),
-        Key::Polarity => {
-            let (word, text) = hex_number(text)?;
-            ended(text, Content::Polarity(word))
-        }
-        Key::Pause => numbered(text, Quantity::Pause),
-        Key::Scramble => row(text),
-        Key::Backgrounds => backgrounds(text),
-    }
-}
-
 /// A content line.
 fn keyed<'a>(text: &'a [u8], given: Option<Version>) -> Read<'a, Content<'a>>
     ensures { MatchResult result (λ r. keyed_of (keys_of given) argument_of text.now ≡ took (Some (plain_content r.0)) r.1.now) (λ left. keyed_of (keys_of given) argument_of text.now ≡ stuck left.now) }
 {
     let (key, text) = key(text, keys_of(given))?;
     let ((), text) = gap(text)?;
-    argument(text, key)
+    let quantity = match key {
+        Key::Memory => Quantity::Version,
+        Key::Words => Quantity::Words,
+        Key::Bits => Quantity::Bits,
+        Key::Latency => Quantity::Latency,
+        Key::Pause => Quantity::Pause,
+        Key::Name => {
+            let (name, text) = word(text, Class::Name)?;
+            return ended(text, Content::Name(name));
+        }
+        Key::Polarity => {
+            let (word, text) = hex_number(text)?;
+            return ended(text, Content::Polarity(word));
+        }
+        Key::Scramble => return row(text),
+        Key::Backgrounds => return backgrounds(text),
+    };
+    let (number, text) = number(text)?;
+    ended(text, Content::Number(quantity, number))
 }
 
 /// What a line says, or None where it has no content. Before a version is known only a `memory` line may stand.

@@ -3,32 +3,21 @@
 ghost use Rattle.std.specs.Prelude.{◌≡◌, None, Some};
 ghost use Rattle.bist_text.specs.Lines.{text_lines};
 ghost use Rattle.bist_text.specs.keyed.Texts.{checked, walk};
-ghost use Rattle.memory_desc.specs.Statements.{version_in};
 ghost use Rattle.memory_desc.specs.inner.Heard.{version_at};
-ghost use Rattle.memory_desc.specs.inner.Seen.{plain_content};
 
 use crate::content::{Content, Quantity, Version};
 use crate::line_reader::read_line;
 use bist_text::Lines;
 use bist_text::keyed_lines::{LineFault, TextFault, known_behind};
 
-/// The version that a line's content gives.
-fn version_in(content: &Content<'_>) -> Option<Version>
-    ensures { result ≡ version_in (plain_content content.now) }
-{
-    match content {
-        Content::Number(Quantity::Version, 1) => Some(Version::One),
-        Content::Number(Quantity::Version, 2) => Some(Version::Two),
-        _ => None,
-    }
-}
-
 /// The version that a line gives, where it has content.
 fn version_at(text: &[u8], given: Option<Version>) -> Result<Option<Option<Version>>, LineFault>
     ensures { result ≡ version_at given text.now }
 {
     match read_line(text, given)? {
-        Some(content) => Ok(Some(version_in(&content))),
+        Some(Content::Number(Quantity::Version, 1)) => Ok(Some(Some(Version::One))),
+        Some(Content::Number(Quantity::Version, 2)) => Ok(Some(Some(Version::Two))),
+        Some(_) => Ok(Some(None)),
         None => Ok(None),
     }
 }

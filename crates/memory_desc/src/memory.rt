@@ -1,28 +1,24 @@
-ghost use Rattle.std.specs.Prelude.{◌≡◌, ℕ, ◌<◌, ◌≤◌, length};
+ghost use Rattle.std.specs.Prelude.{◌≡◌, ◌<◌, ◌≤◌};
 ghost use Rattle.memory_desc.specs.Descriptions.{IsMemory, assembled};
 
 use arrayvec::{ArrayString, ArrayVec};
 use scrambler::Scramble;
 use std::marker::Model;
 
-/// How many cycles a memory takes to answer a read, and how many a pause has.
-#[derive(Clone, Copy)]
-pub(crate) struct Timing {
-    pub latency: u8,
-    pub pause: u32,
-}
-
 /// A memory: its name, its size, when it answers, which bits it stores inverted, how its addresses are scrambled, and the
 /// backgrounds and the pauses of its test.
 #[derive(Drop)]
 pub struct Memory {
-    name: ArrayString<48>,
-    words: u32,
-    bits: u8,
-    timing: Timing,
-    polarity: u64,
-    scramble: Scramble,
-    backgrounds: ArrayVec<u64, 8>,
+    pub(crate) name: ArrayString<48>,
+    pub(crate) words: u32,
+    pub(crate) bits: u8,
+    /// How many cycles it takes to answer a read.
+    pub(crate) latency: u8,
+    pub(crate) polarity: u64,
+    /// How many cycles a pause has.
+    pub(crate) pause: u32,
+    pub(crate) scramble: Scramble,
+    pub(crate) backgrounds: ArrayVec<u64, 8>,
 }
 
 impl Model for Memory {
@@ -30,35 +26,12 @@ impl Model for Memory {
 
     ghost Value = { Description };
 
-    ghost view = { λ m. assembled m.name.bytes m.words m.bits m.timing.latency m.polarity m.timing.pause m.scramble m.backgrounds.items };
+    ghost view = { λ m. assembled m.name.bytes m.words m.bits m.latency m.polarity m.pause m.scramble m.backgrounds.items };
 
-    ghost invariant = { λ m. IsMemory (assembled m.name.bytes m.words m.bits m.timing.latency m.polarity m.timing.pause m.scramble m.backgrounds.items) };
+    ghost invariant = { λ m. IsMemory (assembled m.name.bytes m.words m.bits m.latency m.polarity m.pause m.scramble m.backgrounds.items) };
 }
 
 impl Memory {
-    pub(crate) fn new(
-        name: ArrayString<48>,
-        words: u32,
-        bits: u8,
-        timing: Timing,
-        polarity: u64,
-        scramble: Scramble,
-        backgrounds: ArrayVec<u64, 8>,
-    ) -> Memory
-        requires { IsMemory (assembled name.bytes words bits timing.latency polarity timing.pause scramble backgrounds.items) }
-        ensures { result ≡ assembled name.bytes words bits timing.latency polarity timing.pause scramble backgrounds.items }
-    {
-        Memory {
-            name,
-            words,
-            bits,
-            timing,
-            polarity,
-            scramble,
-            backgrounds,
-        }
-    }
-
     /// The memory's name: a simple identifier of Verilog of at most 48 bytes.
     pub fn name(&self) -> &str
         ensures { result.now ≡ self.now.name }
@@ -87,7 +60,7 @@ impl Memory {
         ensures value { result ≡ self.now.latency }
         ensures memory { IsMemory self.now }
     {
-        self.timing.latency
+        self.latency
     }
 
     /// The bits of a word that it stores inverted.
@@ -103,7 +76,7 @@ impl Memory {
         ensures value { result ≡ self.now.pause }
         ensures memory { IsMemory self.now }
     {
-        self.timing.pause
+        self.pause
     }
 
     /// How many bits an address has: 1 to 16.

@@ -1,15 +1,14 @@
 //! The printer of memory descriptions.
 
 ghost use Rattle.std.specs.Prelude.{◌≡◌, ℕ, ◌+◌, ◌<◌, ◌≤◌, ◌^◌, List, ◌++◌, [], ◌∷◌, All, Ok, OnOk, IfOk, codes, decimal};
-ghost use Rattle.memory_desc.specs.Descriptions.{IsMemory};
 ghost use Rattle.memory_desc.specs.LineText.{Content, backgrounds};
 ghost use Rattle.memory_desc.specs.Table.{Reads};
-ghost use Rattle.memory_desc.specs.Printed.{index_terms, is_plain, lines_text, one_term, printed, row_terms, rows_printed, terms_text, version_number, with_head, with_ports, with_rows};
+ghost use Rattle.memory_desc.specs.Printed.{is_plain, lines_text, printed, row_terms, rows_printed, terms_text, version_number, with_head, with_ports, with_rows};
 ghost use Rattle.memory_desc.specs.inner.Printed.{Adds, further};
 
 use crate::memory::Memory;
 use bist_bits::NoMemory;
-use bist_text::{put, put_decimal, put_word};
+use bist_text::{put, put_between, put_decimal, put_word};
 use scrambler::Scramble;
 use std::alloc::Global;
 
@@ -38,21 +37,16 @@ fn opening(plain: bool) -> &'static [u8]
     }
 }
 
-// Here and below each line's end is written with the line behind it.
+/// What stands before the rows: the name and the sizes, and what version 2 says besides, where it is needed. Here and below
+/// each line's end is written with the line behind it.
 fn put_head(out: &mut Vec<u8>, memory: &Memory) -> Result<(), NoMemory>
-    ensures { OnOk result ((cs : List Content) → out.new.items ++ further memory.now.bits cs ≡ out.old.items ++ lines_text memory.now.bits (with_head memory.now (is_plain memory.now) cs)) }
+    ensures { OnOk result ((cs : List Content) → out.new.items ++ further memory.now.bits cs ≡ out.old.items ++ lines_text memory.now.bits (with_head memory.now (is_plain memory.now) (with_ports memory.now (is_plain memory.now) cs))) }
 {
-    put(out, opening(is_plain(memory)))?;
-    put(out, memory.name().as_bytes())?;
-    put_number(out, b"\nwords ", u64::from(memory.words()))?;
-    put_number(out, b"\nbits ", u64::from(memory.bits()))
-}
-
-/// What version 2 says besides, where it is needed.
-fn put_ports(out: &mut Vec<u8>, memory: &Memory) -> Result<(), NoMemory>
-    ensures { OnOk result (Adds memory.now.bits (with_ports memory.now (is_plain memory.now)) out.old.items out.new.items) }
-{
-    if is_plain(memory) {
+    let plain = is_plain(memory);
+    put_between(out, opening(plain), memory.name().as_bytes(), b"\nwords ")?;
+    put_decimal(out, u64::from(memory.words()))?;
+    put_number(out, b"\nbits ", u64::from(memory.bits()))?;
+    if plain {
         return Ok(());
     }
     put_number(out, b"\nlatency ", u64::from(memory.latency()))?;
@@ -61,33 +55,25 @@ fn put_ports(out: &mut Vec<u8>, memory: &Memory) -> Result<(), NoMemory>
     put_number(out, b"\npause ", u64::from(memory.pause()))
 }
 
-/// The terms of a row, whose constant is 0 or 1, behind `=`.
-fn put_terms(out: &mut Vec<u8>, names: u16, constant: u16, width: u8) -> Result<(), NoMemory>
-    requires { width ≤ 16 }
-    ensures { OnOk result (out.new.items ≡ out.old.items ++ terms_text 61 (index_terms names width (one_term constant))) }
-{
-    let mut mark = b'=';
-    for j in 0..width {
-        if (names >> j) & 1 == 1 {
-            put_number(out, &[b' ', mark, b' ', b'p'], u64::from(j))?;
-            mark = b'^';
-        }
-    }
-    if constant == 1 {
-        put(out, &[b' ', mark, b' ', b'1'])
-    } else {
-        Ok(())
-    }
-}
-
+/// A row: the index bits that it names, and 1 where its constant is 1.
 fn put_row(out: &mut Vec<u8>, scramble: &Scramble, i: u8) -> Result<(), NoMemory>
     requires { i < scramble.now.width }
     ensures { OnOk result (out.new.items ≡ out.old.items ++ (codes "\nscramble a" ++ (decimal i ++ terms_text 61 (row_terms scramble.now i)))) }
 {
     put_number(out, b"\nscramble a", u64::from(i))?;
-    let width = scramble.width();
-    let constant = (scramble.constant() >> i) & 1;
-    put_terms(out, scramble.row(i), constant, width)
+    let names = scramble.row(i);
+    let mut mark = b'=';
+    for j in 0..scramble.width() {
+        if (names >> j) & 1 == 1 {
+            put_number(out, &[b' ', mark, b' ', b'p'], u64::from(j))?;
+            mark = b'^';
+        }
+    }
+    if (scramble.constant() >> i) & 1 == 1 {
+        put(out, &[b' ', mark, b' ', b'1'])
+    } else {
+        Ok(())
+    }
 }
 
 /// The rows, unless they change nothing.
@@ -117,24 +103,14 @@ fn put_backgrounds(out: &mut Vec<u8>, set: &[u64], bits: u8) -> Result<(), NoMem
     put(out, b"\n")
 }
 
-/// The printed form.
-fn put_memory(out: &mut Vec<u8>, memory: &Memory) -> Result<(), NoMemory>
-    ensures form { OnOk result (out.new.items ≡ out.old.items ++ printed memory.now) }
-    ensures memory { OnOk result (IsMemory memory.now) }
-{
-    put_head(out, memory)?;
-    put_ports(out, memory)?;
-    put_rows(out, memory.scramble())?;
-    put_backgrounds(out, memory.backgrounds(), memory.bits())
-}
-
 /// The printed form of a memory, which `read_memory` reads back.
-#[tactic(auto, using(crate::proofs::ReadBack::read_back))]
 pub fn print_memory(alloc: Global, memory: &Memory) -> Result<Vec<u8>, NoMemory>
     ensures form { IfOk result (λ out. out.items ≡ printed memory.now) }
     ensures read_back { IfOk result (λ out. Reads out.items (Ok memory.now)) }
 {
     let mut out = Vec::new(alloc);
-    put_memory(&mut out, memory)?;
+    put_head(&mut out, memory)?;
+    put_rows(&mut out, memory.scramble())?;
+    put_backgrounds(&mut out, memory.backgrounds(), memory.bits())?;
     Ok(out)
 }

@@ -1,13 +1,13 @@
 //! The reader of memory descriptions.
 
-ghost use Rattle.std.specs.Prelude.{◌≡◌, ◌↔◌, List, None, Ok, Err};
+ghost use Rattle.std.specs.Prelude.{◌≡◌, ◌↔◌, List, Ok, Err};
 ghost use Rattle.bist_text.specs.Lines.{text_lines};
 ghost use Rattle.bist_text.specs.keyed.Texts.{checked};
 ghost use Rattle.memory_desc.specs.declared.fault.MemoryFault.{MemoryFault};
 ghost use Rattle.memory_desc.specs.Descriptions.{Description};
 ghost use Rattle.memory_desc.specs.Names.{IsName};
 ghost use Rattle.memory_desc.specs.Statements.{Statement};
-ghost use Rattle.memory_desc.specs.Values.{bits_said, words_said};
+ghost use Rattle.memory_desc.specs.Values.{words_said};
 ghost use Rattle.memory_desc.specs.inner.Heard.{statements};
 ghost use Rattle.memory_desc.specs.Table.{is_scrambled, of_lines, unscramblable, unsized, AreStatements, Describes, Reads};
 
@@ -15,9 +15,9 @@ use crate::building::{backgrounds_from, scramble_from};
 use crate::content::Subject;
 use crate::fault::{Field, MemoryFault};
 use crate::lines::check_lines;
-use crate::memory::{Memory, Timing};
-use crate::search::{Sought, check_none, check_repeats, check_there, is_scrambled};
-use crate::values::{name_said, number_said, polarity_said};
+use crate::memory::Memory;
+use crate::search::{Sought, check_none, check_repeats, check_there, first_line};
+use crate::values::{name_said, number_said};
 use arrayvec::ArrayString;
 use bist_bits::width_of;
 use bist_text::keyed_lines::TextFault;
@@ -56,36 +56,31 @@ fn check_fields(bytes: &[u8]) -> Result<(), MemoryFault>
     check_none(bytes, Sought::OutOfRange)
 }
 
-/// The memory of so many words of so many bits, with what the text says besides.
-fn memory_of(bytes: &[u8], words: u32, bits: u8) -> Result<Memory, MemoryFault>
-    requires unrefused { unsized (statements (text_lines bytes.now)) ≡ None }
-    requires words { words ≡ words_said (statements (text_lines bytes.now)) }
-    requires bits { bits ≡ bits_said (statements (text_lines bytes.now)) }
-    ensures { Describes (statements (text_lines bytes.now)) result }
-{
-    let width = width_of(u64::from(words - 1));
-    let scrambled = is_scrambled(bytes);
-    check_power_of_two(scrambled, words)?;
-    check_none(bytes, Sought::TooWide { width, bits })?;
-    let scramble = scramble_from(bytes, scrambled, width)?;
-    let backgrounds = backgrounds_from(bytes, bits)?;
-    let name = name_from(name_said(bytes));
-    let timing = Timing {
-        latency: number_said(bytes, Subject::Latency, 1) as u8,
-        pause: number_said(bytes, Subject::Pause, 1),
-    };
-    let polarity = polarity_said(bytes);
-    Ok(Memory::new(name, words, bits, timing, polarity, scramble, backgrounds))
-}
-
 /// The memory that the statements of a text describe.
 fn described(bytes: &[u8]) -> Result<Memory, MemoryFault>
     ensures { Describes (statements (text_lines bytes.now)) result }
 {
     check_fields(bytes)?;
-    let words = number_said(bytes, Subject::Words, 0);
-    let bits = number_said(bytes, Subject::Bits, 0);
-    memory_of(bytes, words, bits as u8)
+    let words = number_said(bytes, Subject::Words, 0) as u32;
+    let bits = number_said(bytes, Subject::Bits, 0) as u8;
+    let width = width_of(u64::from(words - 1));
+    let scrambled = first_line(bytes, Sought::Row).is_some();
+    check_power_of_two(scrambled, words)?;
+    check_none(bytes, Sought::TooWide { width, bits })?;
+    let scramble = scramble_from(bytes, scrambled, width)?;
+    let backgrounds = backgrounds_from(bytes, bits)?;
+    let latency = number_said(bytes, Subject::Latency, 1) as u8;
+    let pause = number_said(bytes, Subject::Pause, 1) as u32;
+    Ok(Memory {
+        name: name_from(name_said(bytes)),
+        words,
+        bits,
+        latency,
+        polarity: number_said(bytes, Subject::Polarity, 0),
+        pause,
+        scramble,
+        backgrounds,
+    })
 }
 
 /// The refusal of a text for its lines.

@@ -1,7 +1,7 @@
 //! The numbers of the rows that a search has met.
 
-ghost use Rattle.std.specs.Prelude.{◌≡◌, ◌≤◌, ◌↔◌, IsTrue, Contains, length, take};
-ghost use Rattle.std.specs.List.Sorted.{IsNonDecreasing, IsPermutation};
+ghost use Rattle.std.specs.Prelude.{◌≤◌, IsTrue, length, take};
+ghost use Rattle.std.specs.List.Sorted.{IsNonDecreasing};
 ghost use Rattle.std.proofs.Props.{props};
 ghost use Rattle.memory_desc.specs.inner.Met.{MayBeMet};
 
@@ -26,25 +26,8 @@ impl RowNumbers {
         }
     }
 
-    fn contains(&self, number: u32) -> bool
-        ensures { IsTrue result ↔ Contains self.now.numbers.items number }
-    {
-        let (ascending, recent) = self.numbers.as_slice().split_at(self.sorted);
-        recent.contains(&number) || ascending.binary_search(&number).is_ok()
-    }
-
-    /// Sorts the numbers where many came since they were sorted.
-    fn settle(&mut self)
-        ensures { IsPermutation self.old.numbers.items self.new.numbers.items }
-    {
-        if self.numbers.len() - self.sorted < 1024 {
-            return;
-        }
-        self.numbers.as_mut_slice().sort_unstable();
-        self.sorted = self.numbers.len();
-    }
-
-    /// Whether a subject is surely a new one; the number of a row is kept. Where there is no room none is said to be new.
+    /// Whether a subject is surely a new one; the number of a row is kept. Where there is no room none is said to be new. Where
+    /// many numbers came since they were sorted they are sorted again.
     pub fn is_new(&mut self, subject: Subject) -> bool
         ensures new { IsTrue result → MayBeMet self.old.numbers.items subject → ⊥ }
         ensures kept { MayBeMet self.new.numbers.items subject }
@@ -53,11 +36,18 @@ impl RowNumbers {
         let Subject::Row(number) = subject else {
             return false;
         };
-        if self.numbers.is_full() || self.contains(number) {
+        if self.numbers.is_full() {
+            return false;
+        }
+        let (ascending, recent) = self.numbers.as_slice().split_at(self.sorted);
+        if recent.contains(&number) || ascending.binary_search(&number).is_ok() {
             return false;
         }
         self.numbers.push(number);
-        self.settle();
+        if self.numbers.len() - self.sorted >= 1024 {
+            self.numbers.as_mut_slice().sort_unstable();
+            self.sorted = self.numbers.len();
+        }
         true
     }
 }

@@ -2,7 +2,7 @@
 
 ghost use Rattle.std.specs.Prelude.{◌≡◌, [], Some, MatchResult};
 ghost use Rattle.bist_text.specs.keyed.Reading.{took, stuck};
-ghost use Rattle.memory_desc.specs.inner.Heard.{next_term_of, row_from_of, row_of, term_of};
+ghost use Rattle.memory_desc.specs.inner.Heard.{next_term_of, row_of, term_of};
 ghost use Rattle.memory_desc.specs.inner.Seen.{plain_content};
 
 use crate::content::{Content, Term};
@@ -15,19 +15,13 @@ fn term(text: &[u8]) -> Read<'_, Term>
     ensures { MatchResult result (λ r. term_of text.now ≡ took r.0 r.1.now) (λ left. term_of text.now ≡ stuck left.now) }
 {
     match text {
-        [] => Err(text),
-        [first, rest @ ..] => {
-            if *first == b'p' {
-                let (bit, rest) = number(rest)?;
-                Ok((Term::IndexBit(bit), rest))
-            } else if *first == b'0' {
-                Ok((Term::Constant(false), rest))
-            } else if *first == b'1' {
-                Ok((Term::Constant(true), rest))
-            } else {
-                Err(text)
-            }
+        [b'p', rest @ ..] => {
+            let (bit, rest) = number(rest)?;
+            Ok((Term::IndexBit(bit), rest))
         }
+        [b'0', rest @ ..] => Ok((Term::Constant(false), rest)),
+        [b'1', rest @ ..] => Ok((Term::Constant(true), rest)),
+        _ => Err(text),
     }
 }
 
@@ -95,7 +89,9 @@ impl<'a> Iterator for Terms<'a> {
     ghost remaining = { item_count (λ s. s) };
 
     fn next(&mut self) -> Option<Term> {
-        let term = self.next?;
+        let Some(term) = self.next else {
+            return None;
+        };
         if let Ok((Some(next), left)) = next_term(self.left) {
             self.next = Some(next);
             self.left = left;
@@ -106,21 +102,6 @@ impl<'a> Iterator for Terms<'a> {
     }
 }
 
-/// The row of a bit, whose first term was read.
-fn row_from<'a>(bit: u32, first: Term, text: &'a [u8]) -> Read<'a, Content<'a>>
-    ensures { MatchResult result (λ r. row_from_of bit first text.now ≡ took (Some (plain_content r.0)) r.1.now) (λ left. row_from_of bit first text.now ≡ stuck left.now) }
-{
-    let mut left = text;
-    loop {
-        let (next, rest) = next_term(left)?;
-        let Some(_) = next else {
-            let next = Some(first);
-            return Ok((Content::Scramble(bit, Terms { next, left: text }), rest));
-        };
-        left = rest;
-    }
-}
-
 /// The row of a `scramble` line.
 pub fn row(text: &[u8]) -> Read<'_, Content<'_>>
     ensures { MatchResult result (λ r. row_of text.now ≡ took (Some (plain_content r.0)) r.1.now) (λ left. row_of text.now ≡ stuck left.now) }
@@ -128,6 +109,17 @@ pub fn row(text: &[u8]) -> Read<'_, Content<'_>>
     let ((), text) = byte(text, b'a')?;
     let (bit, text) = number(text)?;
     let ((), text) = byte(blanks(text), b'=')?;
-    let (first, text) = term(blanks(text))?;
-    row_from(bit, first, text)
+    let (first, further) = term(blanks(text))?;
+    let mut left = further;
+    loop {
+        let (next, rest) = next_term(left)?;
+        let Some(_) = next else {
+            let terms = Terms {
+                next: Some(first),
+                left: further,
+            };
+            return Ok((Content::Scramble(bit, terms), rest));
+        };
+        left = rest;
+    }
 }

@@ -1,16 +1,15 @@
 //! Searches in the lines of a text.
 
-ghost use Rattle.std.specs.Prelude.{◌≡◌, ◌≤◌, ◌^◌, ◌||◌, nat_le, nat_lt, length, false, find, option_map};
+ghost use Rattle.std.specs.Prelude.{◌≡◌, ◌||◌, nat_lt, length, false, find, option_map};
 ghost use Rattle.std.specs.List.{list_any};
 ghost use Rattle.bist_text.specs.ReservedWords.{is_among, reserved_words};
 ghost use Rattle.bist_text.specs.Lines.{text_lines};
 ghost use Rattle.bist_text.specs.keyed.Texts.{checked};
 ghost use Rattle.memory_desc.specs.declared.fault.MemoryFault.TheVariants.{OutOfRange};
 ghost use Rattle.memory_desc.specs.Subjects.{about, said};
-ghost use Rattle.memory_desc.specs.Table.{at_line, is_other, is_out_of_range, is_scrambled, is_term_too_wide, is_too_wide, missing, repeated};
+ghost use Rattle.memory_desc.specs.Table.{at_line, is_term_too_wide, missing, repeated};
 ghost use Rattle.memory_desc.specs.inner.Heard.{statements};
-ghost use Rattle.memory_desc.specs.inner.Met.{MayBeMet};
-ghost use Rattle.memory_desc.specs.inner.Seeking.{is_outside, is_sought, IsPosed};
+ghost use Rattle.memory_desc.specs.inner.Seeking.{is_sought, IsPosed};
 ghost use Rattle.memory_desc.specs.inner.Seen.{plain_content, plain_statement};
 
 use crate::content::{Content, Quantity, Statement, Subject, Term, subject_of};
@@ -35,20 +34,35 @@ pub enum Sought {
 }
 
 /// Whether a content line is sought.
+#[tactic(auto, using(crate::proofs::LineTests::past_ones, crate::proofs::LineTests::any_past))]
 fn is_sought(content: &Content<'_>, sought: Sought) -> bool
     requires { IsPosed sought }
     ensures { result ≡ is_sought sought (plain_content content.now) }
 {
     match sought {
         Sought::About(wanted) => subject_of(content) == wanted,
-        Sought::OutOfRange => is_out_of_range(content),
         Sought::Row => matches!(content, Content::Scramble(..)),
-        Sought::TooWide { width, bits } => is_too_wide(content, width, bits),
+        Sought::OutOfRange => match content {
+            Content::Name(name) => is_name_outside(name),
+            Content::Number(Quantity::Words, count) => *count < 2 || *count > 65536,
+            Content::Number(Quantity::Bits, count) => *count < 1 || *count > 64,
+            Content::Number(Quantity::Latency, cycles) => *cycles < 1 || *cycles > 4,
+            Content::Number(Quantity::Pause, cycles) => *cycles < 1 || *cycles > 65535,
+            _ => false,
+        },
+        Sought::TooWide { width, bits } => match content {
+            Content::Scramble(bit, terms) => {
+                *bit >= u32::from(width) || is_any_term_too_wide(terms.again(), width)
+            }
+            Content::Polarity(word) => *word > all_ones(bits),
+            Content::Backgrounds(words) => is_any_past(words.again(), all_ones(bits)),
+            _ => false,
+        },
     }
 }
 
 /// The first content line that is sought.
-fn first_line<'a>(bytes: &'a [u8], sought: Sought) -> Option<Statement<'a>>
+pub fn first_line<'a>(bytes: &'a [u8], sought: Sought) -> Option<Statement<'a>>
     requires { IsPosed sought }
     ensures { option_map plain_statement result ≡ find (λ s. is_sought sought s.content) (statements (text_lines bytes.now)) }
 {
@@ -70,8 +84,10 @@ fn first_line<'a>(bytes: &'a [u8], sought: Sought) -> Option<Statement<'a>>
 pub fn content_about<'a>(bytes: &'a [u8], wanted: Subject) -> Option<Content<'a>>
     ensures { option_map plain_content result ≡ said wanted (statements (text_lines bytes.now)) }
 {
-    let statement = first_line(bytes, Sought::About(wanted))?;
-    Some(statement.content)
+    match first_line(bytes, Sought::About(wanted)) {
+        Some(statement) => Some(statement.content),
+        None => None,
+    }
 }
 
 /// A field must be there.
@@ -81,22 +97,6 @@ pub fn check_there(bytes: &[u8], wanted: Subject, field: Field) -> Result<(), Me
     match first_line(bytes, Sought::About(wanted)) {
         Some(_) => Ok(()),
         None => Err(MemoryFault::Missing { field }),
-    }
-}
-
-/// Whether an earlier line than this one speaks of the same, where the numbers of the earlier rows were met.
-fn is_repeat(bytes: &[u8], line: usize, subject: Subject, met: &mut RowNumbers) -> bool
-    ensures repeat { ((MayBeMet met.old.numbers.items subject → ⊥) → is_other line (about subject (statements (text_lines bytes.now))) ≡ false)
-        → result ≡ is_other line (about subject (statements (text_lines bytes.now))) }
-    ensures kept { MayBeMet met.new.numbers.items subject }
-    ensures stay { (q : Subject) → MayBeMet met.old.numbers.items q → MayBeMet met.new.numbers.items q }
-{
-    if met.is_new(subject) {
-        return false;
-    }
-    match first_line(bytes, Sought::About(subject)) {
-        Some(first) => first.line != line,
-        None => false,
     }
 }
 
@@ -110,17 +110,18 @@ pub fn check_repeats(bytes: &[u8]) -> Result<(), MemoryFault>
         let Some(content) = said(line.text) else {
             continue;
         };
-        if is_repeat(bytes, line.number, subject_of(&content), &mut met) {
+        let subject = subject_of(&content);
+        if met.is_new(subject) {
+            continue;
+        }
+        let Some(first) = first_line(bytes, Sought::About(subject)) else {
+            continue;
+        };
+        if first.line != line.number {
             return Err(MemoryFault::Repeated { line: line.number });
         }
     }
     Ok(())
-}
-
-fn is_outside(value: u32, least: u32, most: u32) -> bool
-    ensures { result ≡ is_outside value least most }
-{
-    value < least || value > most
 }
 
 /// Whether a name has more than 48 bytes or is a reserved word.
@@ -130,77 +131,29 @@ pub fn is_name_outside(name: &[u8]) -> bool
     name.len() > 48 || is_reserved(name)
 }
 
-/// Whether the name, the number of words or of bits, the latency or the pause of a line is outside its range.
-fn is_out_of_range(content: &Content<'_>) -> bool
-    ensures { result ≡ is_out_of_range (plain_content content.now) }
-{
-    match content {
-        Content::Name(name) => is_name_outside(name),
-        Content::Number(Quantity::Words, count) => is_outside(*count, 2, 65536),
-        Content::Number(Quantity::Bits, count) => is_outside(*count, 1, 64),
-        Content::Number(Quantity::Latency, cycles) => is_outside(*cycles, 1, 4),
-        Content::Number(Quantity::Pause, cycles) => is_outside(*cycles, 1, 65535),
-        _ => false,
-    }
-}
-
-/// Whether a term goes past the address.
-fn is_term_too_wide(term: Term, width: u8) -> bool
-    ensures { result ≡ is_term_too_wide width term }
-{
-    match term {
-        Term::IndexBit(bit) => bit >= u32::from(width),
-        Term::Constant(_) => false,
-    }
-}
-
 /// Whether one of some terms goes past the address.
 fn is_any_term_too_wide(terms: Terms<'_>, width: u8) -> bool
     ensures { result ≡ list_any (is_term_too_wide width) terms.entry }
 {
     for term in terms {
-        if is_term_too_wide(term, width) {
-            return true;
+        match term {
+            Term::IndexBit(bit) if bit >= u32::from(width) => return true,
+            _ => {}
         }
     }
     false
 }
 
-/// Whether a background or a polarity goes past the word.
-#[tactic(auto, using(crate::proofs::LineTests::past_ones))]
-fn is_word_too_wide(word: u64, bits: u8) -> bool
-    requires { (1 ≤ bits) × (bits ≤ 64) }
-    ensures { result ≡ nat_le (2 ^ bits) word }
-{
-    word > all_ones(bits)
-}
-
-/// Whether one of some words goes past the bits of a word.
-fn is_any_word_too_wide(words: Words<'_>, bits: u8) -> bool
-    requires { (1 ≤ bits) × (bits ≤ 64) }
-    ensures { result ≡ list_any (nat_le (2 ^ bits)) words.entry }
+/// Whether one of some words is past the greatest.
+fn is_any_past(words: Words<'_>, greatest: u64) -> bool
+    ensures { result ≡ list_any (nat_lt greatest) words.entry }
 {
     for word in words {
-        if is_word_too_wide(word, bits) {
+        if word > greatest {
             return true;
         }
     }
     false
-}
-
-/// Whether a row goes past the address, or a background or a polarity past the word.
-fn is_too_wide(content: &Content<'_>, width: u8, bits: u8) -> bool
-    requires { (1 ≤ bits) × (bits ≤ 64) }
-    ensures { result ≡ is_too_wide width bits (plain_content content.now) }
-{
-    match content {
-        Content::Scramble(bit, terms) => {
-            *bit >= u32::from(width) || is_any_term_too_wide(terms.again(), width)
-        }
-        Content::Polarity(word) => is_word_too_wide(*word, bits),
-        Content::Backgrounds(words) => is_any_word_too_wide(words.again(), bits),
-        _ => false,
-    }
 }
 
 /// No content line is sought, else the first is out of its range.
@@ -214,11 +167,4 @@ pub fn check_none(bytes: &[u8], sought: Sought) -> Result<(), MemoryFault>
         }),
         None => Ok(()),
     }
-}
-
-/// Whether there is a row.
-pub fn is_scrambled(bytes: &[u8]) -> bool
-    ensures { result ≡ is_scrambled (statements (text_lines bytes.now)) }
-{
-    first_line(bytes, Sought::Row).is_some()
 }

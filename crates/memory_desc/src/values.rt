@@ -3,7 +3,7 @@
 ghost use Rattle.std.specs.Prelude.{◌≡◌, Some};
 ghost use Rattle.bist_text.specs.Lines.{text_lines};
 ghost use Rattle.memory_desc.specs.Subjects.{said};
-ghost use Rattle.memory_desc.specs.Values.{name_said, polarity_said, terms_in};
+ghost use Rattle.memory_desc.specs.Values.{name_said, terms_in};
 ghost use Rattle.memory_desc.specs.inner.Heard.{statements};
 ghost use Rattle.memory_desc.specs.inner.Seen.{number_or, plain_content};
 
@@ -21,23 +21,14 @@ pub fn name_said(bytes: &[u8]) -> &[u8]
     }
 }
 
-/// The number that a text gives; another where it says nothing of it.
-pub fn number_said(bytes: &[u8], wanted: Subject, otherwise: u32) -> u32
+/// The number or the polarity that a text gives; another where it says nothing of it.
+pub fn number_said(bytes: &[u8], wanted: Subject, otherwise: u64) -> u64
     ensures { result ≡ number_or otherwise (said wanted (statements (text_lines bytes.now))) }
 {
     match content_about(bytes, wanted) {
-        Some(Content::Number(_, number)) => number,
-        _ => otherwise,
-    }
-}
-
-/// The polarity; no bit is inverted where nothing is said of it.
-pub fn polarity_said(bytes: &[u8]) -> u64
-    ensures { result ≡ polarity_said (statements (text_lines bytes.now)) }
-{
-    match content_about(bytes, Subject::Polarity) {
+        Some(Content::Number(_, number)) => u64::from(number),
         Some(Content::Polarity(word)) => word,
-        _ => 0,
+        _ => otherwise,
     }
 }
 

@@ -1,10 +1,8 @@
 //! The reader of backgrounds: what stands behind the first word of a `backgrounds` line.
 
 ghost use Rattle.std.specs.Prelude.{◌≡◌, Some, MatchResult};
-ghost use Rattle.bist_text.specs.Grammar.{is_blank};
-ghost use Rattle.bist_text.specs.keyed.Parts.{spaced};
 ghost use Rattle.bist_text.specs.keyed.Reading.{took, stuck};
-ghost use Rattle.memory_desc.specs.inner.Heard.{backgrounds_of, listed_of, log_end_of, next_word_of, spaced_word_of};
+ghost use Rattle.memory_desc.specs.inner.Heard.{backgrounds_of, next_word_of};
 ghost use Rattle.memory_desc.specs.inner.Seen.{plain_content};
 
 use crate::content::Content;
@@ -12,35 +10,27 @@ use bist_text::byte_sets::BLANKS;
 use bist_text::keyed_lines::{Read, blanks, byte, ended, hex_number};
 use std::marker::Model;
 
-/// A word behind blanks; None at the end of the line.
-fn spaced_word(text: &[u8]) -> Read<'_, Option<u64>>
-    ensures { MatchResult result (λ r. spaced_word_of (spaced text.now) ≡ took r.0 r.1.now) (λ left. spaced_word_of (spaced text.now) ≡ stuck left.now) }
-{
-    let text = blanks(text);
-    match text {
-        [] => Ok((None, text)),
-        [first, _rest @ ..] => {
-            if !first.is_ascii_hexdigit() {
-                return ended(text, None);
-            }
-            let (word, text) = hex_number(text)?;
-            Ok((Some(word), text))
-        }
-    }
-}
-
 /// The next word; None at the end of the line.
-#[tactic(auto, using(bist_text::proofs::Blanks::blanks_have))]
+#[tactic(auto, using(bist_text::proofs::Blanks::blanks_have, crate::proofs::TermReads::behind_blank))]
 fn next_word(text: &[u8]) -> Read<'_, Option<u64>>
     ensures { MatchResult result (λ r. next_word_of text.now ≡ took r.0 r.1.now) (λ left. next_word_of text.now ≡ stuck left.now) }
 {
     match text {
         [] => Ok((None, text)),
         [first, _rest @ ..] => {
-            if BLANKS.contains(*first) {
-                spaced_word(text)
-            } else {
-                ended(text, None)
+            if !BLANKS.contains(*first) {
+                return ended(text, None);
+            }
+            let text = blanks(text);
+            match text {
+                [] => Ok((None, text)),
+                [first, _rest @ ..] => {
+                    if !first.is_ascii_hexdigit() {
+                        return ended(text, None);
+                    }
+                    let (word, text) = hex_number(text)?;
+                    Ok((Some(word), text))
+                }
             }
         }
     }
@@ -85,7 +75,9 @@ impl<'a> Iterator for Words<'a> {
     ghost remaining = { item_count (λ s. s) };
 
     fn next(&mut self) -> Option<u64> {
-        let word = self.next?;
+        let Some(word) = self.next else {
+            return None;
+        };
         if let Ok((Some(next), left)) = next_word(self.left) {
             self.next = Some(next);
             self.left = left;
@@ -96,19 +88,15 @@ impl<'a> Iterator for Words<'a> {
     }
 }
 
-/// What stands behind the first letter of `log`.
-fn log_end(text: &[u8]) -> Read<'_, Content<'_>>
-    ensures { MatchResult result (λ r. log_end_of text.now ≡ took (Some (plain_content r.0)) r.1.now) (λ left. log_end_of text.now ≡ stuck left.now) }
+/// The backgrounds of a `backgrounds` line: `log`, or a list of words to the end of the line.
+pub fn backgrounds(text: &[u8]) -> Read<'_, Content<'_>>
+    ensures { MatchResult result (λ r. backgrounds_of text.now ≡ took (Some (plain_content r.0)) r.1.now) (λ left. backgrounds_of text.now ≡ stuck left.now) }
 {
-    let ((), text) = byte(text, b'o')?;
-    let ((), text) = byte(text, b'g')?;
-    ended(text, Content::Log)
-}
-
-/// A list of words, to the end of the line.
-fn listed(text: &[u8]) -> Read<'_, Content<'_>>
-    ensures { MatchResult result (λ r. listed_of text.now ≡ took (Some (plain_content r.0)) r.1.now) (λ left. listed_of text.now ≡ stuck left.now) }
-{
+    if let [b'l', rest @ ..] = text {
+        let ((), rest) = byte(rest, b'o')?;
+        let ((), rest) = byte(rest, b'g')?;
+        return ended(rest, Content::Log);
+    }
     let (first, further) = hex_number(text)?;
     let mut left = further;
     loop {
@@ -121,21 +109,5 @@ fn listed(text: &[u8]) -> Read<'_, Content<'_>>
             return Ok((Content::Backgrounds(words), rest));
         };
         left = rest;
-    }
-}
-
-/// The backgrounds of a `backgrounds` line.
-pub fn backgrounds(text: &[u8]) -> Read<'_, Content<'_>>
-    ensures { MatchResult result (λ r. backgrounds_of text.now ≡ took (Some (plain_content r.0)) r.1.now) (λ left. backgrounds_of text.now ≡ stuck left.now) }
-{
-    match text {
-        [] => Err(text),
-        [first, rest @ ..] => {
-            if *first == b'l' {
-                log_end(rest)
-            } else {
-                listed(text)
-            }
-        }
     }
 }

@@ -1,6 +1,6 @@
 ghost use Rattle.std.specs.Prelude.{◌≡◌, ◌<◌, ◌≤◌, if◌then◌else◌, length, map};
 ghost use Rattle.std.specs.List.{range_with_len};
-ghost use Rattle.word_device.specs.Chips.{words_after, reply_to, words_paused, closed_by};
+ghost use Rattle.word_device.specs.Chips.{words_after, reply_to};
 ghost use Rattle.word_device.specs.Ports.{addressed, acted_at, answer_at, rested, idle_more};
 ghost use Rattle.word_device.specs.Boxes.{IsShape, FitsPlanted, pattern};
 ghost use Rattle.word_device.specs.WayBack.{IsWayBack};
@@ -14,7 +14,6 @@ use crate::way_back::WayBack;
 use arrayvec::ArrayVec;
 use std::alloc::Global;
 use std::marker::Model;
-use word_march::WordOp;
 
 /// A memory of words that tells its chip. A word takes 8 bytes.
 #[derive(Drop)]
@@ -68,40 +67,6 @@ impl ArrayDevice {
     }
 }
 
-/// One operation on the words.
-#[tactic(auto, unfolding(crate::specs::Chips::words_after, crate::specs::Chips::reply_to))]
-fn operate(planted: &Option<Planted>, words: &mut [u64], op: WordOp) -> u64
-    requires fits { FitsPlanted planted.now (length words.old) 64 }
-    requires within { op.index < length words.old }
-    ensures words { words.new ≡ words_after planted.now words.old op }
-    ensures reply { result ≡ reply_to planted.now words.old op }
-{
-    match planted {
-        Some(instance) => operate_planted(instance, words, op),
-        None => do_plainly(words, op),
-    }
-}
-
-/// A pause of the words.
-fn pause_by(planted: &Option<Planted>, words: &mut [u64])
-    requires { FitsPlanted planted.now (length words.old) 64 }
-    ensures { words.new ≡ words_paused planted.now words.old }
-{
-    if let Some(instance) = planted {
-        pause(instance, words);
-    }
-}
-
-/// Closes the words, where an instance is planted.
-fn close_by(planted: &Option<Planted>, words: &mut [u64])
-    requires { FitsPlanted planted.now (length words.old) 64 }
-    ensures { words.new ≡ closed_by planted.now words.old }
-{
-    if let Some(instance) = planted {
-        close(instance, words);
-    }
-}
-
 /// The words that a number stands for.
 fn fill_words(words: &mut [u64], number: u64, bits: u8)
     requires { (1 ≤ bits) × (bits ≤ 64) }
@@ -114,6 +79,7 @@ fn fill_words(words: &mut [u64], number: u64, bits: u8)
 }
 
 /// A command that is enabled: its own answer.
+#[tactic(auto, unfolding(crate::specs::Chips::words_after, crate::specs::Chips::reply_to))]
 fn act(
     shape: &Shape,
     way: &WayBack,
@@ -128,13 +94,15 @@ fn act(
     ensures words { words.new ≡ acted_at shape.now planted.now words.old cmd.now (addressed shape.now cmd.now.addr) }
     ensures answer { result ≡ answer_at shape.now planted.now words.old cmd.now (addressed shape.now cmd.now.addr) }
 {
-    match addressed(shape, way, cmd.addr) {
-        Some(index) => {
-            let op = stored_op(shape, cmd, index);
-            shown(cmd.we, shape.polarity, operate(planted, words, op))
-        }
-        None => 0,
-    }
+    let Some(index) = addressed(shape, way, cmd.addr) else {
+        return 0;
+    };
+    let op = stored_op(shape, cmd, index);
+    let word = match planted {
+        Some(instance) => operate_planted(instance, words, op),
+        None => do_plainly(words, op),
+    };
+    shown(cmd.we, shape.polarity, word)
 }
 
 /// An idle cycle behind so many others: how many they are then, up to the pause.
@@ -151,7 +119,9 @@ fn rest(shape: &Shape, planted: &Option<Planted>, words: &mut [u64], idle: u32) 
         shape.pause
     };
     if count == shape.pause {
-        pause_by(planted, words);
+        if let Some(instance) = planted {
+            pause(instance, words);
+        }
     }
     count
 }
@@ -199,7 +169,9 @@ impl Device for ArrayDevice {
             return;
         };
         fill_words(&mut self.words, number, shape.bits);
-        close_by(&self.planted, &mut self.words);
+        if let Some(instance) = &self.planted {
+            close(instance, &mut self.words);
+        }
     }
 
     fn cycle(&mut self, cmd: &PortCmd) -> u64 {

@@ -1,13 +1,13 @@
 ghost use Rattle.std.specs.Prelude.{◌≡◌, ◌<◌, ◌↔◌, if◌then◌else◌, IsTrue, IsOk, IfErr, is_some, length, Some};
-ghost use Rattle.fault_core.specs.Primitive.{agg_has_act, has_aggressor, is_retention};
+ghost use Rattle.fault_core.specs.Primitive.{has_aggressor};
 ghost use Rattle.fault_core.specs.Cells.{has_act};
 ghost use Rattle.word_device.specs.Boxes.{FitsBox};
-ghost use Rattle.word_device.specs.Chips.{bit_in, with_bit_in, agg_bit_holds, bits_hold, closed_words, paused_words, act_on, falls_on, falls_on_agg, matches, plain_words, plain_reply, answered, words_after, reply_to, FitsMemory, FitsAggPlace};
+ghost use Rattle.word_device.specs.Chips.{bit_in, with_bit_in, bits_hold, closed_words, paused_words, falls_on, matches, plain_words, plain_reply, words_after, reply_to, FitsMemory};
 
 use crate::bits::{has_bit, with_bit};
 use crate::device::{DeviceFault, Place, Planted};
 use crate::shape::Shape;
-use fault_core::{Act, Prim, Sense};
+use fault_core::{Act, Prim};
 use word_march::WordOp;
 
 fn bit_in(words: &[u64], at: Place) -> bool
@@ -26,39 +26,27 @@ fn set_bit(words: &mut [u64], at: Place, bit: bool)
     words[at.word as usize] = with_bit(words[at.word as usize], at.bit, bit);
 }
 
-/// Whether the aggressor's bit holds its state.
-fn does_agg_hold(agg: Option<Sense>, place: Option<Place>, vic: Place, words: &[u64]) -> bool
-    requires { FitsAggPlace agg place vic (length words.now) 64 }
-    ensures { result ≡ agg_bit_holds agg place words.now }
-{
-    match (agg, place) {
-        (Some(sense), Some(at)) => bit_in(words, at) == sense.state,
-        _ => true,
-    }
-}
-
 /// Whether every state of the instance holds.
 fn do_states_hold(planted: &Planted, words: &[u64]) -> bool
     requires { FitsMemory planted.now (length words.now) 64 }
     ensures { result ≡ bits_hold planted.now words.now }
 {
-    bit_in(words, planted.vic) == planted.prim.vic().state
-        && does_agg_hold(planted.prim.agg(), planted.agg, planted.vic, words)
-}
-
-fn has_agg_act(agg: Option<Sense>) -> bool
-    ensures { result ≡ agg_has_act agg }
-{
-    match agg {
-        Some(sense) => sense.act.is_some(),
-        None => false,
+    if bit_in(words, planted.vic) != planted.prim.vic().state {
+        return false;
+    }
+    match (planted.prim.agg(), planted.agg) {
+        (Some(sense), Some(at)) => bit_in(words, at) == sense.state,
+        _ => true,
     }
 }
 
 fn has_any_act(prim: &Prim) -> bool
     ensures { result ≡ has_act prim.now }
 {
-    prim.vic().act.is_some() || has_agg_act(prim.agg())
+    match prim.agg() {
+        Some(sense) => prim.vic().act.is_some() || sense.act.is_some(),
+        None => prim.vic().act.is_some(),
+    }
 }
 
 /// Closes the words: an instance without an act acts wherever its states hold.
@@ -83,55 +71,28 @@ fn take_effect(planted: &Planted, words: &mut [u64], own: bool)
     close(planted, words);
 }
 
-fn is_retention(prim: &Prim) -> bool
-    ensures { result ≡ is_retention prim.now }
-{
-    matches!(prim.vic().act, Some(Act::Pause))
-}
-
 /// A pause of the words: an instance whose act it is acts where its states hold.
 #[tactic(auto, unfolding(crate::specs::Chips::paused_words))]
 pub(crate) fn pause(planted: &Planted, words: &mut [u64])
     requires { FitsMemory planted.now (length words.old) 64 }
     ensures { words.new ≡ paused_words planted.now words.old }
 {
-    let own = is_retention(&planted.prim) && do_states_hold(planted, words);
+    let retention = matches!(planted.prim.vic().act, Some(Act::Pause));
+    let own = retention && do_states_hold(planted, words);
     take_effect(planted, words, own);
 }
 
-/// What an operation does to a bit of its word.
-fn act_on(op: WordOp, bit: u8) -> Act
-    requires { bit < 64 }
-    ensures { result ≡ act_on op bit }
-{
-    if op.write {
-        Act::Write(has_bit(op.word, bit))
-    } else {
-        Act::Read
-    }
-}
-
+/// Whether what an operation does to the bit at its place is the act.
 fn does_fall_on(act: Option<Act>, at: Place, op: WordOp) -> bool
     requires { at.bit < 64 }
     ensures { result ≡ falls_on act at op }
 {
-    at.word == op.index && act == Some(act_on(op, at.bit))
-}
-
-fn does_fall_on_agg(
-    agg: Option<Sense>,
-    place: Option<Place>,
-    vic: Place,
-    words: &[u64],
-    op: WordOp,
-) -> bool
-    requires { FitsAggPlace agg place vic (length words.now) 64 }
-    ensures { result ≡ falls_on_agg agg place op }
-{
-    match (agg, place) {
-        (Some(sense), Some(at)) => does_fall_on(sense.act, at, op),
-        _ => false,
-    }
+    let done = if op.write {
+        Act::Write(has_bit(op.word, at.bit))
+    } else {
+        Act::Read
+    };
+    at.word == op.index && act == Some(done)
 }
 
 /// Whether the operation is the act of the instance, on words where its states hold.
@@ -140,8 +101,11 @@ fn does_match(planted: &Planted, words: &[u64], op: WordOp) -> bool
     requires { FitsMemory planted.now (length words.now) 64 }
     ensures { result ≡ matches planted.now words.now op }
 {
-    (does_fall_on(planted.prim.vic().act, planted.vic, op)
-        || does_fall_on_agg(planted.prim.agg(), planted.agg, planted.vic, words, op))
+    let falls_on_agg = match (planted.prim.agg(), planted.agg) {
+        (Some(sense), Some(at)) => does_fall_on(sense.act, at, op),
+        _ => false,
+    };
+    (falls_on_agg || does_fall_on(planted.prim.vic().act, planted.vic, op))
         && do_states_hold(planted, words)
 }
 
@@ -159,16 +123,6 @@ pub(crate) fn do_plainly(words: &mut [u64], op: WordOp) -> u64
     }
 }
 
-fn with_answer(answer: Option<bool>, vic: Place, word: u64) -> u64
-    requires { vic.bit < 64 }
-    ensures { result ≡ answered answer vic word }
-{
-    match answer {
-        Some(bit) => with_bit(word, vic.bit, bit),
-        None => word,
-    }
-}
-
 /// One operation on words with a planted instance: its reply.
 #[tactic(auto, unfolding(crate::specs::Chips::words_after, crate::specs::Chips::reply_to))]
 pub(crate) fn operate_planted(planted: &Planted, words: &mut [u64], op: WordOp) -> u64
@@ -180,10 +134,9 @@ pub(crate) fn operate_planted(planted: &Planted, words: &mut [u64], op: WordOp) 
     let own = does_match(planted, words, op);
     let plain = do_plainly(words, op);
     take_effect(planted, words, own);
-    if own {
-        with_answer(planted.prim.answer(), planted.vic, plain)
-    } else {
-        plain
+    match planted.prim.answer() {
+        Some(bit) if own => with_bit(plain, planted.vic.bit, bit),
+        _ => plain,
     }
 }
 
@@ -193,23 +146,18 @@ fn is_within(at: Place, shape: &Shape) -> bool
     at.word < shape.words && at.bit < shape.bits
 }
 
-fn does_agg_fit(agg: Option<Sense>, place: Option<Place>, vic: Place, shape: &Shape) -> bool
-    requires { is_some place ≡ is_some agg }
-    ensures { IsTrue result ↔ FitsAggPlace agg place vic shape.now.words shape.now.bits }
-{
-    match (agg, place) {
-        (Some(_), Some(at)) => is_within(at, shape) && at.word != vic.word,
-        _ => true,
-    }
-}
-
 /// Whether the instance's places are in the shape, and in different words.
 pub(crate) fn does_fit(planted: &Planted, shape: &Shape) -> bool
     requires { is_some planted.now.agg ≡ has_aggressor planted.now.prim }
     ensures { IsTrue result ↔ FitsMemory planted.now shape.now.words shape.now.bits }
 {
-    is_within(planted.vic, shape)
-        && does_agg_fit(planted.prim.agg(), planted.agg, planted.vic, shape)
+    if !is_within(planted.vic, shape) {
+        return false;
+    }
+    match planted.agg {
+        Some(at) => is_within(at, shape) && at.word != planted.vic.word,
+        None => true,
+    }
 }
 
 /// The instance fits the shape, or is refused.

@@ -1,13 +1,10 @@
 -- Inner. What a search in the lines of a text looks for.
-use Rattle.std.specs.Prelude.{ℕ, ◌≤◌, ◌||◌, Bool, nat_lt}
+use Rattle.std.specs.Prelude.{◌≤◌, Bool}
 use Rattle.memory_desc.specs.LineText.{Content}
 use Rattle.memory_desc.specs.Subjects.{is_same, subject}
 use Rattle.memory_desc.specs.Table.{is_out_of_range, is_row, is_too_wide}
 use Rattle.memory_desc.specs.declared.search.Sought.{Sought}
 use Rattle.memory_desc.specs.declared.search.Sought.TheVariants.{About, OutOfRange, Row, TooWide}
-
-abbrev pub is_outside : ℕ → ℕ → ℕ → Bool
-is_outside n least most = nat_lt n least || nat_lt most n
 
 abbrev pub is_sought : Sought → Content → Bool
 is_sought (About q) c = is_same q (subject c)

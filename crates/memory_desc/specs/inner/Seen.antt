@@ -16,13 +16,14 @@ number_content Q.Bits n = bits n
 number_content Q.Latency n = latency n
 number_content Q.Pause n = pause n
 
--- the number that a content is; another where it is none
+-- the number or the polarity that a content is; another where it is none
 abbrev pub number_or : ℕ → Option Content → ℕ
 number_or otherwise (Some (version n)) = n
 number_or otherwise (Some (words n)) = n
 number_or otherwise (Some (bits n)) = n
 number_or otherwise (Some (latency n)) = n
 number_or otherwise (Some (pause n)) = n
+number_or otherwise (Some (polarity w)) = w
 number_or otherwise other = otherwise
 
 abbrev pub plain_content : ReadContent → Content

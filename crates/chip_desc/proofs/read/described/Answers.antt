@@ -1,4 +1,5 @@
-use Rattle.chip_desc.proofs.Common.{Err, IsName, ap, heavier_than, out_of_range, passed, plain_statement, statements, subst, sym, text_lines, ◌∙◌}
+use Rattle.chip_desc.proofs.Common.{Err, IsName, ap, heavier_than, out_of_range, passed, plain_statement, refl, statements, subst, sym, text_lines, ◌∙◌}
+use Rattle.chip_desc.specs.Chips.{described_as}
 use Rattle.std.proofs.lemmas.Result.{err_from_is_err_and}
 use Rattle.chip_desc.proofs.Described.{named, is_chip, comes_to, is_refused, is_described, parts_same}
 use Rattle.chip_desc.proofs.read.described.Goals as goal
@@ -19,8 +20,8 @@ name_from-name-requires c =
     let ls = text_lines c.args.bytes.now in
     subst IsName (sym c.name_of.ensures) (named ls (plain_statement c.in_ok-name_line.name_line) (passed (out_of_range (statements ls)) c.in_ok-check_none-2.ensures) c.in_ok-name_line.ensures)
 
-pub new-requires : goal.new-requires
-new-requires c =
+pub invariant_of-result : goal.invariant_of-result
+invariant_of-result c =
     let ls = text_lines c.args.bytes.now in
     let ss = statements ls in
     let n = c.budget_of-budget.result in
@@ -34,9 +35,10 @@ pub returns : goal.returns
 returns c =
     let ss = statements (text_lines c.args.bytes.now) in
     let n = c.budget_of-budget.result in
-    is_described ss c.new.result n
+    let chip = described_as c.name_from-name.result.bytes n c.in_ok-units.units.items in
+    is_described ss chip n
     (comes_to ss n (plain_statement c.in_ok-name_line.name_line) (plain_statement c.in_ok-budget_line.budget_line) (plain_statement c.in_ok-field.field-0) c.in_ok-check_none.ensures
     c.in_ok-name_line.ensures c.in_ok-budget_line.ensures c.in_ok-field.ensures c.in_ok-check_none-2.ensures c.in_ok-units.ensures.0 c.budget_of-budget.ensures)
     c.in_ok-check_none-3.ensures
-    (parts_same ss c.new.result (plain_statement c.in_ok-name_line.name_line) (plain_statement c.in_ok-budget_line.budget_line) c.name_from-name.result.bytes n c.in_ok-units.units.items c.new.ensures
+    (parts_same ss chip (plain_statement c.in_ok-name_line.name_line) (plain_statement c.in_ok-budget_line.budget_line) c.name_from-name.result.bytes n c.in_ok-units.units.items refl
     c.in_ok-name_line.ensures (c.name_from-name.ensures ∙ c.name_of.ensures) c.in_ok-budget_line.ensures c.budget_of-budget.ensures c.in_ok-units.ensures.1)

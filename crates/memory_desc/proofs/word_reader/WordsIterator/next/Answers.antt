@@ -10,8 +10,8 @@ invariant_of-self c = let n = c.in-Ok-Some-default in (one_left next_word_of wor
 pub returns-in-Ok-Some-default-clause-steps : goal.returns-in-Ok-Some-default-clause-steps
 returns-in-Ok-Some-default-clause-steps c =
     let n = c.in-Ok-Some-default in
-    sym c.self.view_is ∙ ap (λ o. items_after o (words_of c.self.inside.left.now)) c.in_ok-word.was
-    ∙ ap (λ xs. c.in_ok-word.word ∷ xs) (one_left next_word_of word_next c.self.inside.left.now n.left.now n.next n.ensures n.field-0-0-is c.self.invariant).1
+    sym c.self.view_is ∙ ap (λ o. items_after o (words_of c.self.inside.left.now)) c.in-Some.is
+    ∙ ap (λ xs. c.in-Some.word ∷ xs) (one_left next_word_of word_next c.self.inside.left.now n.left.now n.next n.ensures n.field-0-0-is c.self.invariant).1
 
 pub returns-in-Ok-Some-default-clause-goes : goal.returns-in-Ok-Some-default-clause-goes
 returns-in-Ok-Some-default-clause-goes c = record {

@@ -1,7 +1,7 @@
 use Rattle.memory_desc.proofs.Common.{next_word_of}
 use Rattle.memory_desc.proofs.WordLaws.{word_next}
 use Rattle.memory_desc.proofs.Left.{goes_on, shorter}
-use Rattle.memory_desc.proofs.word_reader.listed.Goals as goal
+use Rattle.memory_desc.proofs.word_reader.backgrounds.Goals as goal
 
 pub loop-next-smaller : goal.loop-next-smaller
 loop-next-smaller c = shorter next_word_of word_next c.loop-next.left.now c.in_ok-next.rest.now c.in-Some.field-0 c.in_ok-next.ensures c.in-Some.is

@@ -1,6 +1,6 @@
 use Rattle.memory_desc.proofs.Common.{length, words_of, ◌≡◌}
 use Rattle.memory_desc.proofs.Left.{Ended}
-use Rattle.memory_desc.proofs.word_reader.listed.Given as goal
+use Rattle.memory_desc.proofs.word_reader.backgrounds.Given as goal
 
 abbrev pub invariant-loop-next : goal.invariant-loop-next
 invariant-loop-next l = Ended (words_of l.left) ≡ Ended (words_of l.further)
