@@ -77,21 +77,16 @@ fn arms_fit(room: u8, choices: &[Arm]) -> bool
     true
 }
 
-fn item_fits(item: &Item) -> bool
-    ensures { result ≡ item_fits 64 (plain_item item.now) }
-{
-    match item {
-        Item::Wire(declared) | Item::Reg(declared) => is_name(&declared.name),
-        Item::Assign(name, x) => is_name(name) && expr_fits(64, x),
-        Item::Always(clock, body) => is_name(clock) && stmts_fit(63, body),
-    }
-}
-
 fn items_fit(items: &[Item]) -> bool
     ensures { result ≡ items_fit 64 (map plain_item items.now) }
 {
     for item in items {
-        if !item_fits(item) {
+        let fits = match item {
+            Item::Wire(declared) | Item::Reg(declared) => is_name(&declared.name),
+            Item::Assign(name, x) => is_name(name) && expr_fits(64, x),
+            Item::Always(clock, body) => is_name(clock) && stmts_fit(63, body),
+        };
+        if !fits {
             return false;
         }
     }
