@@ -20,8 +20,9 @@ returns c =
     let es = c.self.inside.forms.entries in
     let absent = sym c.contains_key.ensures ∙ c.if-contains_key.false in
     elim c.match-insert.branch [
-      in-Ok w ↦ ok_now c.match-insert.result _ _ w.result-is (
-        ap (map declares) (on_ok c.insert.result _ _ w.in-Ok.is c.insert.ensures.entries ∙ insert_entry-new same_name c.self.inside.forms c.args.declared.name _ (table_none es d.name absent))
-        ∙ declared_last es c.args.declared.name _ absent
-        ∙ ap (λ l. with_declared l d) c.self.view_is)
-    | in-Err w ↦ err_now c.match-insert.result _ _ w.result-is ]
+      | in-Ok w ↦ ok_now c.match-insert.result _ _ w.result-is (
+          ap (map declares) (on_ok c.insert.result _ _ w.in-Ok.is c.insert.ensures.entries ∙ insert_entry-new same_name c.self.inside.forms c.args.declared.name _ (table_none es d.name absent))
+          ∙ declared_last es c.args.declared.name _ absent
+          ∙ ap (λ l. with_declared l d) c.self.view_is)
+      | in-Err w ↦ err_now c.match-insert.result _ _ w.result-is
+    ]
