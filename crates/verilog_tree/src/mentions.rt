@@ -59,7 +59,12 @@ fn put_expr(out: &mut Vec<Mention>, x: &Expr) -> Result<(), NoMemory>
         Expr::Bit(name, place) => put(out, Mention::Select(*name, *place, *place)),
         Expr::Part(name, high, low) => put(out, Mention::Select(*name, *high, *low)),
         Expr::Lit(_) => Ok(()),
-        Expr::Concat(parts) => put_exprs(out, parts),
+        Expr::Concat(parts) => {
+            for part in parts {
+                put_expr(out, part)?;
+            }
+            Ok(())
+        }
         Expr::Unary(_, a) => put_expr(out, a),
         Expr::Binary(_, a, b) => {
             put_expr(out, a)?;
@@ -71,16 +76,6 @@ fn put_expr(out: &mut Vec<Mention>, x: &Expr) -> Result<(), NoMemory>
             put_expr(out, b)
         }
     }
-}
-
-#[cycle(put_expr)]
-fn put_exprs(out: &mut Vec<Mention>, parts: &[Expr]) -> Result<(), NoMemory>
-    ensures { OnOk result (map mention out.new.items ≡ map mention out.old.items ++ all_reads (expressions (map plain parts.now))) }
-{
-    for part in parts {
-        put_expr(out, part)?;
-    }
-    Ok(())
 }
 
 #[cycle(put_stmt)]
@@ -99,7 +94,9 @@ fn put_stmt(out: &mut Vec<Mention>, s: &Stmt) -> Result<(), NoMemory>
         }
         Stmt::Case(x, choices, other) => {
             put_expr(out, x)?;
-            put_arms(out, choices)?;
+            for arm in choices {
+                put_stmts(out, &arm.body)?;
+            }
             put_stmts(out, other)
         }
     }
@@ -111,16 +108,6 @@ fn put_stmts(out: &mut Vec<Mention>, body: &[Stmt]) -> Result<(), NoMemory>
 {
     for s in body {
         put_stmt(out, s)?;
-    }
-    Ok(())
-}
-
-#[cycle(put_stmt)]
-fn put_arms(out: &mut Vec<Mention>, choices: &[Arm]) -> Result<(), NoMemory>
-    ensures { OnOk result (map mention out.new.items ≡ map mention out.old.items ++ arms_mentions (arms (map plain_arm choices.now))) }
-{
-    for arm in choices {
-        put_stmts(out, &arm.body)?;
     }
     Ok(())
 }
