@@ -16,25 +16,20 @@ fn expr_fits(room: u8, x: &Expr) -> bool
     match x {
         Expr::Name(name) | Expr::Bit(name, _) | Expr::Part(name, _, _) => is_name(name),
         Expr::Lit(_) => true,
-        Expr::Concat(parts) => 0 < room && exprs_fit(inner, parts),
+        Expr::Concat(parts) => {
+            for part in parts {
+                if !expr_fits(inner, part) {
+                    return false;
+                }
+            }
+            0 < room
+        }
         Expr::Unary(_, a) => 0 < room && expr_fits(inner, a),
         Expr::Binary(_, a, b) => 0 < room && expr_fits(inner, a) && expr_fits(inner, b),
         Expr::Choose(c, a, b) => {
             0 < room && expr_fits(inner, c) && expr_fits(inner, a) && expr_fits(inner, b)
         }
     }
-}
-
-#[cycle(expr_fits)]
-fn exprs_fit(room: u8, parts: &[Expr]) -> bool
-    ensures { result ≡ expressions_fit room (expressions (map plain parts.now)) }
-{
-    for part in parts {
-        if !expr_fits(room, part) {
-            return false;
-        }
-    }
-    true
 }
 
 #[cycle(stmt_fits)]
