@@ -88,21 +88,18 @@ fn items_fit(items: &[Item]) -> bool
     true
 }
 
-fn ports_fit(ports: &[Port]) -> bool
-    ensures { result ≡ ports_fit (map plain_port ports.now) }
-{
-    for port in ports {
-        if !is_name(&port.name) {
-            return false;
-        }
-    }
-    true
-}
-
 /// Whether the module is formed, its names are legal (simple identifiers that aren't reserved), and its
 /// text nests at most 64 deep: `(`, `{`, `begin`, `case` and `if` count.
 pub fn fits(module: &Module) -> bool
     ensures { result ≡ fits (plain_module «module».now) }
 {
-    formed(module) && is_name(&module.name) && ports_fit(&module.ports) && items_fit(&module.items)
+    if !formed(module) || !is_name(&module.name) {
+        return false;
+    }
+    for port in &module.ports {
+        if !is_name(&port.name) {
+            return false;
+        }
+    }
+    items_fit(&module.items)
 }

@@ -112,15 +112,6 @@ fn put_stmts(out: &mut Vec<Mention>, body: &[Stmt]) -> Result<(), NoMemory>
     Ok(())
 }
 
-fn put_names(names: &mut Vec<Name>, all: &[Mention]) -> Result<(), NoMemory>
-    ensures { OnOk result (map (λ n. n.bytes) names.new.items ≡ map (λ n. n.bytes) names.old.items ++ map mentioned (map mention all.now)) }
-{
-    for next in all {
-        put_name(names, next.name())?;
-    }
-    Ok(())
-}
-
 /// The names that an expression reads, in the order of the text.
 pub fn names_read(alloc: Global, x: &Expr) -> Result<Vec<Name>, NoMemory>
     ensures { IfOk result (λ all. map (λ n. n.bytes) all.items ≡ map mentioned (reads (plain x.now))) }
@@ -128,7 +119,9 @@ pub fn names_read(alloc: Global, x: &Expr) -> Result<Vec<Name>, NoMemory>
     let mut all = Vec::new(alloc);
     put_expr(&mut all, x)?;
     let mut names = Vec::new(alloc);
-    put_names(&mut names, &all)?;
+    for next in &all {
+        put_name(&mut names, next.name())?;
+    }
     Ok(names)
 }
 

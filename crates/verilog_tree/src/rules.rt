@@ -79,24 +79,37 @@ fn is_broken(
 ) -> bool
     ensures { result ≡ is_broken rule (width_of widths.now) before.now.declared before.now.set (plain_item item.now) (mention next.now) }
 {
-    match (rule, next) {
-        (Rule::Known, _) => before.declared.get(&next.name()).is_none(),
-        (Rule::InRange, Mention::Select(name, high, low)) => {
-            let width = widths.width(name);
-            !(*high < width) || *high < *low || width == 1
-        }
-        (Rule::Assignable, Mention::Target(name)) => match (item, before.declared.get(name)) {
-            (Item::Always(_, _), Some(found)) => found.kind != Kind::Register,
-            (_, Some(found)) => found.kind != Kind::Wire,
-            (_, None) => true,
+    match rule {
+        Rule::Known => before.declared.get(&next.name()).is_none(),
+        Rule::InRange => match next {
+            Mention::Select(name, high, low) => {
+                let width = widths.width(name);
+                !(*high < width) || *high < *low || width == 1
+            }
+            _ => false,
         },
-        (Rule::InOneBlock, Mention::Target(name)) => before.set.contains(name),
-        (Rule::Clocked, Mention::Clock(name)) => match before.declared.get(name) {
-            Some(found) => !(is_clk(name) && found.kind == Kind::Input && found.width == 1),
-            None => true,
+        Rule::Assignable => match next {
+            Mention::Target(name) => match before.declared.get(name) {
+                Some(found) => match item {
+                    Item::Always(_, _) => found.kind != Kind::Register,
+                    _ => found.kind != Kind::Wire,
+                },
+                None => true,
+            },
+            _ => false,
         },
-        (Rule::Clocked, Mention::Whole(name) | Mention::Select(name, _, _)) => is_clk(name),
-        _ => false,
+        Rule::InOneBlock => match next {
+            Mention::Target(name) => before.set.contains(name),
+            _ => false,
+        },
+        Rule::Clocked => match next {
+            Mention::Clock(name) => match before.declared.get(name) {
+                Some(found) => !(is_clk(name) && found.kind == Kind::Input && found.width == 1),
+                None => true,
+            },
+            Mention::Whole(name) | Mention::Select(name, _, _) => is_clk(name),
+            Mention::Target(_) => false,
+        },
     }
 }
 
@@ -148,17 +161,6 @@ fn check_item(
     keeps(Rule::Clocked, widths, before, item, all)
 }
 
-fn add_targets(set: &mut NameSet, all: &[Mention]) -> Result<(), NoMemory>
-    ensures { OnOk result (set.new ≡ with_targets set.old (map mention all.now)) }
-{
-    for next in all {
-        if let Mention::Target(name) = next {
-            set.add(*name)?;
-        }
-    }
-    Ok(())
-}
-
 // Goes behind an item.
 fn pass(before: &mut Before, item: &Item, all: &[Mention]) -> Result<(), NoMemory>
     requires { map mention all.now ≡ mentions (plain_item item.now) }
@@ -172,7 +174,14 @@ fn pass(before: &mut Before, item: &Item, all: &[Mention]) -> Result<(), NoMemor
             None => Ok(()),
         },
         Item::Assign(name, _) => before.assigned.add(*name),
-        Item::Always(_, _) => add_targets(&mut before.set, all),
+        Item::Always(_, _) => {
+            for next in all {
+                if let Mention::Target(name) = next {
+                    before.set.add(*name)?;
+                }
+            }
+            Ok(())
+        }
     }
 }
 

@@ -116,17 +116,6 @@ fn items_formed(items: &[Item]) -> bool
     true
 }
 
-fn ports_formed(ports: &[Port]) -> bool
-    ensures { result ≡ ports_formed (map plain_port ports.now) }
-{
-    for port in ports {
-        if !width_formed(port.width) {
-            return false;
-        }
-    }
-    true
-}
-
 /// Whether every width is from 1 to 64, every number of a select is at most 63, and the lists that
 /// the grammar wants nonempty are so: a module's ports, the parts of a concatenation, the arms of a
 /// `case` and the labels of an arm.
@@ -134,5 +123,10 @@ fn ports_formed(ports: &[Port]) -> bool
 pub fn formed(module: &Module) -> bool
     ensures { result ≡ formed (plain_module «module».now) }
 {
-    !module.ports.is_empty() && ports_formed(&module.ports) && items_formed(&module.items)
+    for port in &module.ports {
+        if !width_formed(port.width) {
+            return false;
+        }
+    }
+    !module.ports.is_empty() && items_formed(&module.items)
 }
