@@ -125,21 +125,19 @@ pub fn names_read(alloc: Global, x: &Expr) -> Result<Vec<Name>, NoMemory>
     Ok(names)
 }
 
-/// The names that an item uses, in the order of the text.
-pub(crate) fn mentions(alloc: Global, item: &Item) -> Result<Vec<Mention>, NoMemory>
-    ensures { IfOk result (λ all. map mention all.items ≡ mentions (plain_item item.now)) }
+/// Puts the names that an item uses, in the order of the text.
+pub(crate) fn put_item(out: &mut Vec<Mention>, item: &Item) -> Result<(), NoMemory>
+    ensures { OnOk result (map mention out.new.items ≡ map mention out.old.items ++ mentions (plain_item item.now)) }
 {
-    let mut all = Vec::new(alloc);
     match item {
-        Item::Wire(_) | Item::Reg(_) => {}
+        Item::Wire(_) | Item::Reg(_) => Ok(()),
         Item::Assign(name, x) => {
-            put(&mut all, Mention::Target(*name))?;
-            put_expr(&mut all, x)?;
+            put(out, Mention::Target(*name))?;
+            put_expr(out, x)
         }
         Item::Always(clock, body) => {
-            put(&mut all, Mention::Clock(*clock))?;
-            put_stmts(&mut all, body)?;
+            put(out, Mention::Clock(*clock))?;
+            put_stmts(out, body)
         }
     }
-    Ok(all)
 }

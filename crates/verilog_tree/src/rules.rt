@@ -9,7 +9,7 @@ ghost use Rattle.verilog_tree.specs.inner.Seen.{mention};
 ghost use Rattle.verilog_tree.specs.inner.Tables.{among, again, is_broken, told_as, first_broken, with_all, with_targets, break_behind, declared_behind, assigned_behind, set_behind, breaks_behind, all_assigned, unassigned};
 
 use crate::fault::TreeFault;
-use crate::mentions::{Mention, mentions};
+use crate::mentions::{Mention, put_item};
 use crate::names::{Declared, Kind, all_declared, declared_item, declared_port, is_clk};
 use crate::tables::{Declarations, NameSet, by_name};
 use crate::tree::{Item, Module, Name, Port};
@@ -79,17 +79,19 @@ fn is_broken(
 ) -> bool
     ensures { result ≡ is_broken rule (width_of widths.now) before.now.declared before.now.set (plain_item item.now) (mention next.now) }
 {
+    let name = next.name();
+    let found = before.declared.get(&name);
     match rule {
-        Rule::Known => before.declared.get(&next.name()).is_none(),
+        Rule::Known => found.is_none(),
         Rule::InRange => match next {
-            Mention::Select(name, high, low) => {
-                let width = widths.width(name);
+            Mention::Select(_, high, low) => {
+                let width = widths.width(&name);
                 !(*high < width) || *high < *low || width == 1
             }
             _ => false,
         },
         Rule::Assignable => match next {
-            Mention::Target(name) => match before.declared.get(name) {
+            Mention::Target(_) => match found {
                 Some(found) => match item {
                     Item::Always(_, _) => found.kind != Kind::Register,
                     _ => found.kind != Kind::Wire,
@@ -99,15 +101,15 @@ fn is_broken(
             _ => false,
         },
         Rule::InOneBlock => match next {
-            Mention::Target(name) => before.set.contains(name),
+            Mention::Target(_) => before.set.contains(&name),
             _ => false,
         },
         Rule::Clocked => match next {
-            Mention::Clock(name) => match before.declared.get(name) {
-                Some(found) => !(is_clk(name) && found.kind == Kind::Input && found.width == 1),
+            Mention::Clock(_) => match found {
+                Some(found) => !(is_clk(&name) && found.kind == Kind::Input && found.width == 1),
                 None => true,
             },
-            Mention::Whole(name) | Mention::Select(name, _, _) => is_clk(name),
+            Mention::Whole(_) | Mention::Select(_, _, _) => is_clk(&name),
             Mention::Target(_) => false,
         },
     }
@@ -197,7 +199,8 @@ fn check_items(
     ensures assigned { OnOk result (before.new.assigned ≡ all_assigned before.old.assigned (map plain_item items.now)) }
 {
     for item in items {
-        let all = mentions(alloc, item)?;
+        let mut all = Vec::new(alloc);
+        put_item(&mut all, item)?;
         check_item(widths, before, item, &all)?;
         pass(before, item, &all)?;
     }
