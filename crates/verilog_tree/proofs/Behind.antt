@@ -10,7 +10,7 @@ use Rattle.verilog_tree.specs.Names.{Declaration, declared_by, port_declarations
 use Rattle.verilog_tree.specs.Meaning.{names_widths}
 use Rattle.verilog_tree.specs.Rules.{Break, Unknown, Twice, SelectRange, NotAssignable, TwoBlocks, Clock, Undriven, Mention, AsClock, AsTarget, Whole, Selected, mentions, statements_mentions, first_of, first_bad, is_unknown, is_assigned, has_kind, twice, is_out_of_range, assignment_widths, statements_widths, is_wrong_target, is_target, is_set, is_set_before, is_wrong_clock, item_break, items_break, port_twice, port_clock, undriven, first_break, Refuses}
 use Rattle.verilog_tree.specs.Tables.{with_declared, with_name}
-use Rattle.verilog_tree.specs.inner.Tables.{with_all, with_targets, declared_behind, assigned_behind, set_behind, among, again, is_target_among, break_behind, breaks_behind, all_assigned, unassigned, Assigned}
+use Rattle.verilog_tree.specs.inner.Tables.{with_all, with_targets, declared_behind, assigned_behind, set_behind, among, is_target_among, break_behind, breaks_behind, all_assigned, unassigned, Assigned}
 use Rattle.verilog_tree.proofs.Lookups.{lookup_first, lookup_second}
 use Rattle.verilog_tree.proofs.Clean.{not_here, none_of, item_clean, one_more}
 use Rattle.verilog_tree.proofs.Reordering.{set_append}

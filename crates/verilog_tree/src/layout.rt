@@ -1,11 +1,11 @@
 //! Whether a module can be written as text.
 ghost use Rattle.std.specs.Prelude.{◌≡◌, ℕ, ◌≤◌, ◌-◌, map};
-ghost use Rattle.verilog_tree.specs.Plain.{plain, plain_stmt, plain_stmts, plain_item, plain_port, plain_module, expressions, arms};
+ghost use Rattle.verilog_tree.specs.Plain.{plain, plain_stmt, plain_stmts, plain_item, plain_module, arms};
 ghost use Rattle.verilog_tree.specs.inner.Plain.{plain_arm};
-ghost use Rattle.verilog_tree.specs.Fits.{expression_fits, expressions_fit, statement_fits, statements_fit, arms_fit, item_fits, items_fit, ports_fit, fits};
+ghost use Rattle.verilog_tree.specs.Fits.{expression_fits, statement_fits, statements_fit, arms_fit, items_fit, fits};
 
 use crate::sizes::formed;
-use crate::tree::{Arm, Expr, Item, Module, Port, Stmt};
+use crate::tree::{Arm, Expr, Item, Module, Stmt};
 use crate::words::is_name;
 
 #[cycle(expr_fits)]

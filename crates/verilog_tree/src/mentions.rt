@@ -1,11 +1,10 @@
 //! Where names stand in an item.
 ghost use Rattle.std.specs.Prelude.{◌≡◌, ℕ, ◌++◌, ◌∷◌, [], map, OnOk, IfOk};
-ghost use Rattle.verilog_tree.specs.Plain.{plain, plain_stmt, plain_stmts, plain_item, expressions, arms};
-ghost use Rattle.verilog_tree.specs.inner.Plain.{plain_arm};
-ghost use Rattle.verilog_tree.specs.Rules.{mentioned, reads, all_reads, statement_mentions, statements_mentions, arms_mentions, mentions};
+ghost use Rattle.verilog_tree.specs.Plain.{plain, plain_stmt, plain_stmts, plain_item};
+ghost use Rattle.verilog_tree.specs.Rules.{mentioned, reads, statement_mentions, statements_mentions, mentions};
 ghost use Rattle.verilog_tree.specs.inner.Seen.{mention};
 
-use crate::tree::{Arm, Expr, Item, Name, Stmt};
+use crate::tree::{Expr, Item, Name, Stmt};
 use bist_bits::NoMemory;
 use std::alloc::Global;
 

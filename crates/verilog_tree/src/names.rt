@@ -2,8 +2,8 @@
 ghost use Rattle.std.specs.Prelude.{◌≡◌, ℕ, [], ◌∷◌, ◌++◌, map, OnOk, IfOk};
 ghost use Rattle.std.specs.Option.{option_map};
 ghost use Rattle.std.specs.Str.{bytes_eq};
-ghost use Rattle.verilog_tree.specs.Plain.{plain_item, plain_port, plain_module};
-ghost use Rattle.verilog_tree.specs.Names.{kind_of, lookup, port_declarations, item_declarations, declarations, width_of, is_clk};
+ghost use Rattle.verilog_tree.specs.Plain.{plain_item, plain_module};
+ghost use Rattle.verilog_tree.specs.Names.{kind_of, lookup, item_declarations, declarations, width_of, is_clk};
 ghost use Rattle.verilog_tree.specs.Seen.{declaration};
 ghost use Rattle.verilog_tree.specs.inner.Seen.{declares};
 

@@ -6,7 +6,7 @@ ghost use Rattle.verilog_tree.specs.Seen.{declaration};
 ghost use Rattle.verilog_tree.specs.Formed.{formed};
 ghost use Rattle.verilog_tree.specs.Rules.{Break, Tells, Refuses, mentions, port_twice, port_clock, first_break};
 ghost use Rattle.verilog_tree.specs.inner.Seen.{mention};
-ghost use Rattle.verilog_tree.specs.inner.Tables.{among, again, is_broken, told_as, first_broken, with_all, with_targets, break_behind, declared_behind, assigned_behind, set_behind, breaks_behind, all_assigned, unassigned};
+ghost use Rattle.verilog_tree.specs.inner.Tables.{among, again, is_broken, told_as, first_broken, with_all, break_behind, declared_behind, assigned_behind, set_behind, breaks_behind, all_assigned, unassigned};
 
 use crate::fault::TreeFault;
 use crate::mentions::{Mention, put_item};

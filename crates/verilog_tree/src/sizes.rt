@@ -1,10 +1,10 @@
 //! Whether a tree has the sizes that a text can have.
 ghost use Rattle.std.specs.Prelude.{◌≡◌, ℕ, ◌&&◌, length, map};
-ghost use Rattle.verilog_tree.specs.Plain.{plain, plain_stmt, plain_stmts, plain_item, plain_port, plain_module, expressions, arms};
+ghost use Rattle.verilog_tree.specs.Plain.{plain, plain_stmt, plain_stmts, plain_item, plain_module, expressions, arms};
 ghost use Rattle.verilog_tree.specs.inner.Plain.{plain_arm};
-ghost use Rattle.verilog_tree.specs.Formed.{is_width, is_literal, has_expression, expression_formed, expressions_formed, has_label, labels_formed, has_arm, statement_formed, statements_formed, arms_formed, item_formed, items_formed, ports_formed, has_port, formed};
+ghost use Rattle.verilog_tree.specs.Formed.{is_width, is_literal, has_expression, expression_formed, expressions_formed, has_label, labels_formed, has_arm, statement_formed, statements_formed, arms_formed, items_formed, formed};
 
-use crate::tree::{Arm, Expr, Item, Module, Port, Stmt};
+use crate::tree::{Arm, Expr, Item, Module, Stmt};
 use bist_bits::Bits;
 
 fn width_formed(width: u8) -> bool

@@ -4,10 +4,8 @@ ghost use Rattle.std.specs.Option.{option_map};
 ghost use Rattle.verilog_tree.specs.Plain.{plain_module};
 ghost use Rattle.verilog_tree.specs.Names.{lookup, width_of, declarations};
 ghost use Rattle.verilog_tree.specs.Seen.{declaration};
-ghost use Rattle.verilog_tree.specs.inner.Tables.{same_name, with_all};
+ghost use Rattle.verilog_tree.specs.inner.Tables.{with_all};
 ghost use Rattle.verilog_tree.specs.Tables.{with_declared, with_name};
-ghost use Rattle.indexmap.specs.IndexMap.{insert_entry};
-ghost use Rattle.indexmap.specs.IndexSet.{insert_key};
 ghost use Rattle.bist_text.specs.ReservedWords.{is_among};
 
 use crate::names::{Declared, Kind, all_declared};

@@ -1,16 +1,15 @@
 //! Widths that must be equal.
-ghost use Rattle.std.specs.Prelude.{◌≡◌, ℕ, ◌^◌, ◌-◌, ◌+◌, min, map};
-ghost use Rattle.verilog_tree.specs.Plain.{plain, plain_stmt, plain_stmts, plain_item, expressions, arms};
-ghost use Rattle.verilog_tree.specs.inner.Plain.{plain_arm};
+ghost use Rattle.std.specs.Prelude.{◌≡◌, ℕ, ◌^◌, ◌-◌, ◌+◌, min};
+ghost use Rattle.verilog_tree.specs.Plain.{plain, plain_stmt, plain_stmts, plain_item};
 ghost use Rattle.verilog_tree.specs.Names.{width_of};
 ghost use Rattle.verilog_tree.specs.Meaning.{width, widths};
-ghost use Rattle.verilog_tree.specs.Rules.{Refuses, unequal, too_wide, expression_widths, parts_widths, assignment_widths, label_widths, statement_widths, statements_widths, arms_widths, item_widths};
+ghost use Rattle.verilog_tree.specs.Rules.{Refuses, unequal, too_wide, expression_widths, assignment_widths, label_widths, statement_widths, statements_widths, item_widths};
 ghost use Rattle.verilog_tree.specs.inner.Rules.{RefusesOr};
 
 use crate::fault::TreeFault;
 use crate::operators::{binary_width, operands, unary_width};
 use crate::tables::Declarations;
-use crate::tree::{Arm, Expr, Item, Name, Stmt};
+use crate::tree::{Expr, Item, Name, Stmt};
 use bist_bits::Bits;
 
 pub(crate) fn equal(left: u64, right: u64) -> Result<(), TreeFault>

@@ -1,12 +1,10 @@
 use Rattle.std.proofs.Common.{[], ◌∷◌, ◌++◌, map, refl, sym, ap, ◌∙◌}
 use Rattle.std.proofs.lemmas.Result.{on_ok_weaker}
-use Rattle.verilog_tree.specs.declared.tree.Arm.{Arm}
-use Rattle.verilog_tree.specs.Plain.{plain, plain_stmt, plain_stmts, arms}
-use Rattle.verilog_tree.specs.inner.Plain.{plain_arm}
-use Rattle.verilog_tree.specs.Rules.{reads, statement_mentions, statements_mentions, arms_mentions, AsTarget}
+use Rattle.verilog_tree.specs.Plain.{plain, plain_stmt, plain_stmts}
+use Rattle.verilog_tree.specs.Rules.{reads, statement_mentions, statements_mentions, AsTarget}
 use Rattle.verilog_tree.specs.inner.Seen.{mention}
 use Rattle.verilog_tree.proofs.Appended.{two_more, three_more, item_more}
-use Rattle.verilog_tree.proofs.Layers.{plain_set, plain_if, plain_case, arm_body}
+use Rattle.verilog_tree.proofs.Layers.{plain_set, plain_if}
 use Rattle.verilog_tree.proofs.mentions.+put_stmt.Goals as goal
 
 pub put_stmt-returns-in_ok-put-in-Set : goal.put_stmt-returns-in_ok-put-in-Set
