@@ -6,11 +6,11 @@ use Rattle.std.specs.Str.{bytes_eq}
 use Rattle.bist_text.specs.ReservedWords.{is_among}
 use Rattle.verilog_tree.specs.declared.fault.TreeFault.{TreeFault}
 use Rattle.verilog_tree.specs.Plain.{ModuleItem, WireItem, RegItem, AssignItem, AlwaysItem, ModulePort, ModuleTree}
-use Rattle.verilog_tree.specs.Names.{Declaration, declared_by, port_declarations, declarations, lookup, declared_width, width_of, is_wire}
+use Rattle.verilog_tree.specs.Names.{Declaration, declared_by, port_declarations, item_declarations, declarations, lookup, declared_width, width_of, is_wire, is_register, is_clk}
 use Rattle.verilog_tree.specs.Meaning.{names_widths}
-use Rattle.verilog_tree.specs.Rules.{Break, Unknown, Twice, SelectRange, NotAssignable, TwoBlocks, Clock, Undriven, Mention, AsClock, AsTarget, Whole, Selected, mentions, statements_mentions, first_of, first_bad, is_unknown, is_assigned, has_kind, twice, is_out_of_range, item_widths, is_wrong_target, assignable, is_target, is_set, is_set_before, declares_clk, is_wrong_clock, item_break, items_break, undriven, Refuses}
+use Rattle.verilog_tree.specs.Rules.{Break, Unknown, Twice, SelectRange, NotAssignable, TwoBlocks, Clock, Undriven, Mention, AsClock, AsTarget, Whole, Selected, mentions, statements_mentions, first_of, first_bad, is_unknown, is_assigned, has_kind, twice, is_out_of_range, assignment_widths, statements_widths, is_wrong_target, is_target, is_set, is_set_before, is_wrong_clock, item_break, items_break, port_twice, port_clock, undriven, first_break, Refuses}
 use Rattle.verilog_tree.specs.Tables.{with_declared, with_name}
-use Rattle.verilog_tree.specs.inner.Tables.{with_all, with_targets, declared_behind, assigned_behind, set_behind, among, again, is_target_among, break_behind, breaks_behind, all_assigned, unassigned, Assigned}
+use Rattle.verilog_tree.specs.inner.Tables.{with_all, with_targets, declared_behind, assigned_behind, set_behind, among, is_target_among, break_behind, breaks_behind, all_assigned, unassigned, Assigned}
 use Rattle.verilog_tree.proofs.Lookups.{lookup_first, lookup_second}
 use Rattle.verilog_tree.proofs.Clean.{not_here, none_of, item_clean, one_more}
 use Rattle.verilog_tree.proofs.Reordering.{set_append}
@@ -100,23 +100,42 @@ all_assigned_has ns b [] h n = h n ∙ ap (λ l. is_assigned l n) (sym (append-n
 all_assigned_has ns b (i ∷ is) h n = all_assigned_has (assigned_behind ns i) (b ++ i ∷ []) is (assigned_more ns b i h) n ∙ ap (λ l. is_assigned l n) (append_assoc b (i ∷ []) is)
 
 -- the rules by the tables
-again_twice : (ds : List Declaration) (ns : List (List ℕ)) (b : List ModuleItem) (i : ModuleItem) → Assigned ns b → again ds (among ns) i ≡ twice ds b i
-again_twice ds ns b (AssignItem n x) h = ap (λ t. cond (has_kind is_wire ds n && t) (Some (Twice n)) None) (h n)
-again_twice ds ns b other h = refl
-
 set_again : (ns : List (List ℕ)) (b : List ModuleItem) → Set ns b → (m : Mention) → is_target_among ns m ≡ is_set_before b m
 set_again ns b h (AsClock n) = refl
 set_again ns b h (AsTarget n) = h n
 set_again ns b h (Whole n) = refl
 set_again ns b h (Selected n k l) = refl
 
+behind : (a : Option Break) (os ps : List (Option Break)) → first_of os ≡ first_of ps → first_of (a ∷ os) ≡ first_of (a ∷ ps)
+behind None os ps h = h
+behind (Some x) os ps h = refl
+
+none_seventh : (a b c d e f : Option Break) (os : List (Option Break)) → first_of (a ∷ b ∷ c ∷ d ∷ e ∷ f ∷ os) ≡ first_of (a ∷ b ∷ c ∷ d ∷ e ∷ f ∷ None ∷ os)
+none_seventh a b c d e f os = behind a _ _ (behind b _ _ (behind c _ _ (behind d _ _ (behind e _ _ (behind f _ _ refl)))))
+
+clk_at_once : (t k : Bool) (a b : Break) → first_of (cond t (Some a) (cond k (Some b) None) ∷ None ∷ None ∷ None ∷ None ∷ None ∷ []) ≡ first_of (cond t (Some a) None ∷ None ∷ None ∷ None ∷ None ∷ cond k (Some b) None ∷ None ∷ [])
+clk_at_once true k a b = refl
+clk_at_once false true a b = refl
+clk_at_once false false a b = refl
+
 break_by : (w : List ℕ → ℕ) (ps : List ModulePort) (b : List ModuleItem) (as' ss : List (List ℕ)) (i : ModuleItem) → Assigned as' b → Set ss b → break_behind w (declarations ps b) (among as') ss i ≡ item_break w ps b i
 unfolding break_behind item_break
-break_by w ps b as' ss i a s =
+break_by w ps b as' ss (WireItem n k) a s = clk_at_once (is_some (lookup (declarations ps b) n)) (is_clk n) (Twice n) (Clock n)
+break_by w ps b as' ss (RegItem n k) a s = clk_at_once (is_some (lookup (declarations ps b) n)) (is_clk n) (Twice n) (Clock n)
+break_by w ps b as' ss (AssignItem n x) a s =
     let ds = declarations ps b in
-    let ms = mentions i in
-    ap (λ o. first_of (first_bad (is_unknown ds) Unknown ms ∷ o ∷ first_bad (is_out_of_range w) SelectRange ms ∷ item_widths w i ∷ first_bad (is_wrong_target (assignable i) ds) NotAssignable ms ∷ first_bad (is_target_among ss) TwoBlocks ms ∷ declares_clk i ∷ first_bad (is_wrong_clock ds) Clock ms ∷ [])) (again_twice ds as' b i a)
-    ∙ ap (λ f. first_of (first_bad (is_unknown ds) Unknown ms ∷ twice ds b i ∷ first_bad (is_out_of_range w) SelectRange ms ∷ item_widths w i ∷ first_bad (is_wrong_target (assignable i) ds) NotAssignable ms ∷ first_bad f TwoBlocks ms ∷ declares_clk i ∷ first_bad (is_wrong_clock ds) Clock ms ∷ [])) (fun_ext (set_again ss b s))
+    let ms = mentions (AssignItem n x) in
+    let wire = has_kind is_wire ds n in
+    let last = first_bad (is_wrong_clock ds) Clock ms ∷ [] in
+    ap (λ t. first_of (first_bad (is_unknown ds) Unknown ms ∷ cond (wire && t) (Some (Twice n)) None ∷ first_bad (is_out_of_range w) SelectRange ms ∷ assignment_widths w n x ∷ first_bad (is_wrong_target is_wire ds) NotAssignable ms ∷ first_bad (is_target_among ss) TwoBlocks ms ∷ last)) (a n)
+    ∙ ap (λ f. first_of (first_bad (is_unknown ds) Unknown ms ∷ cond (wire && is_assigned b n) (Some (Twice n)) None ∷ first_bad (is_out_of_range w) SelectRange ms ∷ assignment_widths w n x ∷ first_bad (is_wrong_target is_wire ds) NotAssignable ms ∷ first_bad f TwoBlocks ms ∷ last)) (fun_ext (set_again ss b s))
+    ∙ none_seventh (first_bad (is_unknown ds) Unknown ms) (cond (wire && is_assigned b n) (Some (Twice n)) None) (first_bad (is_out_of_range w) SelectRange ms) (assignment_widths w n x) (first_bad (is_wrong_target is_wire ds) NotAssignable ms) (first_bad (is_set_before b) TwoBlocks ms) last
+break_by w ps b as' ss (AlwaysItem c body) a s =
+    let ds = declarations ps b in
+    let ms = mentions (AlwaysItem c body) in
+    let last = first_bad (is_wrong_clock ds) Clock ms ∷ [] in
+    ap (λ f. first_of (first_bad (is_unknown ds) Unknown ms ∷ None ∷ first_bad (is_out_of_range w) SelectRange ms ∷ statements_widths w body ∷ first_bad (is_wrong_target is_register ds) NotAssignable ms ∷ first_bad f TwoBlocks ms ∷ last)) (fun_ext (set_again ss b s))
+    ∙ none_seventh (first_bad (is_unknown ds) Unknown ms) None (first_bad (is_out_of_range w) SelectRange ms) (statements_widths w body) (first_bad (is_wrong_target is_register ds) NotAssignable ms) (first_bad (is_set_before b) TwoBlocks ms) last
 
 first_same : (o p q : Option Break) → (o ≡ None → p ≡ q) → first_of (o ∷ p ∷ []) ≡ first_of (o ∷ q ∷ [])
 first_same None p q h = ap (λ r. first_of (None ∷ r ∷ [])) (h refl)
@@ -139,29 +158,44 @@ unassigned_by ns is h ds = ap (λ f. unassigned f ds) (fun_ext h) ∙ same ds
     same [] = refl
     same (d ∷ ds) = ap (λ r. cond (is_wire d.kind && not (is_assigned is d.name)) (Some (Undriven d.name)) r) (same ds)
 
--- N9 behind all items, of which these names are assigned
-pub driven_behind : (o : Option Break) (ns : List (List ℕ)) (is : List ModuleItem) (ds es : List Declaration) (r : Result (Unit {0}) TreeFault) → o ≡ None → Assigned ns is →
-    Refuses (first_of (unassigned (among ns) ds ∷ unassigned (among ns) es ∷ [])) r → Refuses (first_of (o ∷ undriven is ds ∷ undriven is es ∷ [])) r
-driven_behind o ns is ds es r e h g =
-    subst (λ x. Refuses x r) (
-    ap (λ x. first_of (x ∷ unassigned (among ns) es ∷ [])) (unassigned_by ns is h ds)
-    ∙ ap (λ x. first_of (undriven is ds ∷ x ∷ [])) (unassigned_by ns is h es)
-    ∙ sym (ap (λ x. first_of (x ∷ undriven is ds ∷ undriven is es ∷ [])) e)
-    ) g
+last_of : (o : Option Break) → o ≡ first_of (o ∷ [])
+last_of None = refl
+last_of (Some x) = refl
+
+one_more_unassigned : (t : Bool) (x : Break) (o p q : Option Break) → o ≡ first_of (p ∷ q ∷ []) → cond t (Some x) o ≡ first_of (cond t (Some x) p ∷ q ∷ [])
+one_more_unassigned true x o p q h = refl
+one_more_unassigned false x o p q h = h
+
+both_unassigned : (f : List ℕ → Bool) (ds es : List Declaration) → unassigned f (ds ++ es) ≡ first_of (unassigned f ds ∷ unassigned f es ∷ [])
+both_unassigned f [] es = last_of (unassigned f es)
+both_unassigned f (d ∷ ds) es = one_more_unassigned (is_wire d.kind && not (f d.name)) (Undriven d.name) (unassigned f (ds ++ es)) (unassigned f ds) (unassigned f es) (both_unassigned f ds es)
 
 -- where the first breaks nothing, the rest decides
 pub behind_one : (a : Option Break) (os : List (Option Break)) (r : Result (Unit {0}) TreeFault) → a ≡ None → Refuses (first_of os) r → Refuses (first_of (a ∷ os)) r
 behind_one a os r e h = subst (λ x. Refuses x r) (sym (ap (λ x. first_of (x ∷ os)) e)) h
 
-pub none_assigned : (w : List ℕ → ℕ) (ds : List Declaration) (as' ss : List (List ℕ)) (given is : List ModuleItem) → as' ≡ [] → given ≡ is → breaks_behind w ds as' ss given ≡ breaks_behind w ds [] ss is
-none_assigned w ds as' ss given is a i = ap (λ l. breaks_behind w ds l ss given) a ∙ ap (breaks_behind w ds [] ss) i
+pub module_breaks : (mo : ModuleTree) (given : List ModuleItem) (ws all ds : List Declaration) (as' ss : List (List ℕ)) → ws ≡ with_all [] all → all ≡ declarations mo.ports mo.items → ds ≡ port_declarations mo.ports → as' ≡ [] → ss ≡ [] → given ≡ mo.items →
+    breaks_behind (width_of ws) ds as' ss given ≡ items_break (names_widths mo) mo.ports [] mo.items
+module_breaks mo given ws all ds as' ss named listed ports none nothing same =
+    ap (λ (w : List ℕ → ℕ). breaks_behind w ds as' ss given) (fun_ext (λ n. ap declared_width (ap (λ l. lookup l n) named ∙ all_found [] all n ∙ ap (λ l. lookup l n) listed)))
+    ∙ ap (breaks_behind (names_widths mo) ds as' ss) same
+    ∙ breaks_by (names_widths mo) mo.ports [] ds as' ss mo.items (ports ∙ sym (append-nil (port_declarations mo.ports))) (λ n. ap (is_among n) none) (λ n. ap (is_among n) nothing)
 
-pub module_breaks : (mo : ModuleTree) (ws ds : List Declaration) (ss : List (List ℕ)) → ((n : List ℕ) → lookup ws n ≡ lookup (declarations mo.ports mo.items) n) → ds ≡ port_declarations mo.ports → ss ≡ [] →
-    breaks_behind (width_of ws) ds [] ss mo.items ≡ items_break (names_widths mo) mo.ports [] mo.items
-module_breaks mo ws ds ss found ports nothing =
-    ap (λ (w : List ℕ → ℕ). breaks_behind w ds [] ss mo.items) (fun_ext (λ n. ap declared_width (found n)))
-    ∙ breaks_by (names_widths mo) mo.ports [] ds [] ss mo.items (ports ∙ sym (append-nil (port_declarations mo.ports))) (λ n. refl) (λ n. ap (is_among n) nothing)
-
-pub module_assigned : (items given : List ModuleItem) (as' ns : List (List ℕ)) → as' ≡ [] → given ≡ items → ns ≡ all_assigned as' given → Assigned ns items
+module_assigned : (items given : List ModuleItem) (as' ns : List (List ℕ)) → as' ≡ [] → given ≡ items → ns ≡ all_assigned as' given → Assigned ns items
 module_assigned items given as' ns none same is n =
     ap (is_among n) (is ∙ ap (λ l. all_assigned l given) none ∙ ap (all_assigned []) same) ∙ all_assigned_has [] [] items (λ n. refl) n
+
+-- what is left behind all items, of which these names are assigned
+pub driven_behind : (mo : ModuleTree) (given : List ModuleItem) (all : List Declaration) (as' ns : List (List ℕ)) (r : Result (Unit {0}) TreeFault) → as' ≡ [] → given ≡ mo.items → ns ≡ all_assigned as' given → all ≡ declarations mo.ports mo.items →
+    port_twice [] (port_declarations mo.ports) ≡ None → port_clock (port_declarations mo.ports) ≡ None → items_break (names_widths mo) mo.ports [] mo.items ≡ None → Refuses (unassigned (among ns) all) r → Refuses (first_break mo) r
+driven_behind mo given all as' ns r none same is listed twice' clock broken h =
+    let ds = port_declarations mo.ports in
+    let es = item_declarations mo.items in
+    let has = module_assigned mo.items given as' ns none same is in
+    behind_one (port_twice [] ds) (port_clock ds ∷ items_break (names_widths mo) mo.ports [] mo.items ∷ undriven mo.items ds ∷ undriven mo.items es ∷ []) r twice'
+    (behind_one (port_clock ds) (items_break (names_widths mo) mo.ports [] mo.items ∷ undriven mo.items ds ∷ undriven mo.items es ∷ []) r clock
+    (behind_one (items_break (names_widths mo) mo.ports [] mo.items) (undriven mo.items ds ∷ undriven mo.items es ∷ []) r broken (subst (λ x. Refuses x r) (
+    ap (unassigned (among ns)) listed
+    ∙ both_unassigned (among ns) ds es
+    ∙ ap (λ x. first_of (x ∷ unassigned (among ns) es ∷ [])) (unassigned_by ns mo.items has ds)
+    ∙ ap (λ x. first_of (undriven mo.items ds ∷ x ∷ [])) (unassigned_by ns mo.items has es)) h)))

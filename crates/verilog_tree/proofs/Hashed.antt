@@ -1,5 +1,5 @@
 -- Tables of names.
-use Rattle.std.proofs.Common.{◌≡◌, ℕ, Bool, true, false, cond, ◌||◌, List, [], ◌∷◌, ◌++◌, map, Option, Some, None, option_map, is_some, refl, sym, ap, ◌∙◌}
+use Rattle.std.proofs.Common.{◌≡◌, ℕ, Bool, true, false, cond, ◌||◌, List, [], ◌∷◌, ◌++◌, map, Option, Some, None, option_map, is_some, Result, Ok, Err, IfOk, OnOk, refl, sym, ap, subst, ◌∙◌}
 use Rattle.std.proofs.lemmas.Slice.Eq.{bytes_eq-Decides}
 use Rattle.std.specs.Str.{bytes_eq}
 use Rattle.std.specs.List.{list_any}
@@ -71,3 +71,16 @@ one_way false ks k = bytes_more ks k
 
 pub set_more : (ks : List ArrayString) (k : ArrayString) → bytes_of (cond (list_any (is_name k.bytes) ks) ks (ks ++ k ∷ [])) ≡ with_name (bytes_of ks) k.bytes
 set_more ks k = one_way (list_any (is_name k.bytes) ks) ks k ∙ ap (λ t. cond t (bytes_of ks) (bytes_of ks ++ k.bytes ∷ [])) (set_has ks k.bytes)
+
+-- what an answer tells, where it is this one
+pub if_ok : {A E : Type 0} (r : Result A E) (P : A → Type 0) (x : A) → r ≡ Ok x → IfOk r P → P x
+if_ok r P x e h = subst (λ q. IfOk q P) e h
+
+pub on_ok : {A E : Type 0} (r : Result A E) (P : Type 0) (x : A) → r ≡ Ok x → OnOk r P → P
+on_ok r P x e h = subst (λ q. OnOk q P) e h
+
+pub ok_now : {A E : Type 0} (r : Result A E) (P : Type 0) (x : A) → r ≡ Ok x → P → OnOk r P
+ok_now r P x e p = subst (λ q. OnOk q P) (sym e) p
+
+pub err_now : {A E : Type 0} (r : Result A E) (P : Type 0) (x : E) → r ≡ Err x → OnOk r P
+err_now r P x e = subst (λ q. OnOk q P) (sym e) tt

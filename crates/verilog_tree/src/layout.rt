@@ -1,11 +1,11 @@
 //! Whether a module can be written as text.
 ghost use Rattle.std.specs.Prelude.{◌≡◌, ℕ, ◌≤◌, ◌-◌, map};
-ghost use Rattle.verilog_tree.specs.Plain.{plain, plain_stmt, plain_stmts, plain_item, plain_port, plain_module, expressions, arms};
+ghost use Rattle.verilog_tree.specs.Plain.{plain, plain_stmt, plain_stmts, plain_item, plain_module, arms};
 ghost use Rattle.verilog_tree.specs.inner.Plain.{plain_arm};
-ghost use Rattle.verilog_tree.specs.Fits.{expression_fits, expressions_fit, statement_fits, statements_fit, arms_fit, item_fits, items_fit, ports_fit, fits};
+ghost use Rattle.verilog_tree.specs.Fits.{expression_fits, statement_fits, statements_fit, arms_fit, items_fit, fits};
 
 use crate::sizes::formed;
-use crate::tree::{Arm, Expr, Item, Module, Port, Stmt};
+use crate::tree::{Arm, Expr, Item, Module, Stmt};
 use crate::words::is_name;
 
 #[cycle(expr_fits)]
@@ -16,25 +16,20 @@ fn expr_fits(room: u8, x: &Expr) -> bool
     match x {
         Expr::Name(name) | Expr::Bit(name, _) | Expr::Part(name, _, _) => is_name(name),
         Expr::Lit(_) => true,
-        Expr::Concat(parts) => 0 < room && exprs_fit(inner, parts),
+        Expr::Concat(parts) => {
+            for part in parts {
+                if !expr_fits(inner, part) {
+                    return false;
+                }
+            }
+            0 < room
+        }
         Expr::Unary(_, a) => 0 < room && expr_fits(inner, a),
         Expr::Binary(_, a, b) => 0 < room && expr_fits(inner, a) && expr_fits(inner, b),
         Expr::Choose(c, a, b) => {
             0 < room && expr_fits(inner, c) && expr_fits(inner, a) && expr_fits(inner, b)
         }
     }
-}
-
-#[cycle(expr_fits)]
-fn exprs_fit(room: u8, parts: &[Expr]) -> bool
-    ensures { result ≡ expressions_fit room (expressions (map plain parts.now)) }
-{
-    for part in parts {
-        if !expr_fits(room, part) {
-            return false;
-        }
-    }
-    true
 }
 
 #[cycle(stmt_fits)]
@@ -77,32 +72,16 @@ fn arms_fit(room: u8, choices: &[Arm]) -> bool
     true
 }
 
-fn item_fits(item: &Item) -> bool
-    ensures { result ≡ item_fits 64 (plain_item item.now) }
-{
-    match item {
-        Item::Wire(declared) | Item::Reg(declared) => is_name(&declared.name),
-        Item::Assign(name, x) => is_name(name) && expr_fits(64, x),
-        Item::Always(clock, body) => is_name(clock) && stmts_fit(63, body),
-    }
-}
-
 fn items_fit(items: &[Item]) -> bool
     ensures { result ≡ items_fit 64 (map plain_item items.now) }
 {
     for item in items {
-        if !item_fits(item) {
-            return false;
-        }
-    }
-    true
-}
-
-fn ports_fit(ports: &[Port]) -> bool
-    ensures { result ≡ ports_fit (map plain_port ports.now) }
-{
-    for port in ports {
-        if !is_name(&port.name) {
+        let fits = match item {
+            Item::Wire(declared) | Item::Reg(declared) => is_name(&declared.name),
+            Item::Assign(name, x) => is_name(name) && expr_fits(64, x),
+            Item::Always(clock, body) => is_name(clock) && stmts_fit(63, body),
+        };
+        if !fits {
             return false;
         }
     }
@@ -114,5 +93,13 @@ fn ports_fit(ports: &[Port]) -> bool
 pub fn fits(module: &Module) -> bool
     ensures { result ≡ fits (plain_module «module».now) }
 {
-    formed(module) && is_name(&module.name) && ports_fit(&module.ports) && items_fit(&module.items)
+    if !formed(module) || !is_name(&module.name) {
+        return false;
+    }
+    for port in &module.ports {
+        if !is_name(&port.name) {
+            return false;
+        }
+    }
+    items_fit(&module.items)
 }

@@ -1,11 +1,10 @@
 //! Where names stand in an item.
 ghost use Rattle.std.specs.Prelude.{◌≡◌, ℕ, ◌++◌, ◌∷◌, [], map, OnOk, IfOk};
-ghost use Rattle.verilog_tree.specs.Plain.{plain, plain_stmt, plain_stmts, plain_item, expressions, arms};
-ghost use Rattle.verilog_tree.specs.inner.Plain.{plain_arm};
-ghost use Rattle.verilog_tree.specs.Rules.{mentioned, reads, all_reads, statement_mentions, statements_mentions, arms_mentions, mentions};
+ghost use Rattle.verilog_tree.specs.Plain.{plain, plain_stmt, plain_stmts, plain_item};
+ghost use Rattle.verilog_tree.specs.Rules.{mentioned, reads, statement_mentions, statements_mentions, mentions};
 ghost use Rattle.verilog_tree.specs.inner.Seen.{mention};
 
-use crate::tree::{Arm, Expr, Item, Name, Stmt};
+use crate::tree::{Expr, Item, Name, Stmt};
 use bist_bits::NoMemory;
 use std::alloc::Global;
 
@@ -59,7 +58,12 @@ fn put_expr(out: &mut Vec<Mention>, x: &Expr) -> Result<(), NoMemory>
         Expr::Bit(name, place) => put(out, Mention::Select(*name, *place, *place)),
         Expr::Part(name, high, low) => put(out, Mention::Select(*name, *high, *low)),
         Expr::Lit(_) => Ok(()),
-        Expr::Concat(parts) => put_exprs(out, parts),
+        Expr::Concat(parts) => {
+            for part in parts {
+                put_expr(out, part)?;
+            }
+            Ok(())
+        }
         Expr::Unary(_, a) => put_expr(out, a),
         Expr::Binary(_, a, b) => {
             put_expr(out, a)?;
@@ -71,16 +75,6 @@ fn put_expr(out: &mut Vec<Mention>, x: &Expr) -> Result<(), NoMemory>
             put_expr(out, b)
         }
     }
-}
-
-#[cycle(put_expr)]
-fn put_exprs(out: &mut Vec<Mention>, parts: &[Expr]) -> Result<(), NoMemory>
-    ensures { OnOk result (map mention out.new.items ≡ map mention out.old.items ++ all_reads (expressions (map plain parts.now))) }
-{
-    for part in parts {
-        put_expr(out, part)?;
-    }
-    Ok(())
 }
 
 #[cycle(put_stmt)]
@@ -99,7 +93,9 @@ fn put_stmt(out: &mut Vec<Mention>, s: &Stmt) -> Result<(), NoMemory>
         }
         Stmt::Case(x, choices, other) => {
             put_expr(out, x)?;
-            put_arms(out, choices)?;
+            for arm in choices {
+                put_stmts(out, &arm.body)?;
+            }
             put_stmts(out, other)
         }
     }
@@ -115,25 +111,6 @@ fn put_stmts(out: &mut Vec<Mention>, body: &[Stmt]) -> Result<(), NoMemory>
     Ok(())
 }
 
-#[cycle(put_stmt)]
-fn put_arms(out: &mut Vec<Mention>, choices: &[Arm]) -> Result<(), NoMemory>
-    ensures { OnOk result (map mention out.new.items ≡ map mention out.old.items ++ arms_mentions (arms (map plain_arm choices.now))) }
-{
-    for arm in choices {
-        put_stmts(out, &arm.body)?;
-    }
-    Ok(())
-}
-
-fn put_names(names: &mut Vec<Name>, all: &[Mention]) -> Result<(), NoMemory>
-    ensures { OnOk result (map (λ n. n.bytes) names.new.items ≡ map (λ n. n.bytes) names.old.items ++ map mentioned (map mention all.now)) }
-{
-    for next in all {
-        put_name(names, next.name())?;
-    }
-    Ok(())
-}
-
 /// The names that an expression reads, in the order of the text.
 pub fn names_read(alloc: Global, x: &Expr) -> Result<Vec<Name>, NoMemory>
     ensures { IfOk result (λ all. map (λ n. n.bytes) all.items ≡ map mentioned (reads (plain x.now))) }
@@ -141,25 +118,25 @@ pub fn names_read(alloc: Global, x: &Expr) -> Result<Vec<Name>, NoMemory>
     let mut all = Vec::new(alloc);
     put_expr(&mut all, x)?;
     let mut names = Vec::new(alloc);
-    put_names(&mut names, &all)?;
+    for next in &all {
+        put_name(&mut names, next.name())?;
+    }
     Ok(names)
 }
 
-/// The names that an item uses, in the order of the text.
-pub(crate) fn mentions(alloc: Global, item: &Item) -> Result<Vec<Mention>, NoMemory>
-    ensures { IfOk result (λ all. map mention all.items ≡ mentions (plain_item item.now)) }
+/// Puts the names that an item uses, in the order of the text.
+pub(crate) fn put_item(out: &mut Vec<Mention>, item: &Item) -> Result<(), NoMemory>
+    ensures { OnOk result (map mention out.new.items ≡ map mention out.old.items ++ mentions (plain_item item.now)) }
 {
-    let mut all = Vec::new(alloc);
     match item {
-        Item::Wire(_) | Item::Reg(_) => {}
+        Item::Wire(_) | Item::Reg(_) => Ok(()),
         Item::Assign(name, x) => {
-            put(&mut all, Mention::Target(*name))?;
-            put_expr(&mut all, x)?;
+            put(out, Mention::Target(*name))?;
+            put_expr(out, x)
         }
         Item::Always(clock, body) => {
-            put(&mut all, Mention::Clock(*clock))?;
-            put_stmts(&mut all, body)?;
+            put(out, Mention::Clock(*clock))?;
+            put_stmts(out, body)
         }
     }
-    Ok(all)
 }

@@ -2,8 +2,8 @@
 ghost use Rattle.std.specs.Prelude.{◌≡◌, ℕ, [], ◌∷◌, ◌++◌, map, OnOk, IfOk};
 ghost use Rattle.std.specs.Option.{option_map};
 ghost use Rattle.std.specs.Str.{bytes_eq};
-ghost use Rattle.verilog_tree.specs.Plain.{plain_item, plain_port, plain_module};
-ghost use Rattle.verilog_tree.specs.Names.{kind_of, lookup, port_declarations, item_declarations, declarations, width_of, is_clk};
+ghost use Rattle.verilog_tree.specs.Plain.{plain_item, plain_module};
+ghost use Rattle.verilog_tree.specs.Names.{kind_of, lookup, item_declarations, declarations, width_of, is_clk};
 ghost use Rattle.verilog_tree.specs.Seen.{declaration};
 ghost use Rattle.verilog_tree.specs.inner.Seen.{declares};
 
@@ -35,22 +35,16 @@ pub(crate) fn is_clk(name: &Name) -> bool
     name.as_str() == "clk"
 }
 
-fn kind_of(dir: Dir) -> Kind
-    ensures { result ≡ kind_of dir }
-{
-    match dir {
-        Dir::Input => Kind::Input,
-        Dir::Output => Kind::Wire,
-        Dir::OutputReg => Kind::Register,
-    }
-}
-
 pub(crate) fn declared_port(port: &Port) -> Declared
     ensures { declaration result ≡ record { name = port.now.name.bytes; kind = kind_of port.now.dir; width = port.now.width } }
 {
     Declared {
         name: port.name,
-        kind: kind_of(port.dir),
+        kind: match port.dir {
+            Dir::Input => Kind::Input,
+            Dir::Output => Kind::Wire,
+            Dir::OutputReg => Kind::Register,
+        },
         width: port.width,
     }
 }
@@ -82,15 +76,6 @@ fn push(all: &mut Vec<Declared>, next: Declared) -> Result<(), NoMemory>
     }
 }
 
-fn push_ports(all: &mut Vec<Declared>, ports: &[Port]) -> Result<(), NoMemory>
-    ensures { OnOk result (map declaration all.new.items ≡ map declaration all.old.items ++ port_declarations (map plain_port ports.now)) }
-{
-    for port in ports {
-        push(all, declared_port(port))?;
-    }
-    Ok(())
-}
-
 fn push_items(all: &mut Vec<Declared>, items: &[Item]) -> Result<(), NoMemory>
     ensures { OnOk result (map declaration all.new.items ≡ map declaration all.old.items ++ item_declarations (map plain_item items.now)) }
 {
@@ -107,7 +92,9 @@ pub fn all_declared(alloc: Global, module: &Module) -> Result<Vec<Declared>, NoM
     ensures { IfOk result (λ all. map declaration all.items ≡ declarations (plain_module «module».now).ports (plain_module «module».now).items) }
 {
     let mut all = Vec::new(alloc);
-    push_ports(&mut all, &module.ports)?;
+    for port in &module.ports {
+        push(&mut all, declared_port(port))?;
+    }
     push_items(&mut all, &module.items)?;
     Ok(all)
 }

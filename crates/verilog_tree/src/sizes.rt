@@ -1,10 +1,10 @@
 //! Whether a tree has the sizes that a text can have.
 ghost use Rattle.std.specs.Prelude.{◌≡◌, ℕ, ◌&&◌, length, map};
-ghost use Rattle.verilog_tree.specs.Plain.{plain, plain_stmt, plain_stmts, plain_item, plain_port, plain_module, expressions, arms};
+ghost use Rattle.verilog_tree.specs.Plain.{plain, plain_stmt, plain_stmts, plain_item, plain_module, expressions, arms};
 ghost use Rattle.verilog_tree.specs.inner.Plain.{plain_arm};
-ghost use Rattle.verilog_tree.specs.Formed.{is_width, is_literal, has_expression, expression_formed, expressions_formed, has_label, labels_formed, has_arm, statement_formed, statements_formed, arms_formed, item_formed, items_formed, ports_formed, has_port, formed};
+ghost use Rattle.verilog_tree.specs.Formed.{is_width, is_literal, has_expression, expression_formed, expressions_formed, has_label, labels_formed, has_arm, statement_formed, statements_formed, arms_formed, items_formed, formed};
 
-use crate::tree::{Arm, Expr, Item, Module, Port, Stmt};
+use crate::tree::{Arm, Expr, Item, Module, Stmt};
 use bist_bits::Bits;
 
 fn width_formed(width: u8) -> bool
@@ -21,13 +21,6 @@ fn literal_formed(literal: &Bits) -> bool
     true
 }
 
-#[tactic(auto, using(crate::proofs::Lists::some_expression))]
-pub(crate) fn has_part(parts: &[Expr]) -> bool
-    ensures { result ≡ has_expression (expressions (map plain parts.now)) }
-{
-    !parts.is_empty()
-}
-
 #[cycle(expr_formed)]
 fn expr_formed(x: &Expr) -> bool
     ensures { result ≡ expression_formed (plain x.now) }
@@ -37,7 +30,7 @@ fn expr_formed(x: &Expr) -> bool
         Expr::Bit(_, place) => *place <= 63,
         Expr::Part(_, high, low) => *high <= 63 && *low <= 63,
         Expr::Lit(literal) => literal_formed(literal),
-        Expr::Concat(parts) => has_part(parts) && exprs_formed(parts),
+        Expr::Concat(parts) => exprs_formed(parts),
         Expr::Unary(_, a) => expr_formed(a),
         Expr::Binary(_, a, b) => expr_formed(a) && expr_formed(b),
         Expr::Choose(c, a, b) => expr_formed(c) && expr_formed(a) && expr_formed(b),
@@ -45,40 +38,28 @@ fn expr_formed(x: &Expr) -> bool
 }
 
 #[cycle(expr_formed)]
+#[tactic(auto, using(crate::proofs::Lists::some_expression))]
 fn exprs_formed(parts: &[Expr]) -> bool
-    ensures { result ≡ expressions_formed (expressions (map plain parts.now)) }
+    ensures { result ≡ (has_expression (expressions (map plain parts.now)) && expressions_formed (expressions (map plain parts.now))) }
 {
     for part in parts {
         if !expr_formed(part) {
             return false;
         }
     }
-    true
-}
-
-fn literals_formed(literals: &[Bits]) -> bool
-    ensures { result ≡ labels_formed literals.now }
-{
-    for literal in literals {
-        if !literal_formed(literal) {
-            return false;
-        }
-    }
-    true
+    !parts.is_empty()
 }
 
 #[tactic(auto, using(crate::proofs::Lists::some_label))]
 fn labels_formed(labels: &[Bits]) -> bool
     ensures { result ≡ (has_label labels.now && labels_formed labels.now) }
 {
-    !labels.is_empty() && literals_formed(labels)
-}
-
-#[tactic(auto, using(crate::proofs::Lists::some_arm))]
-fn has_arm(choices: &[Arm]) -> bool
-    ensures { result ≡ has_arm (arms (map plain_arm choices.now)) }
-{
-    !choices.is_empty()
+    for label in labels {
+        if !literal_formed(label) {
+            return false;
+        }
+    }
+    !labels.is_empty()
 }
 
 #[cycle(stmt_formed)]
@@ -88,8 +69,8 @@ fn stmt_formed(s: &Stmt) -> bool
     match s {
         Stmt::Set(_, x) => expr_formed(x),
         Stmt::If(c, a, b) => expr_formed(c) && stmts_formed(a) && stmts_formed(b),
-        Stmt::Case(x, arms, other) => {
-            expr_formed(x) && has_arm(arms) && arms_formed(arms) && stmts_formed(other)
+        Stmt::Case(x, choices, other) => {
+            expr_formed(x) && arms_formed(choices) && stmts_formed(other)
         }
     }
 }
@@ -107,62 +88,45 @@ fn stmts_formed(body: &[Stmt]) -> bool
 }
 
 #[cycle(stmt_formed)]
+#[tactic(auto, using(crate::proofs::Lists::some_arm))]
 fn arms_formed(choices: &[Arm]) -> bool
-    ensures { result ≡ arms_formed (arms (map plain_arm choices.now)) }
+    ensures { result ≡ (has_arm (arms (map plain_arm choices.now)) && arms_formed (arms (map plain_arm choices.now))) }
 {
     for arm in choices {
         if !(labels_formed(&arm.labels) && stmts_formed(&arm.body)) {
             return false;
         }
     }
-    true
-}
-
-fn item_formed(item: &Item) -> bool
-    ensures { result ≡ item_formed (plain_item item.now) }
-{
-    match item {
-        Item::Wire(declared) => width_formed(declared.width),
-        Item::Reg(declared) => width_formed(declared.width),
-        Item::Assign(_, x) => expr_formed(x),
-        Item::Always(_, body) => stmts_formed(body),
-    }
+    !choices.is_empty()
 }
 
 fn items_formed(items: &[Item]) -> bool
     ensures { result ≡ items_formed (map plain_item items.now) }
 {
     for item in items {
-        if !item_formed(item) {
+        let formed = match item {
+            Item::Wire(declared) | Item::Reg(declared) => width_formed(declared.width),
+            Item::Assign(_, x) => expr_formed(x),
+            Item::Always(_, body) => stmts_formed(body),
+        };
+        if !formed {
             return false;
         }
     }
     true
-}
-
-fn ports_formed(ports: &[Port]) -> bool
-    ensures { result ≡ ports_formed (map plain_port ports.now) }
-{
-    for port in ports {
-        if !width_formed(port.width) {
-            return false;
-        }
-    }
-    true
-}
-
-#[tactic(auto, using(crate::proofs::Lists::some_port))]
-fn has_port(ports: &[Port]) -> bool
-    ensures { result ≡ has_port (map plain_port ports.now) }
-{
-    !ports.is_empty()
 }
 
 /// Whether every width is from 1 to 64, every number of a select is at most 63, and the lists that
 /// the grammar wants nonempty are so: a module's ports, the parts of a concatenation, the arms of a
 /// `case` and the labels of an arm.
+#[tactic(auto, using(crate::proofs::Lists::some_port))]
 pub fn formed(module: &Module) -> bool
     ensures { result ≡ formed (plain_module «module».now) }
 {
-    has_port(&module.ports) && ports_formed(&module.ports) && items_formed(&module.items)
+    for port in &module.ports {
+        if !width_formed(port.width) {
+            return false;
+        }
+    }
+    !module.ports.is_empty() && items_formed(&module.items)
 }

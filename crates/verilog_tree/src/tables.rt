@@ -1,17 +1,15 @@
 //! Names looked up by their hash.
 ghost use Rattle.std.specs.Prelude.{◌≡◌, ℕ, List, [], map, IfOk, OnOk};
 ghost use Rattle.std.specs.Option.{option_map};
-ghost use Rattle.verilog_tree.specs.Plain.{plain_item, plain_module};
+ghost use Rattle.verilog_tree.specs.Plain.{plain_module};
 ghost use Rattle.verilog_tree.specs.Names.{lookup, width_of, declarations};
 ghost use Rattle.verilog_tree.specs.Seen.{declaration};
-ghost use Rattle.verilog_tree.specs.inner.Tables.{same_name, with_all, declared_behind};
+ghost use Rattle.verilog_tree.specs.inner.Tables.{with_all};
 ghost use Rattle.verilog_tree.specs.Tables.{with_declared, with_name};
-ghost use Rattle.indexmap.specs.IndexMap.{insert_entry};
-ghost use Rattle.indexmap.specs.IndexSet.{insert_key};
 ghost use Rattle.bist_text.specs.ReservedWords.{is_among};
 
-use crate::names::{Declared, Kind, all_declared, declared_item};
-use crate::tree::{Item, Module, Name};
+use crate::names::{Declared, Kind, all_declared};
+use crate::tree::{Module, Name};
 use bist_bits::NoMemory;
 use indexmap::{IndexMap, IndexSet};
 use std::alloc::Global;
@@ -39,15 +37,6 @@ impl Model for Declarations {
     ghost use Rattle.verilog_tree.specs.Tables.{declarations_of};
 
     ghost view = { declarations_of };
-}
-
-fn put_form(forms: &mut IndexMap<Name, Form>, name: Name, form: Form) -> Result<(), NoMemory>
-    ensures { OnOk result (forms.new.entries ≡ insert_entry same_name forms.old.entries name form) }
-{
-    match forms.insert(name, form) {
-        Ok(_) => Ok(()),
-        Err(_) => Err(NoMemory),
-    }
 }
 
 impl Declarations {
@@ -95,27 +84,22 @@ impl Declarations {
             kind: declared.kind,
             width: declared.width,
         };
-        put_form(&mut self.forms, declared.name, form)
+        match self.forms.insert(declared.name, form) {
+            Ok(_) => Ok(()),
+            Err(_) => Err(NoMemory),
+        }
     }
 }
 
-/// Declares what an item declares, if it isn't declared yet.
-pub(crate) fn add_item(all: &mut Declarations, item: &Item) -> Result<(), NoMemory>
-    ensures { OnOk result (all.new ≡ declared_behind all.old (plain_item item.now)) }
+/// These declarations by name: the first of each.
+pub(crate) fn by_name(alloc: Global, declared: &[Declared]) -> Result<Declarations, NoMemory>
+    ensures { IfOk result (λ all. all ≡ with_all [] (map declaration declared.now)) }
 {
-    match declared_item(item) {
-        Some(declared) => all.add(declared),
-        None => Ok(()),
+    let mut all = Declarations::new(alloc);
+    for next in declared {
+        all.add(*next)?;
     }
-}
-
-fn add_all(all: &mut Declarations, more: &[Declared]) -> Result<(), NoMemory>
-    ensures { OnOk result (all.new ≡ with_all all.old (map declaration more.now)) }
-{
-    for declared in more {
-        all.add(*declared)?;
-    }
-    Ok(())
+    Ok(all)
 }
 
 /// What a module declares, by name.
@@ -123,9 +107,7 @@ pub fn all_declarations(alloc: Global, module: &Module) -> Result<Declarations, 
     ensures { IfOk result (λ all. (n : List ℕ) → lookup all n ≡ lookup (declarations (plain_module «module».now).ports (plain_module «module».now).items) n) }
 {
     let declared = all_declared(alloc, module)?;
-    let mut all = Declarations::new(alloc);
-    add_all(&mut all, &declared)?;
-    Ok(all)
+    by_name(alloc, &declared)
 }
 
 /// Names, each once, in the order in which they came.
@@ -142,15 +124,6 @@ impl Model for NameSet {
     ghost use Rattle.verilog_tree.specs.Tables.{names_of};
 
     ghost view = { names_of };
-}
-
-fn put_name(names: &mut IndexSet<Name>, name: Name) -> Result<(), NoMemory>
-    ensures { OnOk result (names.new.keys ≡ insert_key same_name names.old.keys name) }
-{
-    match names.insert(name) {
-        Ok(_) => Ok(()),
-        Err(_) => Err(NoMemory),
-    }
 }
 
 impl NameSet {
@@ -174,6 +147,9 @@ impl NameSet {
     pub fn add(&mut self, name: Name) -> Result<(), NoMemory>
         ensures { OnOk result (self.new ≡ with_name self.old name.bytes) }
     {
-        put_name(&mut self.names, name)
+        match self.names.insert(name) {
+            Ok(_) => Ok(()),
+            Err(_) => Err(NoMemory),
+        }
     }
 }

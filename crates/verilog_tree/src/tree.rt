@@ -7,7 +7,7 @@ use bist_bits::Bits;
 pub type Name = ArrayString<64>;
 
 /// The direction of a port. `OutputReg` is an output that is a register.
-#[derive(Clone, Copy, PartialEq, Eq)]
+#[derive(Clone, Copy)]
 pub enum Dir {
     Input,
     Output,
@@ -30,7 +30,7 @@ pub struct Decl {
 }
 
 /// The operators of one operand: `!`, `~`, and the reductions `&`, `|` and `^`.
-#[derive(Clone, Copy, PartialEq, Eq)]
+#[derive(Clone, Copy)]
 pub enum UnOp {
     Not,
     Invert,
@@ -40,7 +40,7 @@ pub enum UnOp {
 }
 
 /// The operators of two operands.
-#[derive(Clone, Copy, PartialEq, Eq)]
+#[derive(Clone, Copy)]
 pub enum BinOp {
     Add,
     Sub,

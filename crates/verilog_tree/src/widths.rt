@@ -1,16 +1,15 @@
 //! Widths that must be equal.
-ghost use Rattle.std.specs.Prelude.{◌≡◌, ℕ, ◌^◌, ◌-◌, ◌+◌, min, map};
-ghost use Rattle.verilog_tree.specs.Plain.{plain, plain_stmt, plain_stmts, plain_item, expressions, arms};
-ghost use Rattle.verilog_tree.specs.inner.Plain.{plain_arm};
+ghost use Rattle.std.specs.Prelude.{◌≡◌, ℕ, ◌^◌, ◌-◌, ◌+◌, min};
+ghost use Rattle.verilog_tree.specs.Plain.{plain, plain_stmt, plain_stmts, plain_item};
 ghost use Rattle.verilog_tree.specs.Names.{width_of};
 ghost use Rattle.verilog_tree.specs.Meaning.{width, widths};
-ghost use Rattle.verilog_tree.specs.Rules.{Refuses, unequal, too_wide, expression_widths, parts_widths, assignment_widths, label_widths, statement_widths, statements_widths, arms_widths, item_widths};
+ghost use Rattle.verilog_tree.specs.Rules.{Refuses, unequal, too_wide, expression_widths, assignment_widths, label_widths, statement_widths, statements_widths, item_widths};
 ghost use Rattle.verilog_tree.specs.inner.Rules.{RefusesOr};
 
 use crate::fault::TreeFault;
 use crate::operators::{binary_width, operands, unary_width};
 use crate::tables::Declarations;
-use crate::tree::{Arm, Expr, Item, Name, Stmt};
+use crate::tree::{Expr, Item, Name, Stmt};
 use bist_bits::Bits;
 
 pub(crate) fn equal(left: u64, right: u64) -> Result<(), TreeFault>
@@ -49,7 +48,11 @@ fn expr_width(names: &Declarations, x: &Expr) -> Result<u64, TreeFault>
         Expr::Part(_, high, low) => Ok((*high as u64 + 1).saturating_sub(*low as u64)),
         Expr::Lit(literal) => Ok(literal.width() as u64),
         Expr::Concat(parts) => {
-            let total = total_width(names, parts)?;
+            let mut total: u64 = 0;
+            for part in parts {
+                let width = expr_width(names, part)?;
+                total = total.saturating_add(width);
+            }
             at_most_64(total)
         }
         Expr::Unary(op, a) => {
@@ -70,19 +73,6 @@ fn expr_width(names: &Declarations, x: &Expr) -> Result<u64, TreeFault>
             Ok(left)
         }
     }
-}
-
-// The sum of the widths of these parts, or the greatest number where no `u64` holds it.
-#[cycle(expr_width)]
-fn total_width(names: &Declarations, parts: &[Expr]) -> Result<u64, TreeFault>
-    ensures { let w = width_of names.now in RefusesOr (parts_widths w (expressions (map plain parts.now))) (min (widths w (expressions (map plain parts.now))) (2 ^ 64 - 1)) result }
-{
-    let mut total: u64 = 0;
-    for part in parts {
-        let width = expr_width(names, part)?;
-        total = total.saturating_add(width);
-    }
-    Ok(total)
 }
 
 // The expression before its target.
@@ -118,7 +108,10 @@ fn stmt_widths(names: &Declarations, s: &Stmt) -> Result<(), TreeFault>
         }
         Stmt::Case(x, choices, other) => {
             let subject = expr_width(names, x)?;
-            arms_widths(names, subject, choices)?;
+            for arm in choices {
+                label_widths(subject, &arm.labels)?;
+                stmts_widths(names, &arm.body)?;
+            }
             stmts_widths(names, other)
         }
     }
@@ -131,18 +124,6 @@ fn stmts_widths(names: &Declarations, body: &[Stmt]) -> Result<(), TreeFault>
 {
     for s in body {
         stmt_widths(names, s)?;
-    }
-    Ok(())
-}
-
-#[cycle(stmt_widths)]
-#[tactic(auto, using(crate::proofs::Refusals::tells_now, crate::proofs::Refusals::tells_later, crate::proofs::Refusals::none_more))]
-fn arms_widths(names: &Declarations, subject: u64, choices: &[Arm]) -> Result<(), TreeFault>
-    ensures { Refuses (arms_widths (width_of names.now) subject (arms (map plain_arm choices.now))) result }
-{
-    for arm in choices {
-        label_widths(subject, &arm.labels)?;
-        stmts_widths(names, &arm.body)?;
     }
     Ok(())
 }

@@ -3,9 +3,11 @@ use Rattle.std.specs.Prelude.{◌≡◌, ℕ, Bool, false, cond, not, ◌&&◌, 
 use Rattle.std.specs.Str.{bytes_eq}
 use Rattle.arrayvec.specs.ArrayString.{ArrayString}
 use Rattle.bist_text.specs.ReservedWords.{is_among}
+use Rattle.verilog_tree.specs.declared.rules.Rule.{Rule}
+use Rattle.verilog_tree.specs.declared.rules.Rule.TheVariants as R
 use Rattle.verilog_tree.specs.Plain.{ModuleItem, WireItem, RegItem, AssignItem, AlwaysItem}
-use Rattle.verilog_tree.specs.Names.{Declaration, declared_by, lookup, is_wire}
-use Rattle.verilog_tree.specs.Rules.{Break, Unknown, Twice, SelectRange, NotAssignable, TwoBlocks, Undriven, Clock, Mention, AsClock, AsTarget, Whole, Selected, mentions, statements_mentions, first_of, first_bad, has_kind, is_unknown, is_out_of_range, item_widths, is_wrong_target, assignable, declares_clk, is_wrong_clock, is_assigned}
+use Rattle.verilog_tree.specs.Names.{Declaration, declared_by, lookup, is_wire, is_clk}
+use Rattle.verilog_tree.specs.Rules.{Break, Unknown, Twice, SelectRange, NotAssignable, TwoBlocks, Undriven, Clock, Mention, AsClock, AsTarget, Whole, Selected, mentions, statements_mentions, first_of, first_bad, has_kind, is_unknown, is_out_of_range, item_widths, is_wrong_target, assignable, is_wrong_clock, is_assigned}
 use Rattle.verilog_tree.specs.Tables.{with_declared, with_name}
 
 -- keys are equal where their bytes are
@@ -44,10 +46,10 @@ set_behind ns (AlwaysItem c ss) = with_targets ns (statements_mentions ss)
 abbrev pub among : List (List ℕ) → List ℕ → Bool
 among ns n = is_among n ns
 
--- the rules by these tables: N2
+-- the rules by these tables: N2, and N10 where a name is declared
 abbrev pub again : List Declaration → (List ℕ → Bool) → ModuleItem → Option Break
-again ds assigned (WireItem n k) = cond (is_some (lookup ds n)) (Some (Twice n)) None
-again ds assigned (RegItem n k) = cond (is_some (lookup ds n)) (Some (Twice n)) None
+again ds assigned (WireItem n k) = cond (is_some (lookup ds n)) (Some (Twice n)) (cond (is_clk n) (Some (Clock n)) None)
+again ds assigned (RegItem n k) = cond (is_some (lookup ds n)) (Some (Twice n)) (cond (is_clk n) (Some (Clock n)) None)
 again ds assigned (AssignItem n x) = cond (has_kind is_wire ds n && assigned n) (Some (Twice n)) None
 again ds assigned (AlwaysItem c ss) = None
 
@@ -58,19 +60,36 @@ is_target_among ns (AsTarget n) = is_among n ns
 is_target_among ns (Whole n) = false
 is_target_among ns (Selected n h l) = false
 
+-- the rules of each mention: N1, N6, N5, N4 and N10
+abbrev pub is_broken : Rule → (List ℕ → ℕ) → List Declaration → List (List ℕ) → ModuleItem → Mention → Bool
+is_broken R.Known w ds set i = is_unknown ds
+is_broken R.InRange w ds set i = is_out_of_range w
+is_broken R.Assignable w ds set i = is_wrong_target (assignable i) ds
+is_broken R.InOneBlock w ds set i = is_target_among set
+is_broken R.Clocked w ds set i = is_wrong_clock ds
+
+abbrev pub told_as : Rule → List ℕ → Break
+told_as R.Known = Unknown
+told_as R.InRange = SelectRange
+told_as R.Assignable = NotAssignable
+told_as R.InOneBlock = TwoBlocks
+told_as R.Clocked = Clock
+
+abbrev pub first_broken : Rule → (List ℕ → ℕ) → List Declaration → List (List ℕ) → ModuleItem → List Mention → Option Break
+first_broken r w ds set i = first_bad (is_broken r w ds set i) (told_as r)
+
 -- the first break of an item
 unfoldable pub break_behind : (List ℕ → ℕ) → List Declaration → (List ℕ → Bool) → List (List ℕ) → ModuleItem → Option Break
 break_behind w ds assigned set i =
     let ms = mentions i in
     first_of
-    (first_bad (is_unknown ds) Unknown ms
+    (first_broken R.Known w ds set i ms
     ∷ again ds assigned i
-    ∷ first_bad (is_out_of_range w) SelectRange ms
+    ∷ first_broken R.InRange w ds set i ms
     ∷ item_widths w i
-    ∷ first_bad (is_wrong_target (assignable i) ds) NotAssignable ms
-    ∷ first_bad (is_target_among set) TwoBlocks ms
-    ∷ declares_clk i
-    ∷ first_bad (is_wrong_clock ds) Clock ms
+    ∷ first_broken R.Assignable w ds set i ms
+    ∷ first_broken R.InOneBlock w ds set i ms
+    ∷ first_broken R.Clocked w ds set i ms
     ∷ [])
 
 -- the first break of these items

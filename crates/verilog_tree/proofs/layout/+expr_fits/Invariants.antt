@@ -1,7 +1,7 @@
-use Rattle.std.proofs.Common.{◌≡◌, map, drop}
+use Rattle.std.proofs.Common.{◌≡◌, ◌-◌, map, drop}
 use Rattle.verilog_tree.specs.Plain.{plain, expressions}
 use Rattle.verilog_tree.specs.Fits.{expressions_fit}
 use Rattle.verilog_tree.proofs.layout.+expr_fits.Given as goal
 
-abbrev pub invariant-exprs_fit-loop-part : goal.invariant-exprs_fit-loop-part
-invariant-exprs_fit-loop-part l = expressions_fit l.room (expressions (map plain (drop l.part-index l.parts))) ≡ expressions_fit l.room (expressions (map plain l.parts))
+abbrev pub invariant-loop-part : goal.invariant-loop-part
+invariant-loop-part l = expressions_fit (l.room - 1) (expressions (map plain (drop l.part-index l.part-items))) ≡ expressions_fit (l.room - 1) (expressions (map plain l.part-items))

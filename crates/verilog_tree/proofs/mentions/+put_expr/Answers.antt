@@ -8,8 +8,8 @@ use Rattle.verilog_tree.proofs.Appended.{two_more, three_more, item_more}
 use Rattle.verilog_tree.proofs.Layers.{plain_binary, plain_choose}
 use Rattle.verilog_tree.proofs.mentions.+put_expr.Goals as goal
 
-pub put_expr-returns-in_ok-put_expr-in-Binary : goal.put_expr-returns-in_ok-put_expr-in-Binary
-put_expr-returns-in_ok-put_expr-in-Binary t c =
+pub returns-in_ok-put_expr-in-Binary : goal.returns-in_ok-put_expr-in-Binary
+returns-in_ok-put_expr-in-Binary t c =
     let out = map mention c.args.out.now.items in
     on_ok_weaker c.put_expr-in-Binary-2.result (λ e.
     two_more out (map mention c.put_expr-in-Binary.new.out.items) (map mention c.put_expr-in-Binary-2.new.out.items) (reads (plain c.in-Binary.a.value)) (reads (plain c.in-Binary.b.value))
@@ -17,8 +17,8 @@ put_expr-returns-in_ok-put_expr-in-Binary t c =
     (e ∙ ap (λ (x : Expr). map mention c.put_expr-in-Binary.new.out.items ++ reads (plain x)) c.deref-in-Binary-2.ensures)
     ∙ ap (λ x. out ++ reads x) (sym (ap plain c.in-Binary.is ∙ plain_binary c.in-Binary.field-0 c.in-Binary.a c.in-Binary.b))) c.put_expr-in-Binary-2.ensures
 
-pub put_expr-returns-in_ok-put_expr-in-Choose-2 : goal.put_expr-returns-in_ok-put_expr-in-Choose-2
-put_expr-returns-in_ok-put_expr-in-Choose-2 t c =
+pub returns-in_ok-put_expr-in-Choose-2 : goal.returns-in_ok-put_expr-in-Choose-2
+returns-in_ok-put_expr-in-Choose-2 t c =
     let out = map mention c.args.out.now.items in
     on_ok_weaker c.put_expr-in-Choose-3.result (λ e.
     three_more out (map mention c.put_expr-in-Choose.new.out.items) (map mention c.put_expr-in-Choose-2.new.out.items) (map mention c.put_expr-in-Choose-3.new.out.items)
@@ -28,7 +28,7 @@ put_expr-returns-in_ok-put_expr-in-Choose-2 t c =
     (e ∙ ap (λ (x : Expr). map mention c.put_expr-in-Choose-2.new.out.items ++ reads (plain x)) c.deref-in-Choose-3.ensures)
     ∙ ap (λ x. out ++ reads x) (sym (ap plain c.in-Choose.is ∙ plain_choose c.in-Choose.c c.in-Choose.a c.in-Choose.b))) c.put_expr-in-Choose-3.ensures
 
-pub put_exprs-loop-part-preserved : goal.put_exprs-loop-part-preserved
-put_exprs-loop-part-preserved t c =
-    item_more (λ x. reads (plain x)) (λ xs. all_reads (expressions (map plain xs))) (map mention c.loop-part.out.items) (map mention c.put_expr.new.out.items) _ c.args.parts.now c.loop-part.part-index c.part-item.result (λ y ys. refl)
-    c.loop-part-test.true c.part-item.is c.in_ok-put_expr.ensures c.loop-part.invariant
+pub loop-part-preserved : goal.loop-part-preserved
+loop-part-preserved t c =
+    item_more (λ x. reads (plain x)) (λ xs. all_reads (expressions (map plain xs))) (map mention c.loop-part.out.items) (map mention c.put_expr.new.out.items) _ _ c.loop-part.part-index c.part-item.result (λ y ys. refl)
+    c.loop-part-test.true c.part-item.is c.in_ok-put_expr-in-Concat.ensures c.loop-part.invariant

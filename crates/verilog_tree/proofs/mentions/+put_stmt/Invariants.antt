@@ -8,5 +8,5 @@ use Rattle.verilog_tree.proofs.mentions.+put_stmt.Given as goal
 abbrev pub invariant-put_stmts-loop-s : goal.invariant-put_stmts-loop-s
 invariant-put_stmts-loop-s l = map mention l.out.items ++ statements_mentions (plain_stmts (drop l.s-index l.body)) ≡ map mention l.initial.out.items ++ statements_mentions (plain_stmts l.body)
 
-abbrev pub invariant-put_arms-loop-arm : goal.invariant-put_arms-loop-arm
-invariant-put_arms-loop-arm l = map mention l.out.items ++ arms_mentions (arms (map plain_arm (drop l.arm-index l.choices))) ≡ map mention l.initial.out.items ++ arms_mentions (arms (map plain_arm l.choices))
+abbrev pub invariant-put_stmt-loop-arm : goal.invariant-put_stmt-loop-arm
+invariant-put_stmt-loop-arm l = map mention l.out.items ++ arms_mentions (arms (map plain_arm (drop l.arm-index l.arm-items))) ≡ map mention l.initial.out.items ++ arms_mentions (arms (map plain_arm l.arm-items))

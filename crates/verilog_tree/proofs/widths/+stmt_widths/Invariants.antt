@@ -8,5 +8,5 @@ use Rattle.verilog_tree.proofs.widths.+stmt_widths.Given as goal
 abbrev pub invariant-stmts_widths-loop-s : goal.invariant-stmts_widths-loop-s
 invariant-stmts_widths-loop-s l = statements_widths (width_of l.names) (plain_stmts (drop l.s-index l.body)) ≡ statements_widths (width_of l.names) (plain_stmts l.body)
 
-abbrev pub invariant-arms_widths-loop-arm : goal.invariant-arms_widths-loop-arm
-invariant-arms_widths-loop-arm l = arms_widths (width_of l.names) l.subject (arms (map plain_arm (drop l.arm-index l.choices))) ≡ arms_widths (width_of l.names) l.subject (arms (map plain_arm l.choices))
+abbrev pub invariant-stmt_widths-loop-arm : goal.invariant-stmt_widths-loop-arm
+invariant-stmt_widths-loop-arm l = arms_widths (width_of l.names) l.subject (arms (map plain_arm (drop l.arm-index l.arm-items))) ≡ arms_widths (width_of l.names) l.subject (arms (map plain_arm l.arm-items))

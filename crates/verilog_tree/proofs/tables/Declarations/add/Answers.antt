@@ -3,8 +3,8 @@ use Rattle.indexmap.proofs.CallerLemmas.{insert_entry-new}
 use Rattle.verilog_tree.specs.Seen.{declaration}
 use Rattle.verilog_tree.specs.inner.Tables.{same_name}
 use Rattle.verilog_tree.specs.Tables.{with_declared}
-use Rattle.std.proofs.lemmas.Result.{on_ok_weaker}
-use Rattle.verilog_tree.proofs.Hashed.{declares, table_none, declared_already, declared_last}
+use Rattle.verilog_tree.proofs.Hashed.{declares, table_none, declared_already, declared_last, on_ok, ok_now, err_now}
+use Rattle.verilog_tree.proofs.tables.Declarations.add.Goals.{in-Ok, in-Err}
 use Rattle.verilog_tree.proofs.tables.Declarations.add.Goals as goal
 
 pub returns-then-contains_key : goal.returns-then-contains_key
@@ -19,7 +19,10 @@ returns c =
     let d = declaration c.args.declared in
     let es = c.self.inside.forms.entries in
     let absent = sym c.contains_key.ensures ∙ c.if-contains_key.false in
-    on_ok_weaker c.put_form.result (λ e.
-    ap (map declares) (e ∙ insert_entry-new same_name c.self.inside.forms c.args.declared.name _ (table_none es d.name absent))
-    ∙ declared_last es c.args.declared.name _ absent
-    ∙ ap (λ l. with_declared l d) c.self.view_is) c.put_form.ensures
+    elim c.match-insert.branch [
+      | in-Ok w ↦ ok_now c.match-insert.result _ _ w.result-is (
+          ap (map declares) (on_ok c.insert.result _ _ w.in-Ok.is c.insert.ensures.entries ∙ insert_entry-new same_name c.self.inside.forms c.args.declared.name _ (table_none es d.name absent))
+          ∙ declared_last es c.args.declared.name _ absent
+          ∙ ap (λ l. with_declared l d) c.self.view_is)
+      | in-Err w ↦ err_now c.match-insert.result _ _ w.result-is
+    ]

@@ -1,7 +1,0 @@
-use Rattle.std.proofs.Common.{◌≡◌, map, drop}
-use Rattle.verilog_tree.specs.inner.Seen.{mention}
-use Rattle.verilog_tree.specs.inner.Tables.{with_targets}
-use Rattle.verilog_tree.proofs.rules.add_targets.Given as goal
-
-abbrev pub invariant-loop-next : goal.invariant-loop-next
-invariant-loop-next l = with_targets l.set (map mention (drop l.next-index l.all)) ≡ with_targets l.initial.set (map mention l.all)
