@@ -44,10 +44,10 @@ expression-returns-in-Name-clause-compiles t c =
     let ns = scope_places c.args.scope.now in
     boxed_compiles w ns _ _ _ _ _ _ c.boxed.result c.boxed.ensures (ap plain c.in-Name.is ∙ plain_name c.in-Name.name)
     c.width-width.ensures
-    (net_compiles w ns c.in-Name.name.bytes c.place-place.result c.place-place.ensures)
+    (net_compiles w ns c.in-Name.name.bytes c.number-place.result c.number-place.ensures)
 
 pub expression-returns-in-Name-clause-reads : goal.expression-returns-in-Name-clause-reads
-expression-returns-in-Name-clause-reads t c = ok_boxed (λ k i y. Reads i y) _ _ _ c.boxed.result c.boxed.ensures (net_reads c.place-place.result c.bit.result c.bit.ensures)
+expression-returns-in-Name-clause-reads t c = ok_boxed (λ k i y. Reads i y) _ _ _ c.boxed.result c.boxed.ensures (net_reads c.number-place.result c.bit.result c.bit.ensures)
 
 pub expression-returns-in-Bit-clause-compiles : goal.expression-returns-in-Bit-clause-compiles
 expression-returns-in-Bit-clause-compiles t c =
@@ -55,10 +55,10 @@ expression-returns-in-Bit-clause-compiles t c =
     let ns = scope_places c.args.scope.now in
     boxed_compiles w ns _ _ _ _ _ _ c.boxed-in-Bit.result c.boxed-in-Bit.ensures (ap plain c.in-Bit.is ∙ plain_bit c.in-Bit.name c.in-Bit.bit)
     refl
-    (bit_part_compiles w ns c.in-Bit.name.bytes c.in-Bit.bit c.place-place-in-Bit.result c.place-place-in-Bit.ensures)
+    (bit_part_compiles w ns c.in-Bit.name.bytes c.in-Bit.bit c.number-place-in-Bit.result c.number-place-in-Bit.ensures)
 
 pub expression-returns-in-Bit-clause-reads : goal.expression-returns-in-Bit-clause-reads
-expression-returns-in-Bit-clause-reads t c = ok_boxed (λ k i y. Reads i y) _ _ _ c.boxed-in-Bit.result c.boxed-in-Bit.ensures (part_reads c.place-place-in-Bit.result c.in-Bit.bit 1 c.bit-in-Bit.result c.bit-in-Bit.ensures)
+expression-returns-in-Bit-clause-reads t c = ok_boxed (λ k i y. Reads i y) _ _ _ c.boxed-in-Bit.result c.boxed-in-Bit.ensures (part_reads c.number-place-in-Bit.result c.in-Bit.bit 1 c.bit-in-Bit.result c.bit-in-Bit.ensures)
 
 pub expression-returns-in-Part-clause-compiles : goal.expression-returns-in-Part-clause-compiles
 expression-returns-in-Part-clause-compiles t c =
@@ -66,10 +66,10 @@ expression-returns-in-Part-clause-compiles t c =
     let ns = scope_places c.args.scope.now in
     boxed_compiles w ns _ _ _ _ _ _ c.boxed-in-Part.result c.boxed-in-Part.ensures (ap plain c.in-Part.is ∙ plain_part c.in-Part.name c.in-Part.high c.in-Part.low)
     refl
-    (bits_compile w ns c.in-Part.name.bytes c.in-Part.high c.in-Part.low c.saturating_sub-width.result c.ones.result c.place-place-in-Part.result c.place-place-in-Part.ensures c.saturating_sub-width.ensures c.ones.ensures)
+    (bits_compile w ns c.in-Part.name.bytes c.in-Part.high c.in-Part.low c.saturating_sub-width.result c.ones.result c.number-place-in-Part.result c.number-place-in-Part.ensures c.saturating_sub-width.ensures c.ones.ensures)
 
 pub expression-returns-in-Part-clause-reads : goal.expression-returns-in-Part-clause-reads
-expression-returns-in-Part-clause-reads t c = ok_boxed (λ k i y. Reads i y) _ _ _ c.boxed-in-Part.result c.boxed-in-Part.ensures (part_reads c.place-place-in-Part.result c.in-Part.low c.ones.result c.bit-in-Part.result c.bit-in-Part.ensures)
+expression-returns-in-Part-clause-reads t c = ok_boxed (λ k i y. Reads i y) _ _ _ c.boxed-in-Part.result c.boxed-in-Part.ensures (part_reads c.number-place-in-Part.result c.in-Part.low c.ones.result c.bit-in-Part.result c.bit-in-Part.ensures)
 
 pub expression-returns-in_ok-a-in-Unary-clause-compiles : goal.expression-returns-in_ok-a-in-Unary-clause-compiles
 expression-returns-in_ok-a-in-Unary-clause-compiles t c =
