@@ -6,7 +6,7 @@ ghost use Rattle.verilog_tree.specs.Names.{declarations};
 ghost use Rattle.verilog_tree.specs.Rules.{first_break};
 ghost use Rattle.verilog_tree.specs.Seen.{declaration};
 ghost use Rattle.verilog_cycle.specs.Seen.{plain_names};
-ghost use Rattle.verilog_cycle.specs.Design.{registers_of, inputs_of, AreNets};
+ghost use Rattle.verilog_cycle.specs.Design.{AreNets};
 ghost use Rattle.verilog_cycle.specs.inner.Parts.{ArePartsOf};
 
 use crate::nets::all_of;
@@ -42,24 +42,6 @@ impl Parts {
     {
         let registers = all_of(alloc, declared, Kind::Register)?;
         let inputs = all_of(alloc, declared, Kind::Input)?;
-        Parts::with(alloc, module, registers, inputs, nets)
-    }
-
-    // The same, with the module's registers and its inputs without the clock.
-    fn with(
-        alloc: Global,
-        module: &Module,
-        registers: Vec<Declared>,
-        inputs: Vec<Declared>,
-        nets: Vec<Name>,
-    ) -> Result<Parts, NoMemory>
-        requires well_formed { formed (plain_module «module».now) ≡ true }
-        requires legal { first_break (plain_module «module».now) ≡ None }
-        requires registers { map declaration registers.items ≡ registers_of (plain_module «module».now) }
-        requires inputs { map declaration inputs.items ≡ inputs_of (plain_module «module».now) }
-        requires nets { AreNets (plain_module «module».now) (plain_names nets.items) }
-        ensures { IfOk result (ArePartsOf (plain_module «module».now)) }
-    {
         let program = Program::new(alloc, module, &registers, &inputs, &nets)?;
         let cells = Cells::new(
             alloc,

@@ -1,9 +1,10 @@
 use Rattle.std.proofs.Common.{Bool, cond, ◌+◌, [], ◌∷◌, map, drop, sym, ap, ◌∙◌, append-nil}
+use Rattle.std.proofs.lemmas.List.{map-append}
 use Rattle.std.specs.List.{filter}
 use Rattle.verilog_tree.specs.Seen.{declaration}
 use Rattle.verilog_cycle.specs.inner.Kinds.{is_of}
 use Rattle.verilog_code.proofs.Loops.{one_more}
-use Rattle.verilog_cycle.proofs.nets.all_of.Goals.{then-is_of+in_ok-push_declared, else-is_of}
+use Rattle.verilog_cycle.proofs.nets.all_of.Goals.{then-is_of+in_ok-push, else-is_of}
 use Rattle.verilog_cycle.proofs.nets.all_of.Goals as goal
 
 pub loop-next-preserved : goal.loop-next-preserved
@@ -15,8 +16,8 @@ loop-next-preserved c =
     let all = map declaration c.loop-next.all.items in
     let rest = filter kept (map declaration (drop (i + 1) ds)) in
     elim c.if-is_of.branch [
-      | then-is_of+in_ok-push_declared w ↦ one_more (λ l. filter kept (map declaration l)) ds i d (declaration d ∷ []) all (map declaration c.if-is_of.all.items) (filter kept (map declaration ds)) c.loop-next-test.true c.next-item.is
-          (ap (λ (t : Bool). cond t (declaration d ∷ rest) rest) (sym c.is_of.ensures ∙ w.if-is_of.true)) (ap (λ v. map declaration v.items) w.all-is ∙ w.in_ok-push_declared.ensures) c.loop-next.invariant
+      | then-is_of+in_ok-push w ↦ one_more (λ l. filter kept (map declaration l)) ds i d (declaration d ∷ []) all (map declaration c.if-is_of.all.items) (filter kept (map declaration ds)) c.loop-next-test.true c.next-item.is
+          (ap (λ (t : Bool). cond t (declaration d ∷ rest) rest) (sym c.is_of.ensures ∙ w.if-is_of.true)) (ap (λ v. map declaration v.items) w.all-is ∙ ap (map declaration) w.in_ok-push.ensures ∙ map-append declaration c.loop-next.all.items (d ∷ [])) c.loop-next.invariant
       | else-is_of w ↦ one_more (λ l. filter kept (map declaration l)) ds i d [] all (map declaration c.if-is_of.all.items) (filter kept (map declaration ds)) c.loop-next-test.true c.next-item.is
           (ap (λ (t : Bool). cond t (declaration d ∷ rest) rest) (sym c.is_of.ensures ∙ w.if-is_of.false)) (ap (λ v. map declaration v.items) w.all-is ∙ sym (append-nil all)) c.loop-next.invariant
     ]
