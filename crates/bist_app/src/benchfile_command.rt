@@ -115,5 +115,7 @@ pub fn decide_benchfile<H: Host>(
     ensures cause { HasCause (H.state host.old) (H.state host.new) result }
 {
     let mut design = read_design_input(alloc, host, words, 1, Style::Parenthesised)?;
-    decide_design(alloc, words, host, &mut design, devices)
+    let plan = decide_design(alloc, words, host, &mut design, devices);
+    drop(design);
+    plan
 }

@@ -15,7 +15,7 @@ ghost use Rattle.bist_endings.specs.Ending.{done_of, plain};
 ghost use Rattle.self_test.specs.Refusals.{IsShort};
 ghost use Rattle.self_test.specs.WrongPort.{wrong_port};
 ghost use Rattle.bist_app.specs.Shared.{LeavesFirst};
-ghost use Rattle.bist_app.specs.Bench.{done_text, seen_text, bench_line, benched_done, ready, IsBenched};
+ghost use Rattle.bist_app.specs.Bench.{seen_text, bench_line, benched_done, ready, IsBenched};
 ghost use Rattle.bist_app.specs.BenchFile.{zero_registers};
 ghost use Rattle.bist_app.specs.inner.RunsBeside.{FirstHasRoom, AreWords, CanPlant, RunsBeside};
 ghost use Rattle.bist_app.specs.inner.BenchedBoxes.{EndsRun};
@@ -89,28 +89,6 @@ pub fn self_test_design(alloc: Global, march: &March, memory: &Memory) -> Result
     designed(alloc, read)
 }
 
-/// Appends the first cycle with `done`.
-fn put_done(line: &mut Vec<u8>, done_cycle: Option<u32>) -> Result<(), NoMemory>
-    ensures { OnOk result (line.new.items ≡ line.old.items ++ done_text done_cycle) }
-{
-    match done_cycle {
-        Some(cycle) => put_decimal(line, u64::from(cycle)),
-        None => put(line, b"none"),
-    }
-}
-
-/// Appends a read that was answered wrong.
-fn put_read(line: &mut Vec<u8>, bits: u8, seen: Seen) -> Result<(), NoMemory>
-    requires bits { bits ≤ 64 }
-    requires fits { AreWords bits (Some seen) }
-    ensures { OnOk result (line.new.items ≡ line.old.items ++ seen_text bits (Some seen)) }
-{
-    put_number_between(line, b" cycle ", u64::from(seen.cycle), b" expected ")?;
-    put_word(line, bits, seen.expected)?;
-    put(line, b" returned ")?;
-    put_word(line, bits, seen.returned)
-}
-
 /// Appends the first read that was answered wrong, if one was.
 fn put_seen(line: &mut Vec<u8>, bits: u8, seen: Option<Seen>) -> Result<(), NoMemory>
     requires bits { bits ≤ 64 }
@@ -118,7 +96,12 @@ fn put_seen(line: &mut Vec<u8>, bits: u8, seen: Option<Seen>) -> Result<(), NoMe
     ensures { OnOk result (line.new.items ≡ line.old.items ++ seen_text bits seen) }
 {
     match seen {
-        Some(seen) => put_read(line, bits, seen),
+        Some(seen) => {
+            put_number_between(line, b" cycle ", u64::from(seen.cycle), b" expected ")?;
+            put_word(line, bits, seen.expected)?;
+            put(line, b" returned ")?;
+            put_word(line, bits, seen.returned)
+        }
         None => Ok(()),
     }
 }
@@ -137,7 +120,10 @@ fn put_end(line: &mut Vec<u8>, bits: u8, end: RunEnd) -> Result<(), NoMemory>
             b"fail 0 done "
         },
     )?;
-    put_done(line, end.done_cycle)?;
+    match end.done_cycle {
+        Some(cycle) => put_decimal(line, u64::from(cycle))?,
+        None => put(line, b"none")?,
+    }
     put_seen(line, bits, end.first)?;
     put(line, b"\n")
 }
@@ -244,5 +230,7 @@ pub fn test_beside(
     ensures left { LeavesFirst (map (λ b. told b) devices.old.items) (map (λ b. told b) devices.new.items) (plain result) }
 {
     let mut design = self_test_design(alloc, march, memory)?;
-    run_beside(alloc, &mut design, march, memory, planted, devices)
+    let plan = run_beside(alloc, &mut design, march, memory, planted, devices);
+    drop(design);
+    plan
 }

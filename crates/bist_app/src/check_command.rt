@@ -14,7 +14,7 @@ ghost use Rattle.bist_app.specs.Forms.{HasForm};
 ghost use Rattle.bist_app.specs.Check.{is_amiss, at_text, check_line, check_done, ChecksRun, DecidesRun, DecidesCheck, check_form};
 
 use bist_bits::NoMemory;
-use bist_endings::{Plan, Refusal, VerilogRefusal, numbered, put_number};
+use bist_endings::{Plan, Refusal, VerilogRefusal, put_number};
 use bist_host::Host;
 use bist_inputs::{Style, read_design_input, read_march_input, read_memory_input};
 use bist_text::{put, put_number_between};
@@ -33,47 +33,31 @@ fn put_place(line: &mut Vec<u8>, text: &[u8], cycle: u64, port: &Name) -> Result
     put(line, port.as_str().as_bytes())
 }
 
-/// The line of a port that has another number than it should.
-fn differs_line(
-    alloc: Global,
-    cycle: u64,
-    port: &Name,
-    expected: u64,
-    got: u64,
-) -> Result<Vec<u8>, NoMemory>
-    ensures { IfOk result (λ line. line.items ≡ check_line (PortAnswer.Differs cycle port.now expected got)) }
-{
-    let mut line = Vec::new(alloc);
-    put_place(&mut line, b"differs cycle ", cycle, port)?;
-    put_number(&mut line, b" expected ", expected as usize)?;
-    put_number_between(&mut line, b" got ", got, b"\n")?;
-    Ok(line)
-}
-
-/// The line of a port that has no number.
-fn unknown_line(alloc: Global, cycle: u64, port: &Name) -> Result<Vec<u8>, NoMemory>
-    ensures { IfOk result (λ line. line.items ≡ check_line (PortAnswer.Unknown cycle port.now)) }
-{
-    let mut line = Vec::new(alloc);
-    put_place(&mut line, b"unknown cycle ", cycle, port)?;
-    put(&mut line, b"\n")?;
-    Ok(line)
-}
-
 /// The line of an answer.
 fn answer_line(alloc: Global, answer: &PortAnswer) -> Result<Vec<u8>, NoMemory>
     ensures { IfOk result (λ line. line.items ≡ check_line answer.now) }
 {
+    let mut line = Vec::new(alloc);
     match answer {
-        PortAnswer::Conforms { cycles } => numbered(alloc, b"conforms ", *cycles as usize),
+        PortAnswer::Conforms { cycles } => {
+            put_number_between(&mut line, b"conforms ", *cycles, b"\n")?;
+        }
         PortAnswer::Differs {
             cycle,
             port,
             expected,
             got,
-        } => differs_line(alloc, *cycle, port, *expected, *got),
-        PortAnswer::Unknown { cycle, port } => unknown_line(alloc, *cycle, port),
+        } => {
+            put_place(&mut line, b"differs cycle ", *cycle, port)?;
+            put_number(&mut line, b" expected ", *expected as usize)?;
+            put_number_between(&mut line, b" got ", *got, b"\n")?;
+        }
+        PortAnswer::Unknown { cycle, port } => {
+            put_place(&mut line, b"unknown cycle ", *cycle, port)?;
+            put(&mut line, b"\n")?;
+        }
     }
+    Ok(line)
 }
 
 /// Whether some port isn't seen to be as it should.
@@ -156,5 +140,7 @@ pub fn decide_check<H: Host>(alloc: Global, words: &[&str], host: &mut H) -> Res
     ensures cause { HasCause (H.state host.old) (H.state host.new) result }
 {
     let design = read_design_input(alloc, host, words, 1, Style::ByPrecedence)?;
-    decide_run(alloc, words, host, &design)
+    let plan = decide_run(alloc, words, host, &design);
+    drop(design);
+    plan
 }

@@ -7,7 +7,7 @@ ghost use Rattle.bist_endings.specs.Ending.{plain, done_of};
 ghost use Rattle.bist_inputs.specs.Inputs.{HasCause, IsOwnRefusal};
 ghost use Rattle.bist_endings.specs.Conclude.{NamesWords};
 ghost use Rattle.bist_app.specs.Forms.{HasForm};
-ghost use Rattle.bist_app.specs.Vectors.{kind_text, command_line, command_lines, vectors_done, LeavesVectors, DecidesVectors, vectors_form};
+ghost use Rattle.bist_app.specs.Vectors.{command_line, command_lines, vectors_done, LeavesVectors, DecidesVectors, vectors_form};
 
 use crate::parts::one_output;
 use crate::shared::fit_length;
@@ -24,20 +24,14 @@ use word_march::{PortOp, port_ops};
 /// The word that names the file of the commands.
 const OUT: usize = 3;
 
-/// How a command's line begins, which says whether it writes.
-fn kind(write: bool) -> &'static [u8]
-    ensures { result.now ≡ kind_text write }
-{
-    if write { b"w " } else { b"r " }
-}
-
 /// Appends a command's line.
 fn put_command(out: &mut Vec<u8>, command: PortOp, bits: u8) -> Result<(), NoMemory>
     requires bits { bits ≤ 64 }
     requires fits { command.word < 2 ^ bits }
     ensures { OnOk result (out.new.items ≡ out.old.items ++ command_line bits command) }
 {
-    put_number_between(out, kind(command.write), u64::from(command.addr), b" ")?;
+    let kind: &[u8] = if command.write { b"w " } else { b"r " };
+    put_number_between(out, kind, u64::from(command.addr), b" ")?;
     put_word(out, bits, command.word)?;
     put(out, b"\n")
 }

@@ -36,11 +36,11 @@ fn hex_byte(digits: &[u8]) -> Option<u8> {
     u8::try_from(hex(digits)?).ok()
 }
 
-/// A text that is put together. Where memory lacks, or an escape can't be read, it isn't whole.
+/// A text that is put together. Where memory lacks, an escape can't be read, or a piece is left open, it isn't whole.
 #[derive(Drop)]
 pub(crate) struct Text {
     bytes: Vec<u8>,
-    // Where the piece begins that is to be repeated, and how often it is to stand.
+    // Where the piece begins that is to be repeated, and how often it is to stand: 0 where none is open.
     begin: usize,
     times: u32,
     whole: bool,
@@ -58,13 +58,26 @@ impl Text {
 
     /// The bytes, where they are whole.
     pub(crate) fn bytes(&self) -> Option<&[u8]> {
-        if self.whole { Some(&self.bytes) } else { None }
+        if self.whole && self.times == 0 {
+            Some(&self.bytes)
+        } else {
+            None
+        }
     }
 
     /// The same bytes, given away.
     pub(crate) fn finish(self) -> Option<Vec<u8>> {
-        let Text { bytes, whole, .. } = self;
-        if whole { Some(bytes) } else { None }
+        let Text {
+            bytes,
+            times,
+            whole,
+            ..
+        } = self;
+        if whole && times == 0 {
+            Some(bytes)
+        } else {
+            None
+        }
     }
 
     /// Appends these bytes as they are.
@@ -77,7 +90,7 @@ impl Text {
     /// Appends a text.
     pub(crate) fn put_text(&mut self, text: &Text) {
         self.put(&text.bytes);
-        self.whole = self.whole && text.whole;
+        self.whole = self.whole && text.whole && text.times == 0;
     }
 
     /// Appends a byte, where there is one.
@@ -102,19 +115,21 @@ impl Text {
         }
     }
 
-    /// Appends further copies of the piece, until there are so many.
+    /// Ends the piece, and appends further copies of it until there are so many.
     fn repeat(&mut self, alloc: Global) {
+        let times = self.times;
+        self.times = 0;
         let Some((_, piece)) = self.bytes.split_at_checked(self.begin) else {
             self.whole = false;
             return;
         };
         match piece.to_vec(alloc) {
-            Ok(piece) => {
-                for _ in 1..self.times {
+            Ok(piece) if times > 0 => {
+                for _ in 1..times {
                     self.put(&piece);
                 }
             }
-            Err(_) => self.whole = false,
+            _ => self.whole = false,
         }
     }
 
@@ -134,8 +149,8 @@ impl Text {
         let (times, piece) = cut(text, b'{');
         self.begin = self.bytes.len();
         match decimal(times) {
-            Some(times) => self.times = times,
-            None => self.whole = false,
+            Some(times) if self.times == 0 && times > 0 => self.times = times,
+            _ => self.whole = false,
         }
         self.put(piece);
     }
