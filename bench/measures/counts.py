@@ -74,7 +74,7 @@ def selftest(folder: pathlib.Path) -> list[Figure]:
 
 
 def gate(folder: pathlib.Path) -> list[Figure]:
-    """Every proof, test and wrong body from nothing, in minutes of a processor; calm is what it costs where a loop beside it runs at its best."""
+    """Every proof, test and wrong body from nothing, in minutes of a processor; calm by the pace of a loop, quiet by that of two crates."""
     log = ROOT / "build" / "gate.log"
     log.parent.mkdir(exist_ok=True)
     # what it says can be read meanwhile
@@ -83,15 +83,18 @@ def gate(folder: pathlib.Path) -> list[Figure]:
     costs = {row[0]: [float(number) / 60 for number in row[1:]] for row in rows if re.fullmatch(r"[a-z_]+( +\d+){6}", " ".join(row))}
     if call.status or "whole" not in costs:
         raise SystemExit(f"bench/gate ends with {call.status}: {call.said[-2000:]}")
-    whole, calm = costs.pop("whole"), costs.pop("calm")
+    whole, calm, quiet = costs.pop("whole"), costs.pop("calm"), costs.pop("quiet")
     kinds = ("of proofs", "of tests", "of wrong bodies")
     parts = [
         Figure(name, cost, unit)
-        for name, row in (("the whole gate", whole), ("the whole gate, calm", calm))
+        for name, row in (("the whole gate", whole), ("the whole gate, calm", calm), ("the whole gate, quiet", quiet))
         for cost, unit in zip((row[4], *row), ("minutes", *kinds))
     ]
-    dearest = sorted(costs, key=lambda name: -costs[name][5])[:3]
-    return [*parts, *(Figure("its dearest crates, calm", costs[name][5], f"`{name}`") for name in dearest)]
+    slow = whole[4] / quiet[4]
+    for word, cost in (("calm", {name: row[5] for name, row in costs.items()}), ("quiet", {name: row[4] / slow for name, row in costs.items()})):
+        dearest = sorted(cost, key=lambda name: -cost[name])[:3]
+        parts.extend(Figure(f"its dearest crates, {word}", cost[name], f"`{name}`") for name in dearest)
+    return parts
 
 
 def first(folder: pathlib.Path) -> list[Figure]:
