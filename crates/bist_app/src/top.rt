@@ -30,7 +30,6 @@ fn decide_and_end<H: Host>(
 }
 
 /// Runs the command that the words give: reads its files, writes its outputs, says its line, and ends with a status.
-#[tactic(auto, using(crate::proofs::Complete::complete_told, crate::proofs::Statuses::read_fault_rose, crate::proofs::Statuses::write_fault_rose, crate::proofs::Statuses::silent_rose, crate::proofs::OneAnswer::one_answer))]
 pub fn run<H: Host>(
     alloc: Global,
     words: &[&str],
