@@ -23,13 +23,6 @@ use std::alloc::Global;
 use verilog_cycle::Design;
 use word_device::{Device, unplanted_passes};
 
-/// A chip with nothing planted answers every read of the march right.
-fn answers_right(march: &March, memory: &Memory)
-    ensures { AllRight march.now memory.now (run_word march.now memory.now (benched_chip memory.now None)) }
-{
-    unplanted_passes(march, memory);
-}
-
 /// Appends the line that tells how many boxes failed.
 fn put_failing(line: &mut Vec<u8>, count: usize, failing: usize) -> Result<(), NoMemory>
     ensures { OnOk result (line.new.items ≡ line.old.items ++ all_line count failing) }
@@ -76,7 +69,8 @@ fn bench_boxes(
     ensures stays { OnErr result (0 < length devices.new.items) }
     ensures counts { IfOk result (λ failing. CountsFailing march.now memory.now (map (λ b. told b) devices.old.items) failing) }
 {
-    answers_right(march, memory);
+    // a chip with nothing planted answers every read of the march right
+    unplanted_passes(march, memory);
     let zeros = zeros_for(alloc, design)?;
     let mut failing = 0;
     while !devices.is_empty() {

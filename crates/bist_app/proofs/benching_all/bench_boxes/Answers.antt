@@ -1,5 +1,5 @@
 use Rattle.bist_app.proofs.Common.{rules, ◌≡◌, ◌∙◌, ◌<◌, length, arith, subst, sym, ModuleTree, Fit, registers_of}
-use Rattle.bist_app.proofs.AllBenched.{at_most_one, goes_more, boxes_counted, one_gone, one_less, first_has_room, rest_have_room, zeros_for_registers}
+use Rattle.bist_app.proofs.AllBenched.{blank_right, at_most_one, goes_more, boxes_counted, one_gone, one_less, first_has_room, rest_have_room, zeros_for_registers}
 use Rattle.bist_app.proofs.benching_all.bench_boxes.Goals as goal
 
 pub take_first-requires-clause-room : goal.take_first-requires-clause-room
@@ -17,7 +17,7 @@ loop-devices-preserved g c =
     let less = one_less c.loop-devices.devices.items c.take_first.new.devices.items some c.in_ok-device.ensures.taken in
     let few = at_most_one c.does_fail.result in
     let goes = goes_more _ c.args.march.now c.args.memory.now _ c.loop-devices.devices.items c.take_first.new.devices.items _ c.loop-devices.failing
-    c.from-failing.result c.does_fail.result c.from-failing.ensures c.answers_right.ensures some c.in_ok-device.ensures.taken c.in_ok-device.ensures.tells c.does_fail.ensures.end
+    c.from-failing.result c.does_fail.result c.from-failing.ensures (blank_right c.args.march.now c.args.memory.now c.unplanted_passes.ensures.alone) some c.in_ok-device.ensures.taken c.in_ok-device.ensures.tells c.does_fail.ensures.end
     c.loop-devices.invariant.goes_on in
     record {
       tree = c.does_fail.ensures.kept ∙ c.loop-devices.invariant.tree;
