@@ -60,16 +60,6 @@ fn answer_line(alloc: Global, answer: &PortAnswer) -> Result<Vec<u8>, NoMemory>
     Ok(line)
 }
 
-/// Whether some port isn't seen to be as it should.
-fn is_amiss(answer: &PortAnswer) -> bool
-    ensures { result ≡ is_amiss answer.now }
-{
-    match answer {
-        PortAnswer::Conforms { .. } => false,
-        PortAnswer::Differs { .. } | PortAnswer::Unknown { .. } => true,
-    }
-}
-
 /// Why nothing was run, as a refusal of the command.
 fn run_refusal(fault: CheckFault) -> Refusal
     ensures answer { (mo : ModuleTree) (march : List MarchElement) (d : Description) → Refuses march d mo.ports (Some fault) → ChecksRun mo march d (Err result) }
@@ -89,7 +79,7 @@ fn plan_answer(alloc: Global, answer: &PortAnswer) -> Result<Plan, Refusal>
 {
     let line = answer_line(alloc, answer)?;
     Ok(Plan {
-        found: is_amiss(answer),
+        found: !matches!(answer, PortAnswer::Conforms { .. }),
         outputs: Vec::new(alloc),
         line,
     })
