@@ -4,11 +4,9 @@ ghost use Rattle.std.specs.Prelude.{◌≡◌, ◌<◌, ◌++◌, [], None, Some
 ghost use Rattle.verilog_cycle.specs.Design.{Fit, registers_of};
 ghost use Rattle.self_test.specs.SelfTest.{SelfTest};
 ghost use Rattle.word_device.specs.Ports.{shape_of as memory_shape};
-ghost use Rattle.word_device.specs.Runs.{AllRight, run_word};
 ghost use Rattle.bist_endings.specs.Ending.{done_of, plain};
 ghost use Rattle.bist_inputs.specs.Inputs.{IsOwnRefusal};
 ghost use Rattle.self_test.specs.Refusals.{IsShort};
-ghost use Rattle.bist_app.specs.Bench.{benched_chip};
 ghost use Rattle.bist_app.specs.BenchAll.{HaveRoom, LeavesAll, LeavesNone, all_line, AreGone};
 ghost use Rattle.bist_app.specs.inner.BenchedBoxes.{IsEnd, CountsFailing};
 

@@ -11,7 +11,7 @@ ghost use Rattle.bist_endings.specs.Ending.{plain, done_of};
 ghost use Rattle.bist_endings.specs.Conclude.{NamesWords};
 ghost use Rattle.bist_inputs.specs.Inputs.{HasCause, IsOwnRefusal};
 ghost use Rattle.bist_app.specs.Forms.{HasForm};
-ghost use Rattle.bist_app.specs.Check.{is_amiss, at_text, check_line, check_done, ChecksRun, DecidesRun, DecidesCheck, check_form};
+ghost use Rattle.bist_app.specs.Check.{at_text, check_line, check_done, ChecksRun, DecidesRun, DecidesCheck, check_form};
 
 use bist_bits::NoMemory;
 use bist_endings::{Plan, Refusal, VerilogRefusal, put_number};
