@@ -4,12 +4,11 @@ use Rattle.bist_app.specs.Sim.{FitsDirections, LeavesSim}
 use Rattle.bist_app.proofs.Refusing.{passed_on}
 use Rattle.bist_app.proofs.sim.run_sim.Goals as goal
 
--- the same places and bytes under other names
-told : (march : List MarchElement) (prim : Primitive) (places places' : Places) (digits digits' letters letters' : List ℕ) (outcome : Result Done Refusal)
-    → places ≡ places' → digits ≡ digits' → letters ≡ letters' → LeavesSim march prim places digits letters outcome → LeavesSim march prim places' digits' letters' outcome
-told march prim places places' digits digits' letters letters' outcome p d l h =
-    subst (λ b. LeavesSim march prim places' digits' b outcome) l
-    (subst (λ b. LeavesSim march prim places' b letters outcome) d (subst (λ q. LeavesSim march prim q digits letters outcome) p h))
+-- the same bytes under other names
+told : (march : List MarchElement) (prim : Primitive) (at : Places) (digits digits' letters letters' : List ℕ) (outcome : Result Done Refusal)
+    → digits ≡ digits' → letters ≡ letters' → LeavesSim march prim at digits letters outcome → LeavesSim march prim at digits' letters' outcome
+told march prim at digits digits' letters letters' outcome d l h =
+    subst (λ b. LeavesSim march prim at digits' b outcome) l (subst (λ b. LeavesSim march prim at b letters outcome) d h)
 
 pub returns-in_err-march-clause-answer : goal.returns-in_err-march-clause-answer
 returns-in_err-march-clause-answer g c = (Err c.in_err-march.field-0.0, c.in_err-march.ensures.answer, passed_on _ _ c.from_residual.ensures)
@@ -55,7 +54,7 @@ returns-clause-answer g c =
           (
             Ok tt,
             fits,
-            told c.in_ok-march.march c.in_ok-prim.prim _ _ _ _ _ _ _ c.places_for-places.ensures.value c.as_bytes-3.ensures.value c.as_bytes-4.ensures.value c.plan_sim.ensures.answer,
+            told c.in_ok-march.march c.in_ok-prim.prim _ _ _ _ _ _ c.as_bytes-3.ensures.value c.as_bytes-4.ensures.value c.plan_sim.ensures.answer,
           ),
         ),
       ),
