@@ -3,15 +3,11 @@
 ghost use Rattle.std.specs.Prelude.{◌≡◌, ◌↔◌, [], Some, IfOk, IfErr, IsTrue, MatchOption, Option, is_some, map};
 ghost use Rattle.bist_host.specs.Files.{OnlyReads};
 ghost use Rattle.fault_core.specs.Primitive.{has_aggressor};
-ghost use Rattle.array_sim.specs.Detection.{Detects};
-ghost use Rattle.word_device.specs.Chips.{FitsMemory};
-ghost use Rattle.word_device.specs.Runs.{SomeWrong, run_word};
 ghost use Rattle.bist_endings.specs.Ending.{plain, done_of};
 ghost use Rattle.bist_endings.specs.Conclude.{NamesWords};
 ghost use Rattle.bist_inputs.specs.Inputs.{HasCause, IsOwnRefusal};
 ghost use Rattle.bist_app.specs.declared.benchfault_command.NamedPlace.{NamedPlace};
 ghost use Rattle.bist_app.specs.declared.benchfault_command.FaultShape.{FaultShape};
-ghost use Rattle.bist_app.specs.Bench.{benched_chip};
 ghost use Rattle.bist_app.specs.inner.RunsBeside.{CanPlant};
 ghost use Rattle.bist_app.specs.BenchFault.{IsPlaceWord, IsAggressorPlace, IsFaultShape, IsWithin, ArePlaces, FitsPlaces, place_in, planted_of, TestsFault, RunsFault, DecidesFault, bench_fault_form};
 ghost use Rattle.bist_app.specs.Forms.{HasForm};
@@ -125,17 +121,6 @@ fn planted_for(prim: &Prim, shape: FaultShape, memory: &Memory) -> Planted
     }
 }
 
-/// A chip in which an instance was just planted answers some read of the march wrong, where the march detects the primitive.
-fn answers_wrong(march: &March, memory: &Memory, planted: &Planted)
-    requires { FitsMemory planted.now memory.now.words memory.now.bits }
-    ensures { Detects march.now planted.now.prim → SomeWrong march.now memory.now (run_word march.now memory.now (benched_chip memory.now (Some planted.now))) }
-{
-    let _ = memory.words();
-    let _ = planted.prim.agg();
-    closing();
-    planted_fails(march, memory);
-}
-
 /// The checks behind the inputs, in their order, and the run.
 fn test_fault(
     alloc: Global,
@@ -155,7 +140,10 @@ fn test_fault(
     fit_places(shape, memory)?;
     fit_room(devices, memory)?;
     let planted = planted_for(prim, shape, memory);
-    answers_wrong(march, memory, &planted);
+    let _ = memory.words();
+    let _ = planted.prim.agg();
+    closing();
+    planted_fails(march, memory);
     test_beside(alloc, march, memory, &Some(planted), devices)
 }
 
