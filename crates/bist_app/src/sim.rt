@@ -9,7 +9,7 @@ ghost use Rattle.bist_inputs.specs.Inputs.{HasCause, IsOwnRefusal};
 ghost use Rattle.bist_endings.specs.Conclude.{NamesWords};
 ghost use Rattle.bist_endings.specs.Words.{word};
 ghost use Rattle.bist_app.specs.Shared.{FitsAggressor};
-ghost use Rattle.bist_app.specs.Sim.{IsAggressorWord, IsSimShape, content_of, directions_of_letters, sim_line, LeavesSim, RunsSim, DecidesSim, sim_form};
+ghost use Rattle.bist_app.specs.Sim.{IsAggressorWord, IsSimShape, content_of, directions_of_letters, sim_line, LeavesSim, DecidesSim, sim_form};
 ghost use Rattle.bist_app.specs.Forms.{HasForm};
 
 use crate::directions::{direction_word, fit_directions};
@@ -160,21 +160,18 @@ fn plan_sim(
     })
 }
 
-/// Runs one array, of which the words say this.
+/// Runs one array.
 #[tactic(auto, using(crate::proofs::Causes::own_cause))]
-fn run_sim<H: Host>(
-    alloc: Global,
-    words: &[&str],
-    shape: SimShape,
-    host: &mut H,
-) -> Result<Plan, Refusal>
-    requires form { HasForm sim_form words.now }
-    requires shape { IsSimShape words.now shape }
+pub fn decide_sim<H: Host>(alloc: Global, words: &[&str], host: &mut H) -> Result<Plan, Refusal>
+    requires { HasForm sim_form words.now }
     ensures kept { OnlyReads (H.state host.old) (H.state host.new) }
     ensures outputs { IfOk result (λ plan. NamesWords words.now (done_of plan).outputs) }
-    ensures answer { RunsSim (H.state host.old).files words.now shape (plain result) }
+    ensures answer { DecidesSim (H.state host.old).files words.now (plain result) }
     ensures cause { HasCause (H.state host.old) (H.state host.new) result }
 {
+    let Some(shape) = sim_shape(words) else {
+        return Err(Refusal::Usage);
+    };
     let march = read_march_input(host, words, 1)?;
     let prim = give_prim(words[2].as_bytes())?;
     fit_aggressor(shape.aggressor.is_some(), &prim)?;
@@ -191,19 +188,4 @@ fn run_sim<H: Host>(
         words[4].as_bytes(),
         words[7].as_bytes(),
     )
-}
-
-/// Runs one array.
-#[tactic(auto, using(crate::proofs::Causes::own_cause))]
-pub fn decide_sim<H: Host>(alloc: Global, words: &[&str], host: &mut H) -> Result<Plan, Refusal>
-    requires { HasForm sim_form words.now }
-    ensures kept { OnlyReads (H.state host.old) (H.state host.new) }
-    ensures outputs { IfOk result (λ plan. NamesWords words.now (done_of plan).outputs) }
-    ensures answer { DecidesSim (H.state host.old).files words.now (plain result) }
-    ensures cause { HasCause (H.state host.old) (H.state host.new) result }
-{
-    match sim_shape(words) {
-        Some(shape) => run_sim(alloc, words, shape, host),
-        None => Err(Refusal::Usage),
-    }
 }
