@@ -1,6 +1,7 @@
 -- The direction word of letters: their number, moved up to bit 63.
-use Rattle.bist_app.proofs.Common.{◌≡◌, ℕ, ◌+◌, ◌-◌, ◌*◌, ◌/◌, ◌%◌, ◌^◌, ◌<◌, ◌≤◌, ◌==◌, true, false, List, length, get_or, refl, ap, sym, ◌∙◌, subst, arith, if◌then◌else◌, ◌≢◌, IsTrue, below_more, [], ◌∷◌, MarchElement, div-div-eq-div-mul, mul-mod_left, mul-div_cancel, mul-lt-mul_of_pos_right, div-one, ext_get_or, get_or-map, length-map, Direction, Upward, Downward, directions_of, direction_at, is_down_at, is_direction, FitsWord}
+use Rattle.bist_app.proofs.Common.{◌≡◌, ℕ, ◌+◌, ◌-◌, ◌*◌, ◌/◌, ◌%◌, ◌^◌, ◌<◌, ◌≤◌, ◌==◌, true, false, List, length, get_or, refl, ap, sym, ◌∙◌, subst, arith, if◌then◌else◌, ◌≢◌, Bool, IsTrue, below_more, [], ◌∷◌, MarchElement, div-div-eq-div-mul, mul-mod_left, mul-div_cancel, mul-lt-mul_of_pos_right, div-one, ext_get_or, get_or-map, length-map, Direction, Upward, Downward, directions_of, direction_at, is_down_at, is_direction, FitsWord}
 use Rattle.std.proofs.lemmas.Nat.{pow-add, pow_pos, div-mul-add, mod-mul-add}
+use mir.Val.{bool_byte}
 use Rattle.std.proofs.lemmas.List.FromFn.{get_or-map-range_with_len, length-map-range_with_len}
 use Rattle.bist_app.specs.inner.LetterBits.{HasBits}
 use Rattle.bist_app.specs.Sim.{letter_direction, directions_of_letters}
@@ -61,7 +62,7 @@ digit_new value i b small =
     ap (λ e. (value * 2 + b) / 2 ^ e % 2) none ∙ ap (λ q. q % 2) (div-one (value * 2 + b)) ∙ mod-mul-add value 2 b small
 
 -- one more letter
-pub bits_more : (letters : List ℕ) (value i b : ℕ) → HasBits letters i value → (get_or letters i 0 == 100) ≡ (b == 1) → b < 2 → HasBits letters (i + 1) (value * 2 + b)
+bits_more : (letters : List ℕ) (value i b : ℕ) → HasBits letters i value → (get_or letters i 0 == 100) ≡ (b == 1) → b < 2 → HasBits letters (i + 1) (value * 2 + b)
 bits_more letters value i b has is small =
     let doubled : 2 ^ (i + 1) ≡ 2 ^ i * 2 = pow-add 2 i 1 in
     record {
@@ -70,6 +71,20 @@ bits_more letters value i b has is small =
           (λ k below. ap (λ q. q % 2 == 1) (digit_kept value i b k small below) ∙ has.digits k below)
           (ap (λ d. d == 1) (digit_new value i b small) ∙ sym is);
     }
+
+-- the same of the letter itself
+one_or_none : (is : Bool) (b : ℕ) → b ≡ bool_byte is → (is ≡ (b == 1)) × (b < 2)
+one_or_none true b e = (cc, omega (arith, e))
+one_or_none false b e = (cc, omega (arith, e))
+
+pub letter_more : (letters : List ℕ) (value i b : ℕ) → HasBits letters i value → b ≡ bool_byte (get_or letters i 0 == 100) → HasBits letters (i + 1) (value * 2 + b)
+letter_more letters value i b has e =
+    let one = one_or_none (get_or letters i 0 == 100) b e in
+    bits_more letters value i b has one.0 one.1
+
+-- behind the last letter
+pub all_bits : (letters : List ℕ) (i value : ℕ) → HasBits letters i value → length letters ≤ i → i ≤ length letters → HasBits letters (length letters) value
+all_bits letters i value has many few = let same : i ≡ length letters = omega (arith, many, few) in subst (λ n. HasBits letters n value) same has
 
 -- there are as many directions as elements
 pub length-is_direction : (es : List MarchElement) (ds : List Direction) → IsTrue (is_direction es ds) → length es ≡ length ds

@@ -1,19 +1,15 @@
 //! The command `benchfault`: the self-test of a march and a memory against the first box, in which an instance of a primitive is planted.
 
-ghost use Rattle.std.specs.Prelude.{◌≡◌, ◌≤◌, ◌<◌, ◌↔◌, [], Some, IfOk, IfErr, IsTrue, MatchOption, Option, is_some, map};
+ghost use Rattle.std.specs.Prelude.{◌≡◌, ◌↔◌, [], Some, IfOk, IfErr, IsTrue, MatchOption, Option, is_some, map};
 ghost use Rattle.bist_host.specs.Files.{OnlyReads};
 ghost use Rattle.fault_core.specs.Primitive.{has_aggressor};
-ghost use Rattle.array_sim.specs.Detection.{Detects};
-ghost use Rattle.word_device.specs.Chips.{FitsMemory};
-ghost use Rattle.word_device.specs.Runs.{SomeWrong, run_word};
 ghost use Rattle.bist_endings.specs.Ending.{plain, done_of};
 ghost use Rattle.bist_endings.specs.Conclude.{NamesWords};
 ghost use Rattle.bist_inputs.specs.Inputs.{HasCause, IsOwnRefusal};
 ghost use Rattle.bist_app.specs.declared.benchfault_command.NamedPlace.{NamedPlace};
 ghost use Rattle.bist_app.specs.declared.benchfault_command.FaultShape.{FaultShape};
-ghost use Rattle.bist_app.specs.Bench.{benched_chip};
 ghost use Rattle.bist_app.specs.inner.RunsBeside.{CanPlant};
-ghost use Rattle.bist_app.specs.BenchFault.{IsPlaceWord, IsAggressorPlace, IsFaultShape, IsWithin, IsApart, ArePlaces, FitsPlaces, place_in, aggressor_in, planted_of, TestsFault, RunsFault, DecidesFault, bench_fault_form};
+ghost use Rattle.bist_app.specs.BenchFault.{IsPlaceWord, IsAggressorPlace, IsFaultShape, IsWithin, ArePlaces, FitsPlaces, place_in, planted_of, TestsFault, RunsFault, DecidesFault, bench_fault_form};
 ghost use Rattle.bist_app.specs.Forms.{HasForm};
 
 use crate::benching::test_beside;
@@ -79,22 +75,17 @@ fn is_within(place: NamedPlace, memory: &Memory) -> bool
     place.word < memory.words() as usize && place.bit < usize::from(memory.bits())
 }
 
-fn is_apart(aggressor: Option<NamedPlace>, victim: NamedPlace, memory: &Memory) -> bool
-    ensures { IsTrue result ↔ IsApart memory.now victim aggressor }
-{
-    match aggressor {
-        None => true,
-        Some(place) => is_within(place, memory) && place.word != victim.word,
-    }
-}
-
 /// Refuses a place outside the memory, and two places in one word.
 fn fit_places(shape: FaultShape, memory: &Memory) -> Result<(), Refusal>
     ensures answer { FitsPlaces memory.now shape result }
     ensures own { IfErr result IsOwnRefusal }
     ensures fit { IfOk result (λ _. ArePlaces memory.now shape) }
 {
-    if is_within(shape.victim, memory) && is_apart(shape.aggressor, shape.victim, memory) {
+    let is_apart = match shape.aggressor {
+        None => true,
+        Some(place) => is_within(place, memory) && place.word != shape.victim.word,
+    };
+    if is_apart && is_within(shape.victim, memory) {
         return Ok(());
     }
     Err(Refusal::Device(DeviceRefusal::BadPlace))
@@ -111,16 +102,6 @@ fn place_in(place: NamedPlace, memory: &Memory) -> Place
     }
 }
 
-fn aggressor_in(aggressor: Option<NamedPlace>, victim: NamedPlace, memory: &Memory) -> Option<Place>
-    requires { IsApart memory.now victim aggressor }
-    ensures { result ≡ aggressor_in aggressor }
-{
-    match aggressor {
-        None => None,
-        Some(place) => Some(place_in(place, memory)),
-    }
-}
-
 /// The instance of a primitive that the words name.
 #[tactic(auto, using(crate::proofs::Faulted::can_plant))]
 fn planted_for(prim: &Prim, shape: FaultShape, memory: &Memory) -> Planted
@@ -129,22 +110,15 @@ fn planted_for(prim: &Prim, shape: FaultShape, memory: &Memory) -> Planted
     ensures value { result ≡ planted_of prim.now shape }
     ensures fits { CanPlant memory.now (Some result) }
 {
+    let agg = match shape.aggressor {
+        None => None,
+        Some(place) => Some(place_in(place, memory)),
+    };
     Planted {
         prim: *prim,
-        agg: aggressor_in(shape.aggressor, shape.victim, memory),
+        agg,
         vic: place_in(shape.victim, memory),
     }
-}
-
-/// A chip in which an instance was just planted answers some read of the march wrong, where the march detects the primitive.
-fn answers_wrong(march: &March, memory: &Memory, planted: &Planted)
-    requires { FitsMemory planted.now memory.now.words memory.now.bits }
-    ensures { Detects march.now planted.now.prim → SomeWrong march.now memory.now (run_word march.now memory.now (benched_chip memory.now (Some planted.now))) }
-{
-    let _ = memory.words();
-    let _ = planted.prim.agg();
-    closing();
-    planted_fails(march, memory);
 }
 
 /// The checks behind the inputs, in their order, and the run.
@@ -166,7 +140,10 @@ fn test_fault(
     fit_places(shape, memory)?;
     fit_room(devices, memory)?;
     let planted = planted_for(prim, shape, memory);
-    answers_wrong(march, memory, &planted);
+    let _ = memory.words();
+    let _ = planted.prim.agg();
+    closing();
+    planted_fails(march, memory);
     test_beside(alloc, march, memory, &Some(planted), devices)
 }
 

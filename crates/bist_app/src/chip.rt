@@ -1,6 +1,6 @@
 //! The command `chip`: several memories of one chip, each tested by a march, within a power budget.
 
-ghost use Rattle.std.specs.Prelude.{◌≡◌, ◌<◌, ◌≤◌, ◌↔◌, ◌++◌, ◌∷◌, ℕ, [], List, IfOk, IfErr, IsTrue, OnOk, length, map, suc};
+ghost use Rattle.std.specs.Prelude.{◌≡◌, ◌≤◌, ◌↔◌, ◌++◌, ◌∷◌, ℕ, [], List, IfOk, IfErr, IsTrue, OnOk, length, map, suc};
 ghost use Rattle.bist_host.specs.Files.{OnlyReads};
 ghost use Rattle.chip_plan.specs.Groups.{FirstFit, last_group, end_of};
 ghost use Rattle.chip_rtl.specs.ChipTest.{TestUnit, lengths};
@@ -9,9 +9,9 @@ ghost use Rattle.bist_endings.specs.Ending.{plain, done_of, written_of};
 ghost use Rattle.bist_endings.specs.Conclude.{NamesWords};
 ghost use Rattle.bist_inputs.specs.Inputs.{HasCause, IsOwnRefusal};
 ghost use Rattle.bist_app.specs.Forms.{HasForm};
-ghost use Rattle.bist_app.specs.Chip.{IsEarlier, HasTakenName, HasOwnNames, chip_line, LeavesChip, TestsNamed, TestsUnits, DecidesChip, chip_form};
+ghost use Rattle.bist_app.specs.Chip.{IsEarlier, HasOwnNames, chip_line, LeavesChip, TestsUnits, DecidesChip, chip_form};
 ghost use Rattle.bist_app.specs.inner.UnitTables.{IsTableOf};
-ghost use Rattle.bist_app.specs.inner.ChipParts.{IsRead, IsReady, PutsSelfTest, PutSelfTests, CanStart, MakesFile};
+ghost use Rattle.bist_app.specs.inner.ChipParts.{IsReady, PutSelfTests, CanStart, MakesFile};
 
 use crate::parts::one_output;
 use crate::units::{UnitTable, no_units, read_units};
@@ -46,43 +46,18 @@ fn is_earlier(memories: &[Memory], unit: usize, name: &str) -> bool
     false
 }
 
-/// Whether the memory of a unit has the name of an earlier one, or its module that of the chip.
-fn has_taken_name(chip: &str, memories: &[Memory], unit: usize) -> bool
-    requires { unit < length memories.now }
-    ensures { IsTrue result ↔ HasTakenName chip.now memories.now unit }
-{
-    let memory = &memories[unit];
-    if module_of(memory).as_str() == chip {
-        return true;
-    }
-    is_earlier(memories, unit, memory.name())
-}
-
-/// Refuses the first memory whose name is taken.
+/// Refuses the first memory that has the name of an earlier one, or whose module has that of the chip.
 fn check_names(chip: &str, memories: &[Memory]) -> Result<(), Refusal>
     ensures answer { HasOwnNames chip.now memories.now result }
     ensures own { IfErr result IsOwnRefusal }
 {
     for unit in 0..memories.len() {
-        if has_taken_name(chip, memories, unit) {
+        let memory = &memories[unit];
+        if module_of(memory).as_str() == chip || is_earlier(memories, unit, memory.name()) {
             return Err(Refusal::Chip(ChipRefusal::SameName { unit }));
         }
     }
     Ok(())
-}
-
-/// Appends the text of the self-test module of a march and a memory.
-fn put_self_test(
-    alloc: Global,
-    out: &mut Vec<u8>,
-    march: &March,
-    memory: &Memory,
-) -> Result<(), NoMemory>
-    ensures { OnOk result (PutsSelfTest march.now memory.now out.old.items out.new.items) }
-{
-    let module = generate(alloc, march, memory)?;
-    let text = emit(alloc, &module)?;
-    put(out, &text)
 }
 
 /// The texts of the self-test modules of the units, one behind another.
@@ -94,7 +69,9 @@ fn self_tests(alloc: Global, table: &UnitTable) -> Result<Vec<u8>, NoMemory>
     let memories = table.memories.as_slice();
     let mut out = Vec::new(alloc);
     for unit in 0..memories.len() {
-        put_self_test(alloc, &mut out, &marches[unit], &memories[unit])?;
+        let module = generate(alloc, &marches[unit], &memories[unit])?;
+        let text = emit(alloc, &module)?;
+        put(&mut out, &text)?;
     }
     Ok(out)
 }
@@ -142,17 +119,7 @@ fn plan_chip(alloc: Global, chip: &ChipDesc, table: &UnitTable) -> Result<Plan, 
     })
 }
 
-/// Tests the units that were read, where each has a name of its own.
-fn test_table(alloc: Global, chip: &ChipDesc, table: &UnitTable) -> Result<Plan, Refusal>
-    requires { (us : List TestUnit) × IsRead chip.now table.now us }
-    ensures answer { (us : List TestUnit) → IsRead chip.now table.now us → TestsNamed chip.now us (plain result) }
-    ensures own { IfErr result IsOwnRefusal }
-{
-    check_names(chip.name(), &table.memories)?;
-    plan_chip(alloc, chip, table)
-}
-
-/// Reads the units of a chip, and tests them.
+/// Reads the units of a chip, and tests them, where each has a name of its own.
 fn test_chip<H: Host>(alloc: Global, host: &mut H, chip: &ChipDesc) -> Result<Plan, Refusal>
     ensures kept { OnlyReads (H.state host.old) (H.state host.new) }
     ensures answer { TestsUnits (H.state host.old).files chip.now (plain result) }
@@ -160,7 +127,8 @@ fn test_chip<H: Host>(alloc: Global, host: &mut H, chip: &ChipDesc) -> Result<Pl
 {
     let mut table = no_units(alloc);
     read_units(host, chip.units(), 0, &mut table)?;
-    test_table(alloc, chip, &table)
+    check_names(chip.name(), &table.memories)?;
+    plan_chip(alloc, chip, &table)
 }
 
 /// Tests the memories of a chip, each by its march, within the chip's budget.

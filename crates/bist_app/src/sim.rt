@@ -1,4 +1,4 @@
-ghost use Rattle.std.specs.Prelude.{◌≡◌, ◌≤◌, ◌<◌, ◌++◌, ◌↔◌, ◌⊎◌, ℕ, [], length, is_some, All, IfOk, IfErr, OnOk, IsTrue, MatchOption, Option, map};
+ghost use Rattle.std.specs.Prelude.{◌≡◌, ◌≤◌, ◌↔◌, ◌⊎◌, ℕ, [], length, All, IfOk, IfErr, OnOk, IsTrue, MatchOption, Option};
 ghost use Rattle.bist_host.specs.Files.{OnlyReads};
 ghost use Rattle.march_core.specs.Visits.{is_direction};
 ghost use Rattle.fault_core.specs.Primitive.{has_aggressor};
@@ -9,7 +9,7 @@ ghost use Rattle.bist_inputs.specs.Inputs.{HasCause, IsOwnRefusal};
 ghost use Rattle.bist_endings.specs.Conclude.{NamesWords};
 ghost use Rattle.bist_endings.specs.Words.{word};
 ghost use Rattle.bist_app.specs.Shared.{FitsAggressor};
-ghost use Rattle.bist_app.specs.Sim.{IsAggressorWord, IsSimShape, places_of, content_of, directions_of_letters, FirstDiffers, caught_line, sim_line, LeavesSim, RunsSim, DecidesSim, sim_form};
+ghost use Rattle.bist_app.specs.Sim.{IsAggressorWord, IsSimShape, content_of, directions_of_letters, sim_line, LeavesSim, DecidesSim, sim_form};
 ghost use Rattle.bist_app.specs.Forms.{HasForm};
 
 use crate::directions::{direction_word, fit_directions};
@@ -92,15 +92,6 @@ fn cells_of(alloc: Global, digits: &[u8]) -> Result<Vec<bool>, AllocError>
     digits.iter().map(|digit| *digit == b'1').collect(alloc)
 }
 
-/// Appends the line of a read that differs.
-fn put_caught(line: &mut Vec<u8>, miss: Miss) -> Result<(), NoMemory>
-    ensures { OnOk result (line.new.items ≡ line.old.items ++ caught_line miss) }
-{
-    put_number(line, b"caught element ", miss.element)?;
-    put_number(line, b" address ", miss.address)?;
-    put_number_between(line, b" operation ", miss.op as u64, b"\n")
-}
-
 /// The line of a run.
 fn line_of(alloc: Global, miss: Option<Miss>) -> Result<Vec<u8>, NoMemory>
     ensures { IfOk result (λ line. line.items ≡ sim_line miss) }
@@ -108,7 +99,11 @@ fn line_of(alloc: Global, miss: Option<Miss>) -> Result<Vec<u8>, NoMemory>
     let mut line = Vec::new(alloc);
     match miss {
         None => put(&mut line, b"passes\n")?,
-        Some(miss) => put_caught(&mut line, miss)?,
+        Some(miss) => {
+            put_number(&mut line, b"caught element ", miss.element)?;
+            put_number(&mut line, b" address ", miss.address)?;
+            put_number_between(&mut line, b" operation ", miss.op as u64, b"\n")?;
+        }
     }
     Ok(line)
 }
@@ -123,28 +118,6 @@ pub fn fit_aggressor(given: bool, prim: &Prim) -> Result<(), Refusal>
         return Err(Refusal::Misfit(Misfit::Aggressor));
     }
     Ok(())
-}
-
-/// Runs the march in the directions of the letters. The answer is the first read that differs.
-fn run_array(
-    march: &March,
-    prim: &Prim,
-    places: Places,
-    cells: &mut [bool],
-    letters: &[u8],
-) -> Option<Miss>
-    requires places { FitsPlace prim.now places (length cells.old) }
-    requires least { 1 ≤ length letters.now }
-    requires most { length letters.now ≤ 64 }
-    requires fits { IsTrue (is_direction march.now (directions_of_letters letters.now)) }
-    ensures { FirstDiffers march.now (directions_of_letters letters.now) prim.now places cells.old result }
-{
-    let instance = Instance {
-        prim: *prim,
-        agg: places.agg,
-        vic: places.vic,
-    };
-    simulate(march, &instance, cells, direction_word(letters))
 }
 
 /// The run, and its line.
@@ -168,58 +141,23 @@ fn plan_sim(
     let Ok(mut cells) = cells_of(alloc, digits) else {
         return Err(Refusal::NoMemory);
     };
-    let miss = run_array(march, prim, places, cells.as_mut_slice(), letters);
+    let instance = Instance {
+        prim: *prim,
+        agg: places.agg,
+        vic: places.vic,
+    };
+    let miss = simulate(
+        march,
+        &instance,
+        cells.as_mut_slice(),
+        direction_word(letters),
+    );
     let line = line_of(alloc, miss)?;
     Ok(Plan {
         found: miss.is_some(),
         outputs: Vec::new(alloc),
         line,
     })
-}
-
-/// Where the instance stands, which fits the primitive.
-fn places_for(shape: SimShape, words: &[&str], prim: &Prim) -> Places
-    requires form { HasForm sim_form words.now }
-    requires shape { IsSimShape words.now shape }
-    requires given { is_some shape.aggressor ≡ has_aggressor prim.now }
-    ensures value { result ≡ places_of shape }
-    ensures fits { FitsPlace prim.now result (length (word words.now 4)) }
-{
-    let _count = words.len();
-    Places {
-        agg: shape.aggressor,
-        vic: shape.victim,
-    }
-}
-
-/// Runs one array, of which the words say this.
-#[tactic(auto, using(crate::proofs::Causes::own_cause))]
-fn run_sim<H: Host>(
-    alloc: Global,
-    words: &[&str],
-    shape: SimShape,
-    host: &mut H,
-) -> Result<Plan, Refusal>
-    requires form { HasForm sim_form words.now }
-    requires shape { IsSimShape words.now shape }
-    ensures kept { OnlyReads (H.state host.old) (H.state host.new) }
-    ensures outputs { IfOk result (λ plan. NamesWords words.now (done_of plan).outputs) }
-    ensures answer { RunsSim (H.state host.old).files words.now shape (plain result) }
-    ensures cause { HasCause (H.state host.old) (H.state host.new) result }
-{
-    let march = read_march_input(host, words, 1)?;
-    let prim = give_prim(words[2].as_bytes())?;
-    fit_aggressor(shape.aggressor.is_some(), &prim)?;
-    fit_directions(words[7].as_bytes(), &march)?;
-    let places = places_for(shape, words, &prim);
-    plan_sim(
-        alloc,
-        &march,
-        &prim,
-        places,
-        words[4].as_bytes(),
-        words[7].as_bytes(),
-    )
 }
 
 /// Runs one array.
@@ -231,8 +169,23 @@ pub fn decide_sim<H: Host>(alloc: Global, words: &[&str], host: &mut H) -> Resul
     ensures answer { DecidesSim (H.state host.old).files words.now (plain result) }
     ensures cause { HasCause (H.state host.old) (H.state host.new) result }
 {
-    match sim_shape(words) {
-        Some(shape) => run_sim(alloc, words, shape, host),
-        None => Err(Refusal::Usage),
-    }
+    let Some(shape) = sim_shape(words) else {
+        return Err(Refusal::Usage);
+    };
+    let march = read_march_input(host, words, 1)?;
+    let prim = give_prim(words[2].as_bytes())?;
+    fit_aggressor(shape.aggressor.is_some(), &prim)?;
+    fit_directions(words[7].as_bytes(), &march)?;
+    let places = Places {
+        agg: shape.aggressor,
+        vic: shape.victim,
+    };
+    plan_sim(
+        alloc,
+        &march,
+        &prim,
+        places,
+        words[4].as_bytes(),
+        words[7].as_bytes(),
+    )
 }

@@ -1,8 +1,7 @@
 //! The units of a chip, as their files give them.
 
-ghost use Rattle.std.specs.Prelude.{◌≡◌, ◌<◌, ◌≤◌, ◌+◌, ◌++◌, ◌∷◌, [], List, OnOk, length, map};
+ghost use Rattle.std.specs.Prelude.{◌≤◌, ◌+◌, ◌++◌, ◌∷◌, [], List, OnOk, length, map};
 ghost use Rattle.bist_host.specs.Files.{OnlyReads};
-ghost use Rattle.word_march.specs.Commands.{span};
 ghost use Rattle.chip_desc.specs.Chips.{unit_of};
 ghost use Rattle.chip_rtl.specs.ChipTest.{TestUnit};
 ghost use Rattle.bist_inputs.specs.Inputs.{HasCause};
@@ -39,16 +38,7 @@ pub fn no_units(alloc: Global) -> UnitTable
     }
 }
 
-/// The first cycle of a test, from its own first one, in which it is over.
-fn test_length(march: &March, memory: &Memory) -> u64
-    ensures length { result ≡ span march.now memory.now + 1 + memory.now.latency }
-    ensures some { 1 ≤ result }
-    ensures at_most { result ≤ 200000000 }
-{
-    span(march, memory) + 1 + u64::from(memory.latency())
-}
-
-/// Appends a unit.
+/// Appends a unit. Its test is over one cycle and the memory's latency behind its last command.
 fn push_unit(
     table: &mut UnitTable,
     march: March,
@@ -58,7 +48,7 @@ fn push_unit(
     requires { HasRoom table.old }
     ensures { OnOk result ((us : List TestUnit) → IsTableOf table.old us → IsTableOf table.new (us ++ (record { march = march; memory = memory; weight = weight }) ∷ [])) }
 {
-    let length = test_length(&march, &memory);
+    let length = span(&march, &memory) + 1 + u64::from(memory.latency());
     table.marches.push(march)?;
     table.memories.push(memory)?;
     table.weights.push(weight);
