@@ -140,6 +140,7 @@ fn test_fault(
     fit_places(shape, memory)?;
     fit_room(devices, memory)?;
     let planted = planted_for(prim, shape, memory);
+    // a chip in which it was just planted answers some read wrong, where the march detects the primitive
     let _ = memory.words();
     let _ = planted.prim.agg();
     closing();
