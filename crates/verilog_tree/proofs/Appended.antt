@@ -1,5 +1,6 @@
 -- Lists to which more is appended, part by part.
-use Rattle.std.proofs.Common.{◌≡◌, ℕ, ◌+◌, ◌<◌, suc, List, ◌∷◌, ◌++◌, length, drop, get_or, sym, ap, ◌∙◌, append_assoc, add-one, drop-cons}
+use Rattle.std.proofs.Common.{◌≡◌, ℕ, ◌+◌, ◌<◌, ◌≤◌, suc, List, [], ◌∷◌, ◌++◌, length, drop, get_or, sym, ap, ◌∙◌, append_assoc, add-one, drop-cons}
+use Rattle.std.proofs.lemmas.List.{append-nil, drop_all}
 
 pub two_more : {A : Type 0} (l m n a b : List A) → m ≡ l ++ a → n ≡ m ++ b → n ≡ l ++ (a ++ b)
 two_more l m n a b p q = q ∙ ap (λ k. k ++ b) p ∙ append_assoc l a b
@@ -17,4 +18,12 @@ item_more f g m n whole xs i x step below at more so_far =
     ∙ ap (λ k. m ++ k) (sym (step x (drop (suc i) xs)))
     ∙ ap (λ y. m ++ g (y ∷ drop (suc i) xs)) at
     ∙ ap (λ k. m ++ g k) (sym (drop-cons xs i x below))
+    ∙ so_far
+
+-- the same loop past its last item
+pub items_done : {A B : Type 0} (g : List A → List B) (m whole : List B) (xs : List A) (i : ℕ) → g [] ≡ [] → length xs ≤ i → m ++ g (drop i xs) ≡ whole → m ≡ whole
+items_done g m whole xs i none past so_far =
+    sym (append-nil m)
+    ∙ ap (λ k. m ++ k) (sym none)
+    ∙ ap (λ k. m ++ g k) (sym (drop_all i xs past))
     ∙ so_far
