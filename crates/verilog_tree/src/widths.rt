@@ -38,7 +38,6 @@ fn at_most_64(total: u64) -> Result<u64, TreeFault>
 /// The width of an expression where names are declared so, or the first two widths in it that must be
 /// equal and aren't.
 #[cycle(expr_width)]
-#[tactic(auto, using(crate::proofs::Refusals::tells_now, crate::proofs::Refusals::tells_later, crate::proofs::Refusals::none_more))]
 fn expr_width(names: &Declarations, x: &Expr) -> Result<u64, TreeFault>
     ensures { let w = width_of names.now in RefusesOr (expression_widths w (plain x.now)) (width w (plain x.now)) result }
 {
