@@ -4,8 +4,8 @@ use Rattle.verilog_tree.specs.declared.tree.Expr.{Expr}
 use Rattle.verilog_tree.specs.Plain.{plain, expressions}
 use Rattle.verilog_tree.specs.Rules.{reads, all_reads}
 use Rattle.verilog_tree.specs.inner.Seen.{mention}
-use Rattle.verilog_tree.proofs.Appended.{two_more, three_more, item_more}
-use Rattle.verilog_tree.proofs.Layers.{plain_binary, plain_choose}
+use Rattle.verilog_tree.proofs.Appended.{two_more, three_more, item_more, items_done}
+use Rattle.verilog_tree.proofs.Layers.{concat_read, unary_read, plain_binary, plain_choose}
 use Rattle.verilog_tree.proofs.mentions.+put_expr.Goals as goal
 
 pub returns-in_ok-put_expr-in-Binary : goal.returns-in_ok-put_expr-in-Binary
@@ -32,3 +32,15 @@ pub loop-part-preserved : goal.loop-part-preserved
 loop-part-preserved t c =
     item_more (λ x. reads (plain x)) (λ xs. all_reads (expressions (map plain xs))) (map mention c.loop-part.out.items) (map mention c.put_expr.new.out.items) _ _ c.loop-part.part-index c.part-item.result (λ y ys. refl)
     c.loop-part-test.true c.part-item.is c.in_ok-put_expr-in-Concat.ensures c.loop-part.invariant
+
+pub loop-part-init : goal.loop-part-init
+loop-part-init t c = refl
+
+pub returns-after-loop-part : goal.returns-after-loop-part
+returns-after-loop-part t c =
+    items_done (λ xs. all_reads (expressions (map plain xs))) (map mention c.loop-part.out.items) _ c.deref-part-items.result.now c.loop-part.part-index refl c.loop-part-test.false c.loop-part.invariant
+    ∙ ap (λ x. map mention c.args.out.now.items ++ reads x) (sym (concat_read c.in-Concat.parts c.in-Concat.is c.deref-part-items.ensures.value))
+
+pub returns-in-Unary : goal.returns-in-Unary
+returns-in-Unary t c =
+    on_ok_weaker c.put_expr-in-Unary.result (λ e. e ∙ ap (λ x. map mention c.args.out.now.items ++ reads x) (sym (unary_read c.in-Unary.field-0 c.in-Unary.a c.in-Unary.is c.deref.ensures))) c.put_expr-in-Unary.ensures
