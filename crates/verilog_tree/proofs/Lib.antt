@@ -4,6 +4,7 @@ pub mod Bounds
 pub mod Breaks
 pub mod Clean
 pub mod Hashed
+pub mod InOrder
 pub mod Layers
 pub mod Lists
 pub mod Lookups

@@ -94,7 +94,6 @@ fn label_widths(subject: u64, labels: &[Bits]) -> Result<(), TreeFault>
 }
 
 #[cycle(stmt_widths)]
-#[tactic(auto, using(crate::proofs::Refusals::tells_now, crate::proofs::Refusals::tells_later, crate::proofs::Refusals::none_more))]
 fn stmt_widths(names: &Declarations, s: &Stmt) -> Result<(), TreeFault>
     ensures { Refuses (statement_widths (width_of names.now) (plain_stmt s.now)) result }
 {
@@ -117,7 +116,6 @@ fn stmt_widths(names: &Declarations, s: &Stmt) -> Result<(), TreeFault>
 }
 
 #[cycle(stmt_widths)]
-#[tactic(auto, using(crate::proofs::Refusals::tells_now, crate::proofs::Refusals::tells_later, crate::proofs::Refusals::none_more))]
 fn stmts_widths(names: &Declarations, body: &[Stmt]) -> Result<(), TreeFault>
     ensures { Refuses (statements_widths (width_of names.now) (plain_stmts body.now)) result }
 {
