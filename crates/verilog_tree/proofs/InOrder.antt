@@ -1,7 +1,19 @@
--- Breaks that are looked for one after another.
-use Rattle.std.proofs.Common.{◌≡◌, ℕ, ◌+◌, ◌<◌, suc, List, [], ◌∷◌, ◌++◌, length, drop, get_or, Option, Some, None, Result, Ok, Err, IsErr, IsErrAnd, refl, ap, sym, ◌∙◌, subst, add-one, drop-cons}
+-- What is looked at in order: items, tests and breaks.
+use Rattle.std.proofs.Common.{◌≡◌, ℕ, ◌+◌, ◌<◌, Bool, true, false, ◌&&◌, List, [], ◌∷◌, length, drop, get_or, Option, Some, None, Result, Ok, Err, IsErr, IsErrAnd, refl, ap, sym, ◌∙◌, subst}
+use Rattle.std.proofs.lemmas.List.{at_drop_more}
 use Rattle.verilog_tree.specs.declared.fault.TreeFault.{TreeFault}
 use Rattle.verilog_tree.specs.Rules.{Break, Tells, Refuses, first_of}
+
+-- what a loop looks at, at an item
+pub at_item : {A B : Type 0} (f : List A → B) (xs : List A) (i : ℕ) (x : A) → i < length xs → x ≡ get_or xs i x → f (drop i xs) ≡ f (x ∷ drop (i + 1) xs)
+at_item f xs i x below at = at_drop_more f xs i x below ∙ ap (λ y. f (y ∷ drop (i + 1) xs)) (sym at)
+
+-- the two ways through `&&`
+pub and_then : (t u v : Bool) → t ≡ true → v ≡ u → v ≡ (t && u)
+and_then t u v e h = rw e h
+
+pub and_else : (t u v : Bool) → t ≡ false → v ≡ t → v ≡ (t && u)
+and_else t u v e h = h ∙ rw e refl
 
 pub refuses_same : {A : Type 0} (o p : Option Break) (r : Result A TreeFault) → o ≡ p → Refuses p r → Refuses o r
 refuses_same o p r e h = rw e h
@@ -23,12 +35,3 @@ second o p e = past o (p ∷ []) e ∙ only p
 
 pub third : (o p q : Option Break) → o ≡ None → p ≡ None → first_of (o ∷ p ∷ q ∷ []) ≡ q
 third o p q e e' = past o (p ∷ q ∷ []) e ∙ second p q e'
-
--- a loop that looks for the breaks f of each item, at an item
-pub at_item : {A : Type 0} (f : A → List (Option Break)) (g : List A → Option Break) (xs : List A) (i : ℕ) (x : A) → ((y : A) (ys : List A) → g (y ∷ ys) ≡ first_of (f y ++ g ys ∷ [])) →
-    i < length xs → x ≡ get_or xs i x → g (drop i xs) ≡ first_of (f x ++ g (drop (i + 1) xs) ∷ [])
-at_item f g xs i x step below at =
-    ap g (drop-cons xs i x below)
-    ∙ ap (λ y. g (y ∷ drop (suc i) xs)) (sym at)
-    ∙ step x (drop (suc i) xs)
-    ∙ ap (λ j. first_of (f x ++ g (drop j xs) ∷ [])) (sym (add-one i))

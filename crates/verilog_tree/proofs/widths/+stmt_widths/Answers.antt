@@ -34,8 +34,9 @@ past_subject w s x as' d k items left is h same so_far =
 at_arm : (w : List ℕ → ℕ) (k : ℕ) (items : List Arm) (i : ℕ) (a : Arm) (ls : List Vector) (ss : List Stmt) → i < length items → a ≡ get_or items i a → ls ≡ a.labels.items → ss ≡ a.body.items →
     arms_widths w k (arms (map plain_arm (drop i items))) ≡ first_of (label_widths k ls ∷ statements_widths w (plain_stmts ss) ∷ arms_widths w k (arms (map plain_arm (drop (i + 1) items))) ∷ [])
 at_arm w k items i a ls ss below at e e' =
-    rw (e, e') (at_item (λ (b : Arm). label_widths k b.labels.items ∷ statements_widths w (plain_stmts b.body.items) ∷ []) (λ as'. arms_widths w k (arms (map plain_arm as'))) items i a
-    (λ b as'. ap (λ (p : ArmTree). first_of (label_widths k p.labels ∷ statements_widths w p.body ∷ arms_widths w k (arms (map plain_arm as')) ∷ [])) (arm_is b)) below at)
+    at_item (λ as'. arms_widths w k (arms (map plain_arm as'))) items i a below at
+    ∙ ap (λ (p : ArmTree). first_of (label_widths k p.labels ∷ statements_widths w p.body ∷ arms_widths w k (arms (map plain_arm (drop (i + 1) items))) ∷ [])) (arm_is a)
+    ∙ rw (e, e') refl
 
 pub stmt_widths-returns-in_err-_condition-in-If : goal.stmt_widths-returns-in_err-_condition-in-If
 stmt_widths-returns-in_err-_condition-in-If t c =
@@ -85,14 +86,14 @@ stmts_widths-returns-in_err-stmt_widths t c =
     let w = width_of c.args.names.now in
     let f = c.in_err-stmt_widths.field-0.0 in
     passed_on _ _ c.from_residual.result f c.from_residual.ensures
-    (sym c.loop-s.invariant ∙ at_item (λ s. statement_widths w (plain_stmt s) ∷ []) (λ ss. statements_widths w (plain_stmts ss)) c.args.body.now c.loop-s.s-index c.s-item.result (λ y ys. refl) c.loop-s-test.true c.s-item.is)
+    (sym c.loop-s.invariant ∙ at_item (λ ss. statements_widths w (plain_stmts ss)) c.args.body.now c.loop-s.s-index c.s-item.result c.loop-s-test.true c.s-item.is)
     (tells_now f _ _ c.in_err-stmt_widths.ensures)
 
 pub stmts_widths-loop-s-preserved : goal.stmts_widths-loop-s-preserved
 stmts_widths-loop-s-preserved t c =
     let w = width_of c.args.names.now in
     sym (second _ _ c.in_ok-stmt_widths.ensures)
-    ∙ sym (at_item (λ s. statement_widths w (plain_stmt s) ∷ []) (λ ss. statements_widths w (plain_stmts ss)) c.args.body.now c.loop-s.s-index c.s-item.result (λ y ys. refl) c.loop-s-test.true c.s-item.is)
+    ∙ sym (at_item (λ ss. statements_widths w (plain_stmts ss)) c.args.body.now c.loop-s.s-index c.s-item.result c.loop-s-test.true c.s-item.is)
     ∙ c.loop-s.invariant
 
 pub stmts_widths-returns : goal.stmts_widths-returns
