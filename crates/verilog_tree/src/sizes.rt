@@ -88,7 +88,6 @@ fn stmts_formed(body: &[Stmt]) -> bool
 }
 
 #[cycle(stmt_formed)]
-#[tactic(auto, using(crate::proofs::Lists::some_arm))]
 fn arms_formed(choices: &[Arm]) -> bool
     ensures { result ≡ (has_arm (arms (map plain_arm choices.now)) && arms_formed (arms (map plain_arm choices.now))) }
 {
