@@ -38,7 +38,6 @@ fn expr_formed(x: &Expr) -> bool
 }
 
 #[cycle(expr_formed)]
-#[tactic(auto, using(crate::proofs::Lists::some_expression))]
 fn exprs_formed(parts: &[Expr]) -> bool
     ensures { result ≡ (has_expression (expressions (map plain parts.now)) && expressions_formed (expressions (map plain parts.now))) }
 {
