@@ -188,7 +188,6 @@ fn pass(before: &mut Before, item: &Item, all: &[Mention]) -> Result<(), NoMemor
 }
 
 // Goes behind the items, as far as they break no rule.
-#[tactic(auto, using(crate::proofs::Refusals::tells_now, crate::proofs::Refusals::tells_later, crate::proofs::Refusals::none_more))]
 fn check_items(
     alloc: Global,
     widths: &Declarations,
