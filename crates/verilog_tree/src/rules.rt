@@ -144,7 +144,6 @@ fn keeps(
     Ok(())
 }
 
-#[tactic(auto, using(crate::proofs::Refusals::tells_now, crate::proofs::Refusals::tells_later, crate::proofs::Refusals::none_more), unfolding(crate::specs::inner::Tables::break_behind))]
 fn check_item(
     widths: &Declarations,
     before: &Before,
