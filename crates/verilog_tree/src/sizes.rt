@@ -49,7 +49,6 @@ fn exprs_formed(parts: &[Expr]) -> bool
     !parts.is_empty()
 }
 
-#[tactic(auto, using(crate::proofs::Lists::some_label))]
 fn labels_formed(labels: &[Bits]) -> bool
     ensures { result ≡ (has_label labels.now && labels_formed labels.now) }
 {
