@@ -1,11 +1,19 @@
 -- What is left of the items of a line, where they are read one after another.
-use Rattle.memory_desc.proofs.Common.{IsNext, IsWhole, List, length, ◌<◌, Option, Read, Some, ap, items_in, onward, stuck, sym, took, ℕ, ◌∙◌, ◌∷◌, ◌≡◌}
+use Rattle.memory_desc.proofs.Common.{IsNext, IsWhole, List, None, length, ◌<◌, Option, Read, Some, ap, items_in, onward, stuck, subst, sym, took, ℕ, ◌∙◌, ◌∷◌, ◌≡◌}
 use Rattle.bist_text.specs.keyed.Parts.{items_of}
-use Rattle.bist_text.proofs.keyed.Items.{items_on, next_shorter}
+use Rattle.bist_text.proofs.keyed.Items.{items_end, items_on, items_stuck, next_shorter}
 
 -- how items end, whatever they are
 abbrev pub Ended : {A : Type 0} → Read A → Read (Unit {0})
 Ended o = onward o (λ _ x. took tt x)
+
+end_took : {A : Type 0} (o : Read (List A)) (x : List ℕ) → Ended o ≡ took tt x → o ≡ took (items_in o) x
+end_took (took a y) x e = (let same : y ≡ x = cc in ap (took a) same)
+end_took (stuck y) x e = (let z : ⊥ = cc in absurd z)
+
+end_stuck : {A : Type 0} (o : Read A) (x : List ℕ) → Ended o ≡ stuck x → o ≡ stuck x
+end_stuck (took a y) x e = (let z : ⊥ = cc in absurd z)
+end_stuck (stuck y) x e = (let same : y ≡ x = cc in ap stuck same)
 
 module _ {A : Type 0} (next : List ℕ → Read (Option A)) (is_next : IsNext next) where
   -- ---- the loop to their end
@@ -15,6 +23,15 @@ module _ {A : Type 0} (next : List ℕ → Read (Option A)) (is_next : IsNext ne
 
   pub shorter : {o : Option A} (b x : List ℕ) (a : A) → next b ≡ took o x → o ≡ Some a → length x < length b
   shorter b x a e k = next_shorter next is_next b x a (e ∙ ap (λ o. took o x) k)
+
+  pub all_took : {o : Option A} (all b x : List ℕ) → Ended (items_of next b) ≡ Ended (items_of next all) → next b ≡ took o x → o ≡ None → items_of next all ≡ took (items_in (items_of next all)) x
+  all_took all b x h e k = end_took (items_of next all) x (sym h ∙ items_end next is_next (λ _. tt) b x (e ∙ ap (λ o. took o x) k))
+
+  pub all_whole : {o : Option A} (all b x : List ℕ) → Ended (items_of next b) ≡ Ended (items_of next all) → next b ≡ took o x → o ≡ None → IsWhole (items_of next all)
+  all_whole all b x h e k = subst IsWhole (sym (all_took all b x h e k)) tt
+
+  pub all_stuck : (all b x : List ℕ) → Ended (items_of next b) ≡ Ended (items_of next all) → next b ≡ stuck x → items_of next all ≡ stuck x
+  all_stuck all b x h e = end_stuck (items_of next all) x (sym h ∙ items_stuck next is_next (λ _. tt) b x e)
 
   -- ---- one after another
 
