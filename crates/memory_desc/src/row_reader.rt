@@ -10,7 +10,6 @@ use bist_text::keyed_lines::{Read, blanks, byte, ended, number};
 use std::marker::Model;
 
 /// A term.
-#[tactic(auto, using(crate::proofs::TermReads::index_took, crate::proofs::TermReads::index_stuck, crate::proofs::TermReads::zero_took, crate::proofs::TermReads::one_took))]
 fn term(text: &[u8]) -> Read<'_, Term>
     ensures { MatchResult result (λ r. term_of text.now ≡ took r.0 r.1.now) (λ left. term_of text.now ≡ stuck left.now) }
 {
