@@ -290,7 +290,6 @@ fn beside_a_state(own: Class) -> Class
 }
 
 /// The class of a primitive.
-#[tactic(auto, using(crate::proofs::EveryPrimitive::class_has, crate::proofs::EveryPrimitive::class_only))]
 pub fn class_of(prim: &Prim) -> Class
     ensures by_parts { result ≡ class_by_parts prim.now }
     ensures member { Contains (members_of result) prim.now }
