@@ -24,7 +24,6 @@ use bist_bits::{all_ones, width_of};
 
 /// The logarithmic set for words of `bits` bits: the word 0, and behind it as many words as the logarithm
 /// of `bits` to the base 2, rounded up. Bit `j` of word `k`, from 1, is bit `k - 1` of `j`.
-#[tactic(auto, using(crate::proofs::StripeLemmas::stripes_begun, crate::proofs::StripeLemmas::stripes_more, crate::proofs::StripeLemmas::stripes_are_log_set))]
 pub fn log_set(bits: u8) -> ArrayVec<u64, 8>
     requires { (1 ≤ bits) × (bits ≤ 64) }
     ensures log_set { IsLogSet bits result.items }
