@@ -4,6 +4,8 @@ use Rattle.fault_core.specs.declared.primitive.Act.{Act}
 use Rattle.fault_core.specs.declared.primitive.Act.TheVariants.{Write, Read, Pause}
 use Rattle.fault_core.specs.Primitive.{same_bit}
 use Rattle.dynamic_core.specs.Primitive.{TwoActs, DynamicSense, AreAccesses, IsDynamic, aggressor_acts, left_by}
+use Rattle.std.specs.Prelude.{map}
+use Rattle.dynamic_core.specs.Table.{by_acts, primitive_of, wrong_acts, wrong_effects}
 use Rattle.dynamic_core.specs.Testing.{HasTwo, two_acts, acts_in}
 use Rattle.dynamic_core.specs.inner.Testing.{is_access, fault_by_second, fault_by_acts}
 use Rattle.dynamic_core.proofs.Parts.{passes_dynamic}
@@ -48,6 +50,22 @@ is_wrong agg vic state held acts d e left after answer none are view has is leav
     (ap (λ a. test state after answer a (acts_in held)) none
     ∙ ap (test state after answer None) told
     ∙ both_hold (is_access (two_acts acts).first) _ access fault)
+
+-- the primitives in which they go wrong
+pub none_wrong : (agg : Option DynamicSense) (vic : DynamicSense) (state : Bool) (held : Option (List Act)) → (let s : DynamicSense = record { state = state; acts = acts_in held } in s ≡ vic) → held ≡ None
+    → wrong_acts agg vic ≡ []
+none_wrong agg vic state held view is = ap (wrong_acts agg) (sym view) ∙ ap (λ h. by_acts agg (record { state = state; acts = acts_in held }) (acts_in h)) is
+
+pub wrong_by : (agg : Option DynamicSense) (vic : DynamicSense) (state : Bool) (held : Option (List Act)) (acts : List Act) (d e : Act) (left : Bool) (act : Act)
+    → (let s : DynamicSense = record { state = state; acts = acts_in held } in s ≡ vic) → HasTwo held → held ≡ Some acts → left ≡ left_by state (get_or acts 0 d) → get_or acts 1 e ≡ act
+    → wrong_acts agg vic ≡ map (primitive_of agg (record { state = state; acts = acts_in held })) (wrong_effects left act)
+wrong_by agg vic state held acts d e left act view has is leaves second =
+    let two : length acts ≡ 2 = subst HasTwo is has in
+    let s : DynamicSense = record { state = state; acts = acts_in held } in
+    ap (wrong_acts agg) (sym view)
+    ∙ ap (λ h. by_acts agg s (acts_in h)) is
+    ∙ ap (λ l. map (primitive_of agg s) (wrong_effects l (two_acts acts).second)) (ap (left_by state) (sym (first_of acts d two)) ∙ sym leaves)
+    ∙ ap (λ a. map (primitive_of agg s) (wrong_effects left a)) (sym (second_of acts e two) ∙ second)
 
 -- what a second act does wrong: a write leaves the other bit; a read flips the bit and answers the flipped one, flips it and answers it as it was, or leaves it and
 -- answers the other
