@@ -2,6 +2,7 @@ pub mod Lanes
 pub mod Closed
 pub mod Indexes
 pub mod Filling
+pub mod Boxed
 pub mod Steps
 pub mod Core
 pub mod Catching
