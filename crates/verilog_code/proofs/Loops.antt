@@ -1,6 +1,7 @@
 -- One more item of a loop over a list.
-use Rattle.std.proofs.Common.{◌≡◌, ℕ, ◌+◌, ◌<◌, suc, List, [], ◌∷◌, ◌++◌, length, map, drop, get_or, sym, ap, ◌∙◌, append_assoc, arith}
-use Rattle.std.proofs.Math.Seq.{drop-cons}
+use Rattle.std.proofs.Common.{◌≡◌, ℕ, ◌+◌, ◌<◌, ◌≤◌, suc, List, [], ◌∷◌, ◌++◌, length, map, drop, get_or, sym, ap, ◌∙◌, append_assoc, append-nil, take, arith}
+use Rattle.std.proofs.Math.ListN.{drop_of_length-le}
+use Rattle.std.proofs.Math.Seq.{drop-cons, take-length}
 use Rattle.std.proofs.Math.Numerals.{add-one}
 use Rattle.verilog_code.specs.declared.code.Code.{Code}
 use Rattle.verilog_code.specs.Places.{put, put_all, settled}
@@ -36,3 +37,19 @@ one_put xs first i z vs more ys lt e so =
     ∙ ap (λ k. put_all k (drop (i + 1) xs) (put vs (first + i) (get_or xs i z))) (let k : first + (i + 1) ≡ first + i + 1 = omega arith in k)
     ∙ ap (λ l. put_all (first + i) l vs) (sym (drop-cons xs i z lt ∙ ap (λ j. get_or xs i z ∷ drop j xs) (sym (add-one i))))
     ∙ so
+
+-- all values are put
+pub all_put : {A : Type 0} (xs : List A) (first i : ℕ) (vs ys : List A) → length xs ≤ i → put_all (first + i) (drop i xs) vs ≡ ys → vs ≡ ys
+all_put xs first i vs ys all so = ap (λ l. put_all (first + i) l vs) (sym (drop_of_length-le xs all)) ∙ so
+
+-- as many values over all that there are
+whole : {A : Type 0} (n : ℕ) (new old : List A) → n ≡ length old → length new ≡ length old → take n (new ++ drop (length new) old) ≡ new
+whole n new old all same =
+    ap (λ l. take n (new ++ l)) (drop_of_length-le old (omega arith)) ∙ ap (take n) (append-nil new) ∙ ap (λ k. take k new) (all ∙ sym same) ∙ take-length new
+
+-- one more block that is run
+pub one_run : {X A : Type 0} (xs : List X) (g : List X → List A → List A) (one : X → List A → List A) (i n : ℕ) (d : X) (old new ys : List A) → i < length xs → d ≡ get_or xs i d
+    → ((more : List X) (l : List A) → g (d ∷ more) l ≡ g more (one d l)) → n ≡ length old → length new ≡ length old → new ≡ one d old → g (drop i xs) old ≡ ys
+    → g (drop (i + 1) xs) (take n (new ++ drop (length new) old)) ≡ ys
+one_run xs g one i n d old new ys lt at step all same is so =
+    ap (g (drop (i + 1) xs)) (whole n new old all same ∙ is) ∙ sym (step (drop (i + 1) xs) old) ∙ ap (λ l. g l old) (sym (next_of xs i d lt at)) ∙ so
