@@ -1,3 +1,4 @@
 pub mod Knowing
 pub mod Loops
+pub mod Opened
 pub mod Putting

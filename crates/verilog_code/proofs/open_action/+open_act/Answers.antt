@@ -1,14 +1,12 @@
-use Rattle.std.proofs.Common.{◌≡◌, ◌≢◌, ◌+◌, ℕ, not, Vec, Box, Global, Option, Some, None, cond, map, drop, sym, ap, ◌∙◌}
+use Rattle.std.proofs.Common.{◌≡◌, ◌≢◌, ◌+◌, ℕ, not, Option, Some, None, cond, map, drop, sym, ap, ◌∙◌}
 use Rattle.std.proofs.lemmas.Bool.{ne_eqb}
 use Rattle.verilog_tree.specs.Meaning.{truth}
-use Rattle.verilog_code.specs.declared.code.Code.{Code}
 use Rattle.verilog_code.specs.declared.action.Action.{Action}
-use Rattle.verilog_code.specs.declared.action.Action as A
-use Rattle.verilog_code.specs.declared.action.Branch.{Branch}
 use Rattle.verilog_code.specs.OpenCode.{open_meaning}
 use Rattle.verilog_code.specs.Places.{put}
-use Rattle.verilog_code.specs.OpenActions.{OpenValues, OpenDoing, open_set, open_if, open_case, open_run_branch, by_number, forget_all, forget_branches, open_run_all, open_action, open_branch}
+use Rattle.verilog_code.specs.OpenActions.{OpenValues, OpenDoing, open_run_branch, by_number, forget_all, forget_branches, open_run_all, open_action, open_branch}
 use Rattle.verilog_code.proofs.Loops.{next_of}
+use Rattle.verilog_code.proofs.Opened.{set_opened, if_opened, case_opened}
 use Rattle.verilog_code.proofs.open_action.+open_act.Goals as goal
 
 pub act_all-loop-action-preserved : goal.act_all-loop-action-preserved
@@ -19,15 +17,6 @@ act_all-loop-action-preserved t c =
     ap (open_run_all (map open_action (drop (i + 1) actions)) vs) c.act.ensures
     ∙ ap (λ l. open_run_all (map open_action l) vs c.loop-action.next) (sym (next_of actions i c.action-item.result c.loop-action-test.true c.action-item.is))
     ∙ c.loop-action.invariant
-
-set_opened : (place : ℕ) (x : Box Code Global) → open_action (A.Set place x) ≡ open_set place x.value
-set_opened place x = search A.the_lemmas
-
-if_opened : (x : Box Code Global) (a b : Vec Action Global) → open_action (A.If x a b) ≡ open_if x.value (map open_action a.items) (map open_action b.items)
-if_opened x a b = search A.the_lemmas
-
-case_opened : (x : Box Code Global) (bs : Vec Branch Global) (d : Vec Action Global) → open_action (A.Case x bs d) ≡ open_case x.value (map open_branch bs.items) (map open_action d.items)
-case_opened x bs d = search A.the_lemmas
 
 -- what a node does, the action does
 acted : (action node : Action) (does : OpenDoing) (vs old new : OpenValues) → action ≡ node → open_action node ≡ does → new ≡ does.run vs old → new ≡ (open_action action).run vs old
