@@ -68,7 +68,6 @@ fn of_lines(fault: TextFault) -> ChipFault
 }
 
 /// Reads a chip file. The first refusal decides, in the order of the table. It takes no memory.
-#[tactic(auto, using(crate::proofs::OneText::reads_one))]
 pub fn read_chip(bytes: &[u8]) -> Result<ChipDesc, ChipFault>
     // What is read is the chip that the text's statements describe, and each text that describes one is read as it.
     ensures ok { (d : ChipDescription) → (result ≡ Ok d) ↔ Reads bytes.now (Ok d) }

@@ -1,5 +1,5 @@
 use Rattle.chip_desc.proofs.Common.{Err, None, Ok, ap, by_lines, passed, reading, statements, stopped, sym, text_lines, version_at, walk, ◌∙◌, ◌≡◌}
-use Rattle.chip_desc.proofs.OneText.{reads_as}
+use Rattle.chip_desc.proofs.OneText.{reads_as, reads_one}
 use Rattle.chip_desc.proofs.read.read_chip.Goals.{After-described, After-of_lines}
 use Rattle.chip_desc.proofs.read.read_chip.Goals as goal
 
@@ -24,3 +24,9 @@ returns-in-Err-clause-ok c d = reads_as c.args.bytes.now (Err c.of_lines.result)
 
 pub returns-in-Err-clause-refused : goal.returns-in-Err-clause-refused
 returns-in-Err-clause-refused c f = reads_as c.args.bytes.now (Err c.of_lines.result) (refused c) (Err f)
+
+pub returns-in-Ok-clause-one_reading : goal.returns-in-Ok-clause-one_reading
+returns-in-Ok-clause-one_reading c = reads_one c.args.bytes.now
+
+pub returns-in-Err-clause-one_reading : goal.returns-in-Err-clause-one_reading
+returns-in-Err-clause-one_reading c = reads_one c.args.bytes.now
