@@ -1,4 +1,4 @@
-use Rattle.std.proofs.Common.{◌≡◌, ℕ, ◌+◌, ◌<◌, ◌≤◌, min, List, [], ◌∷◌, length, map, drop, get_or, Option, None, Some, Result, Ok, Err, suc, refl, sym, ap, ◌∙◌, subst, arith, add-one, drop-cons}
+use Rattle.std.proofs.Common.{◌≡◌, ℕ, ◌+◌, ◌≤◌, min, List, [], ◌∷◌, map, drop, Option, None, Result, Ok, Err, refl, sym, ap, ◌∙◌, subst, arith}
 use Rattle.std.specs.Result.{IsErr, IsErrAnd}
 use Rattle.std.proofs.lemmas.List.{drop_all}
 use Rattle.verilog_tree.specs.declared.fault.TreeFault.{TreeFault}
@@ -10,17 +10,10 @@ use Rattle.verilog_tree.specs.Meaning.{width, widths}
 use Rattle.verilog_tree.specs.Operators.{prefixed_width, infixed_width}
 use Rattle.verilog_tree.specs.Rules.{Break, Tells, first_of, unequal, infixed_widths, expression_widths, parts_widths}
 use Rattle.verilog_tree.specs.inner.Rules.{RefusesOr}
+use Rattle.verilog_tree.proofs.InOrder.{second, third, at_item}
 use Rattle.verilog_tree.proofs.Refusals.{tells_now, tells_later}
 use Rattle.verilog_tree.proofs.Layers.{concat_read, unary_read, binary_read, choose_read}
 use Rattle.verilog_tree.proofs.widths.+expr_width.Goals as goal
-
--- where nothing stands before them, the last
-second : (o p : Option Break) → o ≡ None → first_of (o ∷ p ∷ []) ≡ p
-second o None e = rw e refl
-second o (Some b) e = rw e refl
-
-third : (o p q : Option Break) → o ≡ None → p ≡ None → first_of (o ∷ p ∷ q ∷ []) ≡ q
-third o p q e g = rw e (second p q g)
 
 infixed_is : (w : List ℕ → ℕ) (o : BinOp) (a b : Expr) (j k : ℕ) → (expression_widths w (plain a) ≡ None) × (j ≡ width w (plain a)) → (expression_widths w (plain b) ≡ None) × (k ≡ width w (plain b)) →
     expression_widths w (Infixed o (plain a) (plain b)) ≡ infixed_widths o j k
@@ -48,10 +41,6 @@ answered w k e n h = (ap (expression_widths w) e ∙ n, h ∙ ap (width w) (sym 
 refused_as : {o p : Option Break} {j k : ℕ} (r : Result ℕ TreeFault) → o ≡ p → j ≡ k → RefusesOr p k r → RefusesOr o j r
 refused_as r e g h = rw (e, g) h
 
--- the parts from one on
-next_part : (xs : List Expr) (i : ℕ) (x : Expr) → i < length xs → x ≡ get_or xs i x → drop i xs ≡ x ∷ drop (i + 1) xs
-next_part xs i x below at = drop-cons xs i x below ∙ ap (λ y. y ∷ drop (suc i) xs) (sym at) ∙ ap (λ j. x ∷ drop j xs) (sym (add-one i))
-
 total_more : (m total n k rest next whole : ℕ) → next ≡ min (total + n) m → n ≡ k → min (total + (k + rest)) m ≡ whole → min (next + rest) m ≡ whole
 total_more m total n k rest next whole e g h = omega arith
 
@@ -65,7 +54,7 @@ pub loop-part-preserved : goal.loop-part-preserved
 loop-part-preserved t c =
     let w : List ℕ → ℕ = width_of c.args.names.now in
     let rest : List Expr = drop (c.loop-part.part-index + 1) c.deref-part-items.result.now in
-    let now : drop c.loop-part.part-index c.deref-part-items.result.now ≡ c.part-item.result ∷ rest = next_part _ _ _ c.loop-part-test.true c.part-item.is in
+    let now : drop c.loop-part.part-index c.deref-part-items.result.now ≡ c.part-item.result ∷ rest = at_item (λ (l : List Expr). l) _ _ _ c.loop-part-test.true c.part-item.is in
     let part = c.in_ok-width-in-Concat.ensures in
     record {
       fits = total_fits _ _ _ c.saturating_add-total.ensures;
@@ -81,7 +70,7 @@ pub returns-in_err-width-in-Concat : goal.returns-in_err-width-in-Concat
 returns-in_err-width-in-Concat t c =
     let w : List ℕ → ℕ = width_of c.args.names.now in
     let f : TreeFault = c.in_err-width-in-Concat.field-0.0 in
-    let now = next_part _ _ _ c.loop-part-test.true c.part-item.is in
+    let now = at_item (λ (l : List Expr). l) _ _ _ c.loop-part-test.true c.part-item.is in
     passed_on w f c.from_residual.result c.from_residual.ensures (concat_read c.in-Concat.parts c.in-Concat.is c.deref-part-items.ensures.value)
     (tells_now f _ _ (subst (λ o. Tells f o) (ap (λ l. parts_widths w (expressions (map plain l))) (sym now) ∙ c.loop-part.invariant.first)
     (tells_now f (expression_widths w (plain c.part-item.result)) _ c.in_err-width-in-Concat.ensures)))
