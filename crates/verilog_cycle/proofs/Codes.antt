@@ -1,10 +1,11 @@
 -- What a code of each kind means, and what it reads.
-use Rattle.std.proofs.Common.{◌≡◌, ℕ, ◌+◌, ◌-◌, ◌%◌, ◌^◌, ◌≤◌, List, Option, Some, Box, Global, Result, Ok, Err, IfOk, min, refl, ap, sym, subst, ◌∙◌, option_map, bit_and, bit_or}
+use Rattle.std.proofs.Common.{◌≡◌, ℕ, ◌+◌, ◌-◌, ◌%◌, ◌^◌, ◌≤◌, List, map, Option, Some, Box, Vec, Global, Result, Ok, Err, IfOk, min, refl, ap, sym, subst, ◌∙◌, option_map, bit_and, bit_or}
 use Rattle.bist_bits.specs.Vector.{Vector}
 use Rattle.verilog_tree.specs.Names.{number}
 use Rattle.arrayvec.specs.ArrayString.{ArrayString}
+use Rattle.verilog_tree.specs.declared.tree.Expr.{Expr}
 use Rattle.verilog_tree.specs.declared.tree.Expr as E
-use Rattle.verilog_tree.specs.Plain.{plain, Expression, Net, BitSelect, PartSelect, Literal, Infixed, Expressions, NoMore, Followed}
+use Rattle.verilog_tree.specs.Plain.{plain, expressions, Expression, Net, BitSelect, PartSelect, Literal, Concatenation, Infixed, Expressions, NoMore, Followed}
 use Rattle.verilog_tree.specs.Meaning.{infixed_width}
 use Rattle.verilog_tree.specs.Partial.{both}
 use Rattle.verilog_tree.specs.declared.tree.BinOp.{BinOp}
@@ -15,7 +16,7 @@ use Rattle.verilog_code.specs.OpenCode.{open_at, open_infixed_code, open_meaning
 use Rattle.verilog_code.specs.Reading.{Reads}
 use Rattle.verilog_cycle.specs.declared.compile.Compiled.{Compiled}
 use Rattle.verilog_cycle.specs.Compile.{Compiles, JoinsParts}
-use Rattle.verilog_cycle.proofs.Compiling.{name_compiles, bit_compiles, part_compiles, literal_compiles, infixed_compiles, no_parts, above_more}
+use Rattle.verilog_cycle.proofs.Compiling.{name_compiles, bit_compiles, part_compiles, literal_compiles, infixed_compiles, concatenation_compiles, no_parts, above_more}
 use Rattle.verilog_cycle.proofs.Reading.{leaf_reads, constant_reads, two_reads}
 
 pub plain_name : (n : ArrayString) → plain (E.Name n) ≡ Net n.bytes
@@ -26,6 +27,12 @@ plain_bit n i = search E.the_lemmas
 
 pub plain_part : (n : ArrayString) (i l : ℕ) → plain (E.Part n i l) ≡ PartSelect n.bytes i l
 plain_part n i l = search E.the_lemmas
+
+pub plain_literal : (b : Vector) → plain (E.Lit b) ≡ Literal b
+plain_literal b = search E.the_lemmas
+
+pub plain_concat : (parts : Vec Expr Global) → plain (E.Concat parts) ≡ Concatenation (expressions (map plain parts.items))
+plain_concat parts = search E.the_lemmas
 
 -- what holds of a code holds of it in a box
 pub ok_boxed : {E : Type 0} (P : ℕ → ℕ → Code → Type 0) (width reads : ℕ) (code : Code) (r : Result Compiled E) → IfOk r (λ c. (c.width ≡ width) × (c.code.value ≡ code) × (c.reads ≡ reads)) → P width reads code → IfOk r (λ c. P c.width c.reads c.code.value)
@@ -39,6 +46,11 @@ ok_boxed P width reads code (Err e) h p = h
 pub boxed_compiles : {E : Type 0} (w : List ℕ → ℕ) (ns : List (List ℕ)) (x y : Expression) (width j reads : ℕ) (code : Code) (r : Result Compiled E) → IfOk r (λ c. (c.width ≡ width) × (c.code.value ≡ code) × (c.reads ≡ reads)) → x ≡ y → width ≡ j → Compiles w ns y j code → IfOk r (λ c. Compiles w ns x c.width c.code.value)
 boxed_compiles w ns x y width j reads code r h e f g =
     ok_boxed (λ k i z. Compiles w ns x k z) width reads code r h (subst (λ (z : Expression). Compiles w ns z width code) (sym e) (subst (λ (k : ℕ). Compiles w ns y k code) (sym f) g))
+
+-- the code of the parts is the concatenation's
+pub joined_compiles : {E : Type 0} (w : List ℕ → ℕ) (ns : List (List ℕ)) (x : Expression) (xs : Expressions) (r : Result Compiled E) → x ≡ Concatenation xs → IfOk r (λ c. JoinsParts w ns xs c.width c.code.value) → IfOk r (λ c. Compiles w ns x c.width c.code.value)
+joined_compiles w ns x xs (Ok c) is g = subst (λ (y : Expression). Compiles w ns y c.width c.code.value) (sym is) (concatenation_compiles w ns xs c.width c.code.value g)
+joined_compiles w ns x xs (Err e) is g = g
 
 net_means : (e : List ℕ) (n : ℕ) → meaning e (C.Net n) ≡ at e n
 net_means e n = search C.the_lemmas

@@ -18,3 +18,9 @@ pub last_part : (parts : List Expr) (i : ℕ) → 0 < i → nat_eq (i - 1 + 1) (
 last_part parts i lt t =
     let le : length parts ≤ i = grind (arith, nat_tests) in
     ap (λ l. expressions (map plain l)) (drop_all i parts le)
+
+pub before_within : (i n : ℕ) → 0 < i → i ≤ n → i - 1 < n
+before_within i n lt le = omega arith
+
+pub one_back : (i : ℕ) → 0 < i → i - 1 - 0 < i - 0
+one_back i lt = omega arith

@@ -1,5 +1,6 @@
-use Rattle.std.proofs.Common.{◌≡◌, ℕ, refl, cond, nat_eq, option_map, map, drop, sym, ap, ap₂, ◌∙◌, subst, arith}
-use Rattle.verilog_tree.specs.Plain.{Expression, Net, Prefixed, Infixed, Conditional, Expressions, plain, expressions}
+use Rattle.std.proofs.Common.{◌≡◌, ℕ, List, length, le_refl, refl, cond, nat_eq, option_map, map, drop, sym, ap, ap₂, ◌∙◌, subst, arith}
+use Rattle.std.proofs.lemmas.List.{drop_all}
+use Rattle.verilog_tree.specs.Plain.{Expression, Net, Concatenation, Prefixed, Infixed, Conditional, Expressions, plain, expressions}
 use Rattle.verilog_tree.specs.declared.tree.Expr.{Expr}
 use Rattle.verilog_tree.proofs.Layers.{plain_unary, plain_binary, plain_choose}
 use Rattle.verilog_code.specs.Code.{prefixed_code}
@@ -8,10 +9,27 @@ use Rattle.verilog_code.specs.Reading.{Reads}
 use Rattle.verilog_cycle.specs.Compile.{Compiles, JoinsParts}
 use Rattle.verilog_cycle.proofs.Compiling.{prefixed_compiles, choice_compiles}
 use Rattle.verilog_cycle.proofs.Reading.{one_reads, three_reads}
-use Rattle.verilog_cycle.proofs.Codes.{plain_name, plain_bit, plain_part, ok_boxed, boxed_compiles, net_compiles, net_reads, bit_part_compiles, bits_compile, part_reads, two_compile, infixed_reads}
+use Rattle.verilog_cycle.proofs.Codes.{plain_name, plain_bit, plain_part, plain_literal, plain_concat, ok_boxed, boxed_compiles, joined_compiles, number_compiles, number_reads, net_compiles, net_reads, bit_part_compiles, bits_compile, part_reads, two_compile, infixed_reads}
 use Rattle.verilog_cycle.specs.inner.Scope.{scope_widths, scope_places}
-use Rattle.verilog_cycle.proofs.Joining.{one_before, last_part}
+use Rattle.verilog_cycle.proofs.Joining.{one_before, last_part, before_within, one_back}
 use Rattle.verilog_cycle.proofs.compile.+expression.Goals as goal
+
+pub joined-loop-i-init : goal.joined-loop-i-init
+joined-loop-i-init t c =
+    let w = scope_widths c.args.scope.now in
+    let ns = scope_places c.args.scope.now in
+    let parts = c.args.parts.now in
+    let all = c.in_ok-all.all in
+    record {
+      joins = subst (λ (l : List Expr). JoinsParts w ns (expressions (map plain l)) all.width all.code.value) (sym (drop_all (length parts) parts (le_refl (length parts)))) (c.in_ok-all.ensures.compiles w ns);
+      reads = c.in_ok-all.ensures.reads;
+    }
+
+pub joined-bounds-parts-i : goal.joined-bounds-parts-i
+joined-bounds-parts-i t c = before_within c.loop-i.i _ c.loop-i-test.true c.loop-i.auto.i
+
+pub joined-loop-i-smaller : goal.joined-loop-i-smaller
+joined-loop-i-smaller t c = one_back c.loop-i.i c.loop-i-test.true
 
 pub joined-loop-i-preserved : goal.joined-loop-i-preserved
 joined-loop-i-preserved t c =
@@ -70,6 +88,25 @@ expression-returns-in-Part-clause-compiles t c =
 
 pub expression-returns-in-Part-clause-reads : goal.expression-returns-in-Part-clause-reads
 expression-returns-in-Part-clause-reads t c = ok_boxed (λ k i y. Reads i y) _ _ _ c.boxed-in-Part.result c.boxed-in-Part.ensures (part_reads c.number-place-in-Part.result c.in-Part.low c.ones.result c.bit-in-Part.result c.bit-in-Part.ensures)
+
+pub expression-returns-in-Lit-clause-compiles : goal.expression-returns-in-Lit-clause-compiles
+expression-returns-in-Lit-clause-compiles t c =
+    let w = scope_widths c.args.scope.now in
+    let ns = scope_places c.args.scope.now in
+    boxed_compiles w ns _ _ _ _ _ _ c.boxed-in-Lit.result c.boxed-in-Lit.ensures (ap plain c.in-Lit.is ∙ plain_literal c.in-Lit.bits)
+    c.width.ensures.width
+    (number_compiles w ns c.in-Lit.bits c.value.result c.value.ensures.value)
+
+pub expression-returns-in-Lit-clause-reads : goal.expression-returns-in-Lit-clause-reads
+expression-returns-in-Lit-clause-reads t c = ok_boxed (λ k i y. Reads i y) _ _ _ c.boxed-in-Lit.result c.boxed-in-Lit.ensures (number_reads c.value.result)
+
+pub expression-returns-in-Concat-clause-compiles : goal.expression-returns-in-Concat-clause-compiles
+expression-returns-in-Concat-clause-compiles t c =
+    joined_compiles (scope_widths c.args.scope.now) (scope_places c.args.scope.now) (plain c.args.x.now) _ c.joined.result
+    (ap plain c.in-Concat.is ∙ plain_concat c.in-Concat.parts ∙ ap (λ (l : List Expr). Concatenation (expressions (map plain l))) (sym c.deref.ensures.value)) c.joined.ensures.compiles
+
+pub expression-returns-in-Concat-clause-reads : goal.expression-returns-in-Concat-clause-reads
+expression-returns-in-Concat-clause-reads t c = c.joined.ensures.reads
 
 pub expression-returns-in_ok-a-in-Unary-clause-compiles : goal.expression-returns-in_ok-a-in-Unary-clause-compiles
 expression-returns-in_ok-a-in-Unary-clause-compiles t c =
