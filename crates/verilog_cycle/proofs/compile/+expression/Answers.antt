@@ -1,12 +1,12 @@
 use Rattle.std.proofs.Common.{◌≡◌, ℕ, List, length, le_refl, refl, cond, nat_eq, option_map, map, drop, sym, ap, ap₂, ◌∙◌, subst, arith}
 use Rattle.std.proofs.lemmas.List.{drop_all}
-use Rattle.verilog_tree.specs.Plain.{Expression, Net, Concatenation, Prefixed, Infixed, Conditional, Expressions, plain, expressions}
+use Rattle.verilog_tree.specs.Plain.{Concatenation, Prefixed, Infixed, Conditional, Expressions, plain, expressions}
 use Rattle.verilog_tree.specs.declared.tree.Expr.{Expr}
 use Rattle.verilog_tree.proofs.Layers.{plain_unary, plain_binary, plain_choose}
 use Rattle.verilog_code.specs.Code.{prefixed_code}
 use Rattle.verilog_code.specs.OpenCode.{picked}
 use Rattle.verilog_code.specs.Reading.{Reads}
-use Rattle.verilog_cycle.specs.Compile.{Compiles, JoinsParts}
+use Rattle.verilog_cycle.specs.Compile.{JoinsParts}
 use Rattle.verilog_cycle.proofs.Compiling.{prefixed_compiles, choice_compiles}
 use Rattle.verilog_cycle.proofs.Reading.{one_reads, three_reads}
 use Rattle.verilog_cycle.proofs.Codes.{plain_name, plain_bit, plain_part, plain_literal, plain_concat, ok_boxed, boxed_compiles, joined_compiles, number_compiles, number_reads, net_compiles, net_reads, bit_part_compiles, bits_compile, part_reads, two_compile, infixed_reads}

@@ -1,4 +1,4 @@
-use Rattle.std.proofs.Common.{ℕ, List, refl, [], ◌∷◌, ◌++◌, map, get_or, ap, ◌∙◌}
+use Rattle.std.proofs.Common.{refl, [], ◌∷◌, ◌++◌, map, get_or, ap, ◌∙◌}
 use Rattle.std.proofs.lemmas.List.{get_or_default}
 use Rattle.verilog_tree.specs.Seen.{declaration}
 use Rattle.verilog_cycle.specs.Design.{names}
