@@ -1,14 +1,26 @@
 -- Expressions whose parts are told otherwise.
-use Rattle.std.proofs.Common.{◌≡◌, ◌≢◌, ℕ, zero, suc, ◌<◌, Bool, cond, nat_eq, List, [], ◌∷◌, length, get_or, Result, IfOk, sym, ap, ◌∙◌, subst, arith}
+use Rattle.std.proofs.Common.{◌≡◌, ◌≢◌, ℕ, zero, suc, ◌-◌, ◌<◌, Bool, cond, nat_eq, List, [], ◌∷◌, length, get_or, Result, IfOk, sym, ap, ◌∙◌, subst, arith}
 use Rattle.std.specs.Prelude.{slice_index_or}
+use Rattle.std.proofs.lemmas.Bool.{eq-eqb, ne_eqb}
 use Rattle.std.proofs.lemmas.Bool.Decides.{nat_tests}
+use Rattle.arrayvec.specs.declared.array_string.ArrayString.{ArrayString}
 use Rattle.verilog_tree.specs.declared.tree.Expr.{Expr}
+use Rattle.verilog_tree.specs.declared.tree.Expr.TheVariants.{Name, Part, rolls-Name, rolls-Part}
+use Rattle.verilog_tree.specs.declared.tree.Expr.TheOpen.{Name as NameOf, Part as PartOf}
+use Rattle.verilog_tree.specs.declared.tree.Expr.TheFolds.{fold-roll-Expr}
 use Rattle.verilog_tree.specs.declared.tree.BinOp.{BinOp}
-use Rattle.verilog_tree.specs.Plain.{Expression, Infixed, Conditional, plain}
+use Rattle.verilog_tree.specs.Plain.{Expression, Net, PartSelect, Infixed, Conditional, expr_layer, plain}
+use Rattle.rtl_layout.specs.Build.{low_bits}
 use Rattle.rtl_layout.specs.Control.{nothing}
 use Rattle.rtl_layout.specs.Layout.{turning}
 use Rattle.rtl_layout.specs.Plan.{Element, Plan}
 use Rattle.rtl_layout.specs.Shows.{Ready}
+
+plain_name : (n : ArrayString 64) → plain (Name n) ≡ Net n.bytes
+plain_name n = ap plain (sym (rolls-Name n)) ∙ fold-roll-Expr Expression expr_layer (NameOf n)
+
+plain_part : (n : ArrayString 64) (high low : ℕ) → plain (Part n high low) ≡ PartSelect n.bytes high low
+plain_part n high low = ap plain (sym (rolls-Part n high low)) ∙ fold-roll-Expr Expression expr_layer (PartOf n high low)
 
 pub told : {E : Type 0} (r : Result Expr E) (x y : Expression) → x ≡ y → IfOk r (λ t. plain t ≡ x) → IfOk r (λ t. plain t ≡ y)
 told r x y same h = subst (λ e. IfOk r (λ t. plain t ≡ e)) same h
@@ -46,3 +58,10 @@ item_is (y ∷ ys) (suc k) x d h same = item_is ys k x d (omega arith) same
 pub item_has : (p : Plan) (xs : List Element) (k : ℕ) (x : Element) → Ready p → xs ≡ p.elements → k < length xs → x ≡ get_or xs k x → 0 < length x.operations
 item_has p xs k x ready e h same =
     subst (λ (y : Element). 0 < length y.operations) (sym (item_is xs k x nothing h same ∙ ap (λ (l : List Element). slice_index_or l k nothing) e)) (ready.has_operation k)
+
+-- the lowest bits of a name, which are all of them or a part
+pub all_low : (n : ArrayString 64) (m : List ℕ) (w low : ℕ) → n.bytes ≡ m → low ≡ w → plain (Name n) ≡ low_bits m w low
+all_low n m w low e same = plain_name n ∙ ap Net e ∙ sym (ap (λ t. cond t (Net m) (PartSelect m (low - 1) 0)) (eq-eqb low w same))
+
+pub some_low : (n : ArrayString 64) (m : List ℕ) (w low : ℕ) → n.bytes ≡ m → low ≢ w → plain (Part n (low - 1) 0) ≡ low_bits m w low
+some_low n m w low e other = plain_part n (low - 1) 0 ∙ ap (λ k. PartSelect k (low - 1) 0) e ∙ sym (ap (λ t. cond t (Net m) (PartSelect m (low - 1) 0)) (ne_eqb low w other))
