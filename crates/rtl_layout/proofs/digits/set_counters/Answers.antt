@@ -1,4 +1,4 @@
-use Rattle.std.proofs.Common.{[], refl}
+use Rattle.std.proofs.Common.{le_trans, lit≤, lit<, [], refl}
 use Rattle.verilog_tree.specs.Plain.{SetTo}
 use Rattle.rtl_layout.specs.Layout as L
 use Rattle.rtl_layout.specs.Seen.{seen}
@@ -32,3 +32,57 @@ returns c =
         ),
       ),
     )
+
+pub name-run-requires : goal.name-run-requires
+name-run-requires c = lit≤ tt
+
+pub name-oper-requires : goal.name-oper-requires
+name-oper-requires c = lit≤ tt
+
+pub name-visit-requires : goal.name-visit-requires
+name-visit-requires c = lit≤ tt
+
+pub name-element-requires : goal.name-element-requires
+name-element-requires c = lit≤ tt
+
+pub name-back-requires : goal.name-back-requires
+name-back-requires c = lit≤ tt
+
+pub name-last_oper-requires : goal.name-last_oper-requires
+name-last_oper-requires c = lit≤ tt
+
+pub name-last_visit-requires : goal.name-last_visit-requires
+name-last_visit-requires c = lit≤ tt
+
+pub name-last_element-requires : goal.name-last_element-requires
+name-last_element-requires c = lit≤ tt
+
+pub name-last_back-requires : goal.name-last_back-requires
+name-last_back-requires c = lit≤ tt
+
+pub counting-opers-requires-clause-positive : goal.counting-opers-requires-clause-positive
+counting-opers-requires-clause-positive c = c.args.plan.now.is_plan.ready.sized.oper_some
+
+pub counting-opers-requires-clause-narrow : goal.counting-opers-requires-clause-narrow
+counting-opers-requires-clause-narrow c = c.args.plan.now.is_plan.ready.sized.oper_narrow
+
+pub counting-visits-requires-clause-narrow : goal.counting-visits-requires-clause-narrow
+counting-visits-requires-clause-narrow c = c.args.plan.now.is_plan.ready.sized.visit_narrow
+
+pub counting-elements-requires-clause-positive : goal.counting-elements-requires-clause-positive
+counting-elements-requires-clause-positive c = c.args.plan.now.is_plan.ready.sized.element_some
+
+pub counting-elements-requires-clause-narrow : goal.counting-elements-requires-clause-narrow
+counting-elements-requires-clause-narrow c = c.args.plan.now.is_plan.ready.sized.element_narrow
+
+pub counting-backs-requires-clause-positive : goal.counting-backs-requires-clause-positive
+counting-backs-requires-clause-positive c = c.args.plan.now.is_plan.ready.sized.back_some
+
+pub counting-backs-requires-clause-narrow : goal.counting-backs-requires-clause-narrow
+counting-backs-requires-clause-narrow c = c.args.plan.now.is_plan.ready.sized.back_narrow
+
+pub set_all-requires : goal.set_all-requires
+set_all-requires c = lit< tt
+
+pub counting-visits-requires-clause-positive : goal.counting-visits-requires-clause-positive
+counting-visits-requires-clause-positive c = le_trans c.args.plan.now.is_plan.ready.sized.addr_some c.args.plan.now.is_plan.ready.sized.visit_holds
