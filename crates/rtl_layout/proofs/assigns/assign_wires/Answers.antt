@@ -1,4 +1,4 @@
-use Rattle.std.proofs.Common.{ℕ, ◌-◌, ◌^◌, ◌<◌, ◌≤◌, sym, ap, ◌∙◌, subst}
+use Rattle.std.proofs.Common.{lit≤, lit<, ℕ, ◌-◌, ◌^◌, ◌<◌, ◌≤◌, sym, ap, ◌∙◌, subst}
 use Rattle.verilog_tree.specs.Plain.{Net, Prefixed, Infixed, AssignItem}
 use Rattle.verilog_tree.specs.declared.tree.BinOp.TheVariants.{Eq}
 use Rattle.verilog_tree.specs.declared.tree.UnOp.TheVariants.{Invert}
@@ -81,3 +81,102 @@ is_last-back-requires-clause-some c = subst (λ (n : ℕ). 0 < n) (sym c.len-2.e
 
 pub is_last-back-requires-clause-fits : goal.is_last-back-requires-clause-fits
 is_last-back-requires-clause-fits c = subst (λ (n : ℕ). n ≤ 2 ^ c.args.plan.now.back_width) (sym c.len-2.ensures.value) c.args.plan.now.is_plan.ready.backgrounds_fit
+
+pub name-requires : goal.name-requires
+name-requires c = lit≤ tt
+
+pub len-requires : goal.len-requires
+len-requires c = lit< tt
+
+pub is_last-element-requires-clause-positive : goal.is_last-element-requires-clause-positive
+is_last-element-requires-clause-positive c = c.args.plan.now.is_plan.ready.sized.element_some
+
+pub is_last-element-requires-clause-narrow : goal.is_last-element-requires-clause-narrow
+is_last-element-requires-clause-narrow c = c.args.plan.now.is_plan.ready.sized.element_narrow
+
+pub name-requires-2 : goal.name-requires-2
+name-requires-2 c = lit≤ tt
+
+pub len-requires-2 : goal.len-requires-2
+len-requires-2 c = lit< tt
+
+pub is_last-back-requires-clause-positive : goal.is_last-back-requires-clause-positive
+is_last-back-requires-clause-positive c = c.args.plan.now.is_plan.ready.sized.back_some
+
+pub is_last-back-requires-clause-narrow : goal.is_last-back-requires-clause-narrow
+is_last-back-requires-clause-narrow c = c.args.plan.now.is_plan.ready.sized.back_narrow
+
+pub name-requires-3 : goal.name-requires-3
+name-requires-3 c = lit≤ tt
+
+pub name-requires-4 : goal.name-requires-4
+name-requires-4 c = lit≤ tt
+
+pub name-pattern_net-requires : goal.name-pattern_net-requires
+name-pattern_net-requires c = lit≤ tt
+
+pub name-requires-5 : goal.name-requires-5
+name-requires-5 c = lit≤ tt
+
+pub name-requires-6 : goal.name-requires-6
+name-requires-6 c = lit≤ tt
+
+pub name-requires-7 : goal.name-requires-7
+name-requires-7 c = lit≤ tt
+
+pub name-requires-8 : goal.name-requires-8
+name-requires-8 c = lit≤ tt
+
+pub name-requires-9 : goal.name-requires-9
+name-requires-9 c = lit≤ tt
+
+pub name-requires-10 : goal.name-requires-10
+name-requires-10 c = lit≤ tt
+
+pub name-requires-11 : goal.name-requires-11
+name-requires-11 c = lit≤ tt
+
+pub name-requires-12 : goal.name-requires-12
+name-requires-12 c = lit≤ tt
+
+pub name-requires-13 : goal.name-requires-13
+name-requires-13 c = lit≤ tt
+
+pub name-requires-14 : goal.name-requires-14
+name-requires-14 c = lit≤ tt
+
+pub name-requires-15 : goal.name-requires-15
+name-requires-15 c = lit≤ tt
+
+pub name-requires-16 : goal.name-requires-16
+name-requires-16 c = lit≤ tt
+
+pub name-requires-17 : goal.name-requires-17
+name-requires-17 c = lit≤ tt
+
+pub name-requires-18 : goal.name-requires-18
+name-requires-18 c = lit≤ tt
+
+pub name-requires-19 : goal.name-requires-19
+name-requires-19 c = lit≤ tt
+
+pub name-requires-20 : goal.name-requires-20
+name-requires-20 c = lit≤ tt
+
+pub name-requires-21 : goal.name-requires-21
+name-requires-21 c = lit≤ tt
+
+pub name-requires-22 : goal.name-requires-22
+name-requires-22 c = lit≤ tt
+
+pub name-requires-23 : goal.name-requires-23
+name-requires-23 c = lit≤ tt
+
+pub name-requires-24 : goal.name-requires-24
+name-requires-24 c = lit≤ tt
+
+pub name-requires-25 : goal.name-requires-25
+name-requires-25 c = lit≤ tt
+
+pub assign_all-requires : goal.assign_all-requires
+assign_all-requires c = lit< tt
