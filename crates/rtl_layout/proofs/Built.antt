@@ -39,6 +39,10 @@ turned r r' b b' n n' a a' m m' same first next again more =
 pub unless_none : {A : Type 0} (n : ℕ) (x y : A) → n ≢ 0 → y ≡ cond (nat_eq n 0) x y
 unless_none n x y h = grind (arith, nat_tests)
 
+-- and where it is 0, the first
+pub when_none : {A : Type 0} (n : ℕ) (x y : A) → n ≡ 0 → x ≡ cond (nat_eq n 0) x y
+when_none n x y h = sym (ap (λ t. cond t x y) (eq-eqb n 0 h))
+
 -- what stands first in a list that has something
 pub first_of : {A : Type 0} (xs ys : List A) (x d : A) → xs ≡ ys → 0 < length ys → x ≡ get_or xs 0 x → x ≡ slice_index_or ys 0 d
 first_of xs [] x d e some same = absurd (omega arith)
