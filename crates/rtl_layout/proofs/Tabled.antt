@@ -1,5 +1,5 @@
 -- Tables as loops make them.
-use Rattle.std.proofs.Common.{◌≡◌, ℕ, suc, ◌+◌, ◌-◌, ◌<◌, ◌≤◌, false, cond, IfOk, List, [], ◌∷◌, ◌++◌, length, map, take, drop, reverse, get_or, refl, append-nil, append_assoc, sym, ap, ◌∙◌, subst, arith}
+use Rattle.std.proofs.Common.{◌≡◌, ℕ, suc, ◌+◌, ◌-◌, ◌<◌, ◌≤◌, true, false, cond, IfOk, List, [], ◌∷◌, ◌++◌, length, map, take, drop, reverse, get_or, refl, append-nil, append_assoc, sym, ap, ◌∙◌, subst, arith}
 use Rattle.std.proofs.lemmas.List.{length-append, length-drop, length-take, drop-map, take-map, take_more, take_all, drop_more, drop_all, length-map, map-append, reverse-append}
 use Rattle.std.specs.Prelude.{Result}
 use Rattle.verilog_tree.specs.declared.tree.Expr.{Expr}
@@ -47,6 +47,10 @@ one_before f xs i d ls ms y h grown tells inv =
     ∙ ap (λ z. reverse (map f (drop (length xs - i) xs)) ++ z ∷ []) tells
     ∙ sym (ap (λ l. reverse (map f l)) split ∙ reverse-append (f (get_or xs k d) ∷ []) (map f (drop (length xs - i) xs)))
 
+-- the place that the loop is at
+pub place_before : (n i : ℕ) → i < n → (1 ≤ n) × (i ≤ n - 1) × (n - 1 - i < n)
+place_before n i h = (omega arith, omega arith, omega arith)
+
 pub none_before : {A : Type 0} (f : A → Expression) (xs : List A) (ls : List Expr) → ls ≡ [] → map plain ls ≡ reverse (map f (drop (length xs - 0) xs))
 none_before f xs ls e = ap (map plain) e ∙ sym (ap (λ l. reverse (map f l)) (drop_all (length xs - 0) xs (omega arith)))
 
@@ -70,6 +74,9 @@ address_listed p [] xs = refl
 address_listed p (r ∷ rs) xs =
     address_listed p rs (row_bit p.addr_width r ∷ xs)
     ∙ ap expressions (sym (ap (λ l. l ++ xs) (reverse-append (row_bit p.addr_width r ∷ []) (map (row_bit p.addr_width) rs)) ∙ append_assoc (reverse (map (row_bit p.addr_width) rs)) (row_bit p.addr_width r ∷ []) xs))
+
+pub address_straight : (p : Plan) → p.straight ≡ true → Net index ≡ address p
+address_straight p h = sym (ap (λ t. cond t (Net index) (Concatenation (address_bits p p.rows NoMore))) h)
 
 pub address_written : (p : Plan) (bits : List Expression) → p.straight ≡ false → bits ≡ reverse (map (row_bit p.addr_width) p.rows) → Concatenation (expressions bits) ≡ address p
 address_written p bits h is =
