@@ -1,5 +1,5 @@
 -- Lists that grow at their end, as the builders write them.
-use Rattle.std.proofs.Common.{◌≡◌, ℕ, suc, ◌+◌, List, [], ◌∷◌, ◌++◌, map, ap, ◌∙◌, arith, append_assoc, Result, Ok, Err, OnOk}
+use Rattle.std.proofs.Common.{◌≡◌, ℕ, suc, ◌+◌, ◌≤◌, Fits, w8, List, [], ◌∷◌, ◌++◌, map, ap, ◌∙◌, arith, append_assoc, Result, Ok, Err, OnOk}
 use Rattle.std.proofs.lemmas.List.{map-append}
 use Rattle.verilog_tree.specs.Plain.{Expression, Net}
 use Rattle.rtl_layout.specs.Build.{counter}
@@ -7,6 +7,10 @@ use Rattle.rtl_layout.specs.Layout.{aged}
 
 pub join : {A : Type 0} (xs ys zs as' bs : List A) → ys ≡ xs ++ as' → zs ≡ ys ++ bs → zs ≡ xs ++ (as' ++ bs)
 join xs ys zs as' bs p q = q ∙ ap (λ l. l ++ bs) p ∙ append_assoc xs as' bs
+
+-- the number behind that of an age
+pub next_age : (i : ℕ) → i ≤ 3 → (i + 1 ≤ 4) × (i ≤ 4) × Fits w8 (i + 1)
+next_age i h = (omega arith, omega arith, omega arith)
 
 -- several more, and then the rest
 pub grown : {A U E : Type 0} (r : Result U E) (xs ys zs as' bs : List A) → ys ≡ xs ++ as' → OnOk r (zs ≡ ys ++ bs) → OnOk r (zs ≡ xs ++ (as' ++ bs))
