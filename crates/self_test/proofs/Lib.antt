@@ -1,3 +1,4 @@
+pub mod AnyOf
 pub mod Named
 pub mod Places
 pub mod Wrong

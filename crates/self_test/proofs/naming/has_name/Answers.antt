@@ -1,0 +1,27 @@
+use Rattle.std.proofs.Common.{map, refl, sym, ◌∙◌}
+use Rattle.std.specs.Str.{bytes_eq}
+use Rattle.verilog_tree.specs.declared.tree.Port.{Port}
+use Rattle.verilog_tree.specs.Plain.{plain_port}
+use Rattle.self_test.specs.WrongPort.{has_name}
+use Rattle.self_test.proofs.AnyOf.{any_found, any_past, any_none}
+use Rattle.self_test.proofs.naming.has_name.Goals as goal
+
+pub loop-other-init : goal.loop-other-init
+loop-other-init c = refl
+
+pub bounds-ports-other-index : goal.bounds-ports-other-index
+bounds-ports-other-index c = c.loop-other-test.true
+
+pub returns-then-same_name : goal.returns-then-same_name
+returns-then-same_name c =
+    any_found (λ (q : Port). bytes_eq c.args.name.now.bytes q.name.bytes) (λ l. has_name c.args.name.now.bytes (map plain_port l)) (λ x xs. refl)
+    c.args.ports.now c.loop-other.other-index c.other-item.result c.loop-other-test.true c.other-item.is (sym c.same_name.ensures ∙ c.if-same_name.true) c.loop-other.invariant
+
+pub loop-other-preserved : goal.loop-other-preserved
+loop-other-preserved c =
+    any_past (λ (q : Port). bytes_eq c.args.name.now.bytes q.name.bytes) (λ l. has_name c.args.name.now.bytes (map plain_port l)) (λ x xs. refl)
+    c.args.ports.now c.loop-other.other-index c.other-item.result c.loop-other-test.true c.other-item.is (sym c.same_name.ensures ∙ c.if-same_name.false) c.loop-other.invariant
+
+pub returns : goal.returns
+returns c =
+    any_none (λ (q : Port). bytes_eq c.args.name.now.bytes q.name.bytes) (λ l. has_name c.args.name.now.bytes (map plain_port l)) (λ x xs. refl) c.args.ports.now c.loop-other.other-index c.loop-other-test.false refl c.loop-other.invariant
