@@ -192,7 +192,6 @@ fn next_label(inner: u8, case: Case, labels: Vec<Bits>, token: &Lexeme) -> Resul
 }
 
 /// What a token does in a statement.
-#[tactic(auto, using(crate::proofs::HoldingLemmas::expects_is))]
 pub(crate) fn step_stmt(
     alloc: Global,
     outer: &mut Outer,
