@@ -24,7 +24,6 @@ use std::alloc::Global;
 use verilog_tree::{Item, Mark, Stmt};
 
 /// Where a statement begins.
-#[tactic(auto, using(crate::proofs::PlaceSteps::free_word, crate::proofs::PlaceSteps::full_word))]
 fn want_stmt(alloc: Global, outer: &Outer, depth: u8, token: &Lexeme) -> Result<Place, ParseFault>
     ensures { Goes (want_stmt_step bounded depth (around_of outer.now) (token_of token.now)) result outer.now }
 {
