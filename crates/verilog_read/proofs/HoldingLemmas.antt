@@ -1,5 +1,5 @@
 -- What the code holds, one part more.
-use Rattle.std.proofs.Common.{◌≡◌, ◌∙◌, sym, Option, ℕ, Some, if◌then◌else◌, List, [], ◌∷◌, ◌++◌, map, refl, ap}
+use Rattle.std.proofs.Common.{◌≡◌, ◌∙◌, sym, Bool, Option, ℕ, Some, if◌then◌else◌, List, [], ◌∷◌, ◌++◌, map, refl, ap}
 use Rattle.verilog_tree.specs.declared.tree.Expr.{Expr}
 use Rattle.verilog_tree.specs.Plain.{Expression, plain, expressions, Followed, NoMore}
 use Rattle.verilog_tree.specs.Free.{signed}
@@ -34,6 +34,9 @@ expects_is m s (Identifier w) = refl
 expects_is m s (Number l n) = refl
 expects_is m s (Based x) = refl
 expects_is m s Unused = refl
+
+pub expected : (m : Mark) (s : State) (t : Token) (b : Bool) → is_expected m t ≡ b → expects m s t ≡ only_where b (Some s)
+expected m s t b e = expects_is m s t ∙ ap (λ x. only_where x (Some s)) e
 
 -- behind no operator: a choice where the mark is ?, and else the end
 pub ask_is : (limit : Limit) (p : ℕ) (n : Count) (ws : List Left) (e : Expression) (o : Q.Nest) (m : Mark) → ask_step limit p n ws e o m ≡ (if is_sign Question m then in_room (one_more limit n) (λ j. AtExpr (WantOperand p j [] (IfTrue (settle_all ws e) o))) else close_step p n (settle_all ws e) o (Sign m))

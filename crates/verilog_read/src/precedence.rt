@@ -254,7 +254,6 @@ fn in_list(
 }
 
 /// What a token does behind a whole expression: each choice whose last part it was ends with it.
-#[tactic(auto, using(crate::proofs::HoldingLemmas::expects_is, crate::proofs::HoldingLemmas::nests_push))]
 fn close(
     alloc: Global,
     outer: &mut Outer,

@@ -1,12 +1,11 @@
-use Rattle.std.proofs.Common.{◌≡◌, ◌∙◌, ℕ, Bool, true, false, List, Option, Some, Result, subst, sym, ap, refl}
+use Rattle.std.proofs.Common.{◌≡◌, ◌∙◌, ℕ, true, false, List, Option, Some, Result, subst, sym, ap, refl}
 use Rattle.verilog_tree.specs.Grammar.{Style}
 use Rattle.verilog_tree.specs.Spells.{bounded}
 use Rattle.verilog_tree.specs.Tokens.{Token, Identifier, Number, Based, Unused, Sign}
-use Rattle.verilog_tree.specs.declared.tokens.Mark.{Mark}
 use Rattle.verilog_tree.specs.declared.tokens.Mark.TheVariants.{Open, LessEquals}
 use Rattle.verilog_text.specs.Places as Q
 use Rattle.verilog_text.specs.Places.{Around, State, AtExpr, AsValue, AsCondition, AsSubject, begin_expr, style_of}
-use Rattle.verilog_text.specs.Steps.{step_stmt, expects, only_where}
+use Rattle.verilog_text.specs.Steps.{step_stmt}
 use Rattle.verilog_read.specs.declared.fault.ParseFault.{ParseFault}
 use Rattle.verilog_read.specs.declared.places.Outer.{Outer}
 use Rattle.verilog_read.specs.declared.places.Place.{Place}
@@ -15,7 +14,7 @@ use Rattle.verilog_read.specs.declared.places.StmtSpot.{StmtSpot}
 use Rattle.verilog_read.specs.inner.Frames.{around_of}
 use Rattle.verilog_read.specs.inner.Holding.{is_expected, token_of}
 use Rattle.verilog_read.specs.inner.Spots.{stmt_spot}
-use Rattle.verilog_read.proofs.HoldingLemmas.{expects_is}
+use Rattle.verilog_read.proofs.HoldingLemmas.{expected}
 use Rattle.verilog_read.proofs.PlaceSteps.{stmt_stepped, first_stepped}
 use Rattle.verilog_read.proofs.statements.step_stmt.Goals as goal
 
@@ -24,9 +23,6 @@ goes_as s u r w e h = subst (λ (x : Option State). Goes x r w) (sym e) h
 
 placed : (p q : StmtSpot) (a : Around) (t : Token) (o : Option State) → p ≡ q → step_stmt bounded (stmt_spot q a) t ≡ o → step_stmt bounded (stmt_spot p a) t ≡ o
 placed p q a t o e f = ap (λ x. step_stmt bounded (stmt_spot x a) t) e ∙ f
-
-expected : (m : Mark) (s : State) (t : Token) (b : Bool) → is_expected m t ≡ b → expects m s t ≡ only_where b (Some s)
-expected m s t b e = expects_is m s t ∙ ap (λ x. only_where x (Some s)) e
 
 began : (q : ℕ) (n : List ℕ) (a : Around) (t : Token) (y : Style) (s : State) → is_expected LessEquals t ≡ true → style_of a ≡ y → s ≡ AtExpr (begin_expr y q (AsValue n a)) → step_stmt bounded (Q.Target q n a) t ≡ Some s
 began q n a t y s e f g = expected LessEquals _ t true e ∙ ap (λ x. Some (AtExpr (begin_expr x q (AsValue n a)))) f ∙ ap Some (sym g)
