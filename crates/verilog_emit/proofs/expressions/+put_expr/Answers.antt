@@ -1,13 +1,53 @@
-use Rattle.std.proofs.Common.{List, ℕ, ◌++◌, ◌∙◌, codes, map, true, false, refl, ap, sym}
+use Rattle.std.proofs.Common.{Vec, Global, ◌≡◌, List, ℕ, ◌++◌, ◌∙◌, codes, map, true, false, refl, ap, sym}
 use Rattle.std.proofs.lemmas.Result.{on_ok_weaker}
+use Rattle.arrayvec.specs.ArrayString.{ArrayString}
+use Rattle.bist_bits.specs.Vector.{Vector}
 use Rattle.verilog_tree.specs.declared.tree.Expr.{Expr}
+use Rattle.verilog_tree.specs.declared.tree.Expr as E
 use Rattle.verilog_tree.specs.Grammar.{unary_mark}
-use Rattle.verilog_tree.specs.Plain.{plain, expressions}
+use Rattle.verilog_tree.specs.Plain.{plain, expressions, Net, BitSelect, PartSelect, Literal, Concatenation}
 use Rattle.verilog_tree.specs.Tokens.{mark_text}
 use Rattle.verilog_emit.specs.Printed.{expression_text, parts_text, separator}
-use Rattle.verilog_emit.proofs.Bodies.{behind_all, two_parts, told, infix_written, choice_written, one_written, all_written}
+use Rattle.verilog_emit.proofs.Bodies.{behind_all, two_parts, three_parts, told, infix_written, choice_written, one_written, all_written}
 use Rattle.verilog_tree.proofs.Layers.{plain_unary, plain_binary, plain_choose}
 use Rattle.verilog_emit.proofs.expressions.+put_expr.Goals as goal
+
+plain_name : (n : ArrayString) → plain (E.Name n) ≡ Net n.bytes
+plain_name n = search E.the_lemmas
+
+plain_bit : (n : ArrayString) (i : ℕ) → plain (E.Bit n i) ≡ BitSelect n.bytes i
+plain_bit n i = search E.the_lemmas
+
+plain_part : (n : ArrayString) (i j : ℕ) → plain (E.Part n i j) ≡ PartSelect n.bytes i j
+plain_part n i j = search E.the_lemmas
+
+plain_literal : (x : Vector) → plain (E.Lit x) ≡ Literal x
+plain_literal x = search E.the_lemmas
+
+plain_concat : (xs : Vec Expr Global) → plain (E.Concat xs) ≡ Concatenation (expressions (map plain xs.items))
+plain_concat xs = search E.the_lemmas
+
+pub put_enclosed-returns : goal.put_enclosed-returns
+put_enclosed-returns t c =
+    on_ok_weaker c.put-2.result
+    (three_parts c.args.out.now.items c.put.new.out.items c.put_expr.new.out.items c.put-2.new.out.items c.args.before.now (expression_text (plain c.args.x.now)) c.args.behind.now c.in_ok-put.ensures.ok c.in_ok-put_expr.ensures) c.put-2.ensures.ok
+
+pub put_expr-returns-in-Name : goal.put_expr-returns-in-Name
+put_expr-returns-in-Name t c = told plain expression_text c.args.x.now _ _ c.in-Name.is (plain_name c.in-Name.name) c.put_name.result c.args.out.now.items c.put_name.new.out.items c.put_name.ensures
+
+pub put_expr-returns-in-Bit : goal.put_expr-returns-in-Bit
+put_expr-returns-in-Bit t c = told plain expression_text c.args.x.now _ _ c.in-Bit.is (plain_bit c.in-Bit.name c.in-Bit.place) c.put_bit.result c.args.out.now.items c.put_bit.new.out.items c.put_bit.ensures
+
+pub put_expr-returns-in-Part : goal.put_expr-returns-in-Part
+put_expr-returns-in-Part t c = told plain expression_text c.args.x.now _ _ c.in-Part.is (plain_part c.in-Part.name c.in-Part.high c.in-Part.low) c.put_part.result c.args.out.now.items c.put_part.new.out.items c.put_part.ensures
+
+pub put_expr-returns-in-Lit : goal.put_expr-returns-in-Lit
+put_expr-returns-in-Lit t c = told plain expression_text c.args.x.now _ _ c.in-Lit.is (plain_literal c.in-Lit.bits) c.put_literal.result c.args.out.now.items c.put_literal.new.out.items c.put_literal.ensures
+
+pub put_expr-returns-in-Concat : goal.put_expr-returns-in-Concat
+put_expr-returns-in-Concat t c =
+    told plain expression_text c.args.x.now _ _ c.in-Concat.is (plain_concat c.in-Concat.parts) c.put_parts.result c.args.out.now.items c.put_parts.new.out.items
+    (rw c.deref.ensures.value at c.put_parts.ensures)
 
 pub put_expr-returns-in_ok-put-in-Unary : goal.put_expr-returns-in_ok-put-in-Unary
 put_expr-returns-in_ok-put-in-Unary t c =
