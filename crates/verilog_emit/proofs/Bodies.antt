@@ -133,12 +133,9 @@ one_left holds own xs i x l e t f = both own (holds (drop (i + 1) xs)) (sym t �
 pub item_left : (items : List Item) (i : ℕ) (x : Item) → i < length items → x ≡ get_or items i x → items_fit 64 (map plain_item (drop i items)) ≡ true → (item_fits 64 (plain_item x) ≡ true) × (items_fit 64 (map plain_item (drop (i + 1) items)) ≡ true)
 item_left items i x l e f = one_left (λ is. items_fit 64 (map plain_item is)) (item_fits 64 (plain_item x)) items i x l e refl f
 
-pub arm_left : (d : ℕ) (choices : List Arm) (i : ℕ) (x : Arm) → i < length choices → x ≡ get_or choices i x → arms_shallow d (arms (map plain_arm (drop i choices))) ≡ true → (statements_shallow (d + 1) (plain_stmts x.body.items) ≡ true) × (arms_shallow d (arms (map plain_arm (drop (i + 1) choices))) ≡ true)
+pub arm_left : (d : ℕ) (choices : List Arm) (i : ℕ) (x : Arm) → i < length choices → x ≡ get_or choices i x → arms_shallow d (arms (map plain_arm (drop i choices))) ≡ true → ((nat_lt d 100 && statements_shallow (d + 1) (plain_stmts x.body.items)) ≡ true) × (arms_shallow d (arms (map plain_arm (drop (i + 1) choices))) ≡ true)
 arm_left d choices i x l e f =
-    let body : Bool = statements_shallow (d + 1) (plain_stmts x.body.items) in
-    let rest : List Arm = drop (i + 1) choices in
-    let g : ((nat_lt d 100 && body) ≡ true) × (arms_shallow d (arms (map plain_arm rest)) ≡ true) = one_left (λ xs. arms_shallow d (arms (map plain_arm xs))) (nat_lt d 100 && body) choices i x l e (ap (λ a. arms_shallow d (ArmOf a.labels a.body (arms (map plain_arm rest)))) (arm_is x)) f in
-    ((both (nat_lt d 100) body g.0).1, g.1)
+    one_left (λ xs. arms_shallow d (arms (map plain_arm xs))) (nat_lt d 100 && statements_shallow (d + 1) (plain_stmts x.body.items)) choices i x l e (ap (λ a. arms_shallow d (ArmOf a.labels a.body (arms (map plain_arm (drop (i + 1) choices))))) (arm_is x)) f
 
 -- nothing is left once the loop has ended
 pub all_written : {A : Type 0} (text : List A → List ℕ) (xs : List A) (i : ℕ) (out whole : List ℕ) → length xs ≤ i → text [] ≡ [] → out ++ text (drop i xs) ≡ whole → out ≡ whole

@@ -1,4 +1,4 @@
-use Rattle.std.proofs.Common.{rules, List, ◌+◌, ◌++◌, nat_lt, codes, map, drop, true, refl, ap}
+use Rattle.std.proofs.Common.{rules, ◌≡◌, ℕ, Bool, ◌&&◌, Fits, w8, arith, ltb-true, List, ◌+◌, ◌++◌, nat_lt, codes, map, drop, true, refl, ap}
 use Rattle.std.proofs.lemmas.Result.{on_ok_weaker}
 use Rattle.verilog_tree.specs.Plain.{ArmOf, plain, plain_stmt, plain_stmts, arms}
 use Rattle.verilog_tree.specs.inner.Plain.{plain_arm}
@@ -10,8 +10,12 @@ use Rattle.verilog_emit.specs.inner.Printed.{else_text, default_text}
 use Rattle.verilog_emit.specs.inner.Shallow.{statement_shallow, statements_shallow}
 use Rattle.verilog_emit.proofs.Bodies.{begun_body, ended_body, three_parts, four_parts, told, one_written, one_left, arm_left, if_shallow, case_shallow, all_written}
 use Rattle.verilog_emit.proofs.Pieces.{both}
-use Rattle.verilog_tree.proofs.Layers.{plain_if, plain_case, arm_is}
+use Rattle.verilog_tree.proofs.Layers.{plain_set, plain_if, plain_case, arm_is}
 use Rattle.verilog_emit.proofs.statements.+put_stmt.Goals as goal
+
+-- a line that is not too deep has room for a deeper one
+deeper : (d : ℕ) (b : Bool) → (nat_lt d 100 && b) ≡ true → Fits w8 (d + 1)
+deeper d b e = omega (arith, ltb-true d 100 (both (nat_lt d 100) b e).0)
 
 pub put_default-returns : goal.put_default-returns
 put_default-returns t c =
@@ -94,7 +98,7 @@ put_stmt-returns-in_ok-put_default-in-Case t c =
     c.in_ok-put_expr_line-in-Case.ensures (rw c.deref-in-Case.ensures.value at c.in_ok-put_arms-in-Case.ensures) (rw c.deref-in-Case-2.ensures.value at c.in_ok-put_default-in-Case.ensures)) c.put_line-in-Case.ensures)
 
 pub put_arms-put_stmts-requires : goal.put_arms-put_stmts-requires
-put_arms-put_stmts-requires t c = (search (rules, S.the_lemmas), rw c.deref-in-loop-arm.ensures.value (arm_left c.args.depth c.args.choices.now c.loop-arm.arm-index c.arm-item.result c.loop-arm-test.true c.arm-item.is c.loop-arm.invariant.shallow).0)
+put_arms-put_stmts-requires t c = (search (rules, S.the_lemmas), rw c.deref-in-loop-arm.ensures.value (both (nat_lt c.args.depth 100) (statements_shallow (c.args.depth + 1) (plain_stmts c.arm-item.result.body.items)) (arm_left c.args.depth c.args.choices.now c.loop-arm.arm-index c.arm-item.result c.loop-arm-test.true c.arm-item.is c.loop-arm.invariant.shallow).0).1)
 
 pub put_stmts-put_stmt-requires : goal.put_stmts-put_stmt-requires
 put_stmts-put_stmt-requires t c = (search (rules, S.the_lemmas), (one_left (λ xs. statements_shallow c.args.depth (plain_stmts xs)) (statement_shallow c.args.depth (plain_stmt c.s-item.result)) c.args.body.now c.loop-s.s-index c.s-item.result c.loop-s-test.true c.s-item.is refl c.loop-s.invariant.shallow).0)
@@ -116,3 +120,12 @@ put_default-put_stmts-requires t c = (search (rules, S.the_lemmas), (both (nat_l
 
 pub put_else-put_stmts-requires : goal.put_else-put_stmts-requires
 put_else-put_stmts-requires t c = (search (rules, S.the_lemmas), (both (nat_lt c.args.depth 100) (statements_shallow (c.args.depth + 1) (plain_stmts c.args.body.now)) c.requires).1)
+
+pub put_stmt-returns-in-Set : goal.put_stmt-returns-in-Set
+put_stmt-returns-in-Set t c = told plain_stmt (statement_text c.args.depth) c.args.s.now _ _ c.in-Set.is (plain_set c.in-Set.name c.in-Set.x) c.put_assigned.result c.args.out.now.items c.put_assigned.new.out.items c.put_assigned.ensures
+
+pub put_arms-overflow_add-depth : goal.put_arms-overflow_add-depth
+put_arms-overflow_add-depth t c = deeper c.args.depth (statements_shallow (c.args.depth + 1) (plain_stmts c.arm-item.result.body.items)) (arm_left c.args.depth c.args.choices.now c.loop-arm.arm-index c.arm-item.result c.loop-arm-test.true c.arm-item.is c.loop-arm.invariant.shallow).0
+
+pub put_else-overflow_add-depth : goal.put_else-overflow_add-depth
+put_else-overflow_add-depth t c = deeper c.args.depth (statements_shallow (c.args.depth + 1) (plain_stmts c.args.body.now)) c.requires
