@@ -1,33 +1,10 @@
 -- What a run against the first box leaves, where an instance is planted.
-use Rattle.bist_app.proofs.Common.{◌≡◌, ◌<◌, ◌∙◌, ℕ, true, List, [], ◌∷◌, length, map, Option, Some, None, is_some, Result, Ok, IfOk, IfErr, refl, subst, arith, MarchElement, Primitive, has_aggressor, Description, Planted, Chip, Tells, TellsChip, Told, SomeWrong, run_word, Seen, IsFirstRead, Plan, Refusal, Done, done_of, plain, IsTrue, IfOk-weaker, FitsAggPlace, Boxes, HasBox, FitsRoom, LeavesFirst}
-use Rattle.fault_core.specs.declared.primitive.Sense.{Sense}
+use Rattle.bist_app.proofs.Common.{◌≡◌, ◌<◌, ◌∙◌, ℕ, true, List, [], ◌∷◌, length, map, Option, Some, None, is_some, Result, Ok, IfOk, IfErr, refl, subst, arith, MarchElement, Primitive, Description, Planted, Chip, Tells, TellsChip, Told, SomeWrong, run_word, Seen, IsFirstRead, Plan, Refusal, Done, done_of, plain, IsTrue, IfOk-weaker, Boxes, HasBox, FitsRoom, LeavesFirst}
 use Rattle.array_sim.specs.Detection.{Detects}
-use Rattle.bist_app.specs.declared.benchfault_command.NamedPlace.{NamedPlace}
 use Rattle.bist_app.specs.declared.benchfault_command.FaultShape.{FaultShape}
 use Rattle.bist_app.specs.Bench.{benched_chip, IsSeen, IsBenched}
-use Rattle.bist_app.specs.inner.RunsBeside.{CanPlant}
-use Rattle.bist_app.specs.BenchFault.{IsApart, ArePlaces, aggressor_in, place_in, planted_of, FitsPlaces, IsFaultBenched, LeavesFault, PlantsFault}
+use Rattle.bist_app.specs.BenchFault.{planted_of, FitsPlaces, IsFaultBenched, LeavesFault, PlantsFault}
 use Rattle.bist_app.proofs.Benched.{or_no_memory}
-
--- ---- the instance fits the memory
-
-aggressor_fits : (d : Description) (victim : NamedPlace) (agg : Option Sense) (aggressor : Option NamedPlace) → is_some aggressor ≡ is_some agg
-    → IsApart d victim aggressor → FitsAggPlace agg (aggressor_in aggressor) (place_in victim) d.words d.bits
-aggressor_fits d victim None None given h = tt
-aggressor_fits d victim None (Some place) given h = cc
-aggressor_fits d victim (Some sense) None given h = cc
-aggressor_fits d victim (Some sense) (Some place) given h = (h.0.0, h.0.1, h.1)
-
-aggressor_given : (aggressor : Option NamedPlace) → is_some (aggressor_in aggressor) ≡ is_some aggressor
-aggressor_given None = refl
-aggressor_given (Some place) = refl
-
-pub can_plant : (prim : Primitive) (shape : FaultShape) (d : Description) → ArePlaces d shape → is_some shape.aggressor ≡ has_aggressor prim
-    → CanPlant d (Some (planted_of prim shape))
-can_plant prim shape d places given = (
-  record { word = places.0.0; bit = places.0.1; agg = aggressor_fits d shape.victim prim.agg shape.aggressor given places.1 },
-  aggressor_given shape.aggressor ∙ given,
-)
 
 -- ---- what is seen of the run
 

@@ -5,7 +5,6 @@ pub mod Statuses
 pub mod Headline
 pub mod Conformance
 pub mod Complete
-pub mod Shapes
 pub mod DirectionWord
 pub mod Judging
 pub mod Listing
@@ -21,7 +20,6 @@ pub mod Making
 pub mod Caught
 pub mod Faulted
 pub mod AllBenched
-pub mod Fitting
 pub mod Facts
 pub mod SharedFacts
 pub mod OneReported

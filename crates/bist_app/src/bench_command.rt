@@ -59,7 +59,6 @@ fn test_bench(
 }
 
 /// Runs the self-test of a memory by a march against the first box.
-#[tactic(auto, using(crate::proofs::Causes::own_cause))]
 pub fn decide_bench<H: Host>(
     alloc: Global,
     words: &[&str],

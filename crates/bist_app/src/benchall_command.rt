@@ -69,7 +69,6 @@ fn test_all(
 }
 
 /// Runs the self-test of a memory by a march against each box.
-#[tactic(auto, using(crate::proofs::Causes::own_cause))]
 pub fn decide_bench_all<H: Host>(
     alloc: Global,
     words: &[&str],

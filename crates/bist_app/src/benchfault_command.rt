@@ -103,7 +103,6 @@ fn place_in(place: NamedPlace, memory: &Memory) -> Place
 }
 
 /// The instance of a primitive that the words name.
-#[tactic(auto, using(crate::proofs::Faulted::can_plant))]
 fn planted_for(prim: &Prim, shape: FaultShape, memory: &Memory) -> Planted
     requires places { ArePlaces memory.now shape }
     requires given { is_some shape.aggressor ≡ has_aggressor prim.now }
@@ -149,7 +148,6 @@ fn test_fault(
 }
 
 /// Runs the self-test, with the instance in the places that the words say.
-#[tactic(auto, using(crate::proofs::Causes::own_cause))]
 fn run_fault<H: Host>(
     alloc: Global,
     words: &[&str],
@@ -170,7 +168,6 @@ fn run_fault<H: Host>(
 }
 
 /// Runs the self-test of a memory by a march against the first box, in which an instance of a primitive is planted.
-#[tactic(auto, using(crate::proofs::Causes::own_cause))]
 pub fn decide_fault<H: Host>(
     alloc: Global,
     words: &[&str],

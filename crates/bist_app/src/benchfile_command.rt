@@ -81,7 +81,6 @@ fn test_design(
 }
 
 /// Decides the rest behind the module.
-#[tactic(auto, using(crate::proofs::Causes::own_cause))]
 fn decide_design<H: Host>(
     alloc: Global,
     words: &[&str],

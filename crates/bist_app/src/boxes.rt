@@ -61,7 +61,6 @@ fn want_of_box(fault: DeviceFault) -> NoMemory
 }
 
 /// Fits a box that has room; want of memory leaves it as it was.
-#[tactic(auto, using(crate::proofs::Fitting::want_of_fitted))]
 fn fit_box(device: &mut Box<dyn Device>, shape: &Shape) -> Result<(), NoMemory>
     requires shape { IsShape shape.now }
     requires room { shape.now.words ≤ (told device.old).room }

@@ -103,7 +103,6 @@ fn check_design(
 }
 
 /// Decides the rest behind the module.
-#[tactic(auto, using(crate::proofs::Causes::own_cause))]
 fn decide_run<H: Host>(
     alloc: Global,
     words: &[&str],

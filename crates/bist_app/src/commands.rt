@@ -81,7 +81,6 @@ fn is_formed(words: &[&str], command: Command) -> bool
 }
 
 /// The command whose form the words have.
-#[tactic(auto, using(crate::proofs::Shapes::none_named, crate::proofs::Shapes::none_formed))]
 fn command_of(words: &[&str]) -> Option<Command>
     ensures { MatchOption result (HasNoForm words.now) (λ command. IsFormed words.now command) }
 {
@@ -96,7 +95,6 @@ fn command_of(words: &[&str]) -> Option<Command>
 }
 
 /// What the command leaves, or why it is refused.
-#[tactic(auto, using(crate::proofs::Causes::own_cause))]
 pub fn decide<H: Host>(
     alloc: Global,
     words: &[&str],

@@ -67,7 +67,7 @@ fn plan_compile(
 }
 
 /// Compiles a self-test and judges the items of a list.
-#[tactic(auto, using(crate::proofs::Causes::own_cause), unfolding(crate::specs::Compile::LeavesCompile))]
+#[tactic(auto, unfolding(crate::specs::Compile::LeavesCompile))]
 pub fn decide_compile<H: Host>(alloc: Global, words: &[&str], host: &mut H) -> Result<Plan, Refusal>
     requires { HasForm compile_form words.now }
     ensures kept { OnlyReads (H.state host.old) (H.state host.new) }

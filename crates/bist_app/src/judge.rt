@@ -35,7 +35,6 @@ fn plan_judge(alloc: Global, march: &March, items: &[Item]) -> Result<Plan, Refu
 }
 
 /// Judges the items of a list.
-#[tactic(auto, using(crate::proofs::Causes::own_cause))]
 pub fn decide_judge<H: Host>(alloc: Global, words: &[&str], host: &mut H) -> Result<Plan, Refusal>
     requires { HasForm judge_form words.now }
     ensures kept { OnlyReads (H.state host.old) (H.state host.new) }

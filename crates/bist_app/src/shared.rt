@@ -11,7 +11,6 @@ use memory_desc::Memory;
 use self_test::too_long;
 
 /// Refuses a test that takes too many cycles.
-#[tactic(auto, using(crate::proofs::SharedFacts::too_long))]
 pub fn fit_length(march: &March, memory: &Memory) -> Result<(), Refusal>
     ensures answer { FitsLength march.now memory.now result }
     ensures own { IfErr result IsOwnRefusal }

@@ -161,7 +161,6 @@ fn plan_sim(
 }
 
 /// Runs one array.
-#[tactic(auto, using(crate::proofs::Causes::own_cause))]
 pub fn decide_sim<H: Host>(alloc: Global, words: &[&str], host: &mut H) -> Result<Plan, Refusal>
     requires { HasForm sim_form words.now }
     ensures kept { OnlyReads (H.state host.old) (H.state host.new) }

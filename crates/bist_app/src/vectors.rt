@@ -67,7 +67,6 @@ fn plan_vectors(alloc: Global, march: &March, memory: &Memory) -> Result<Plan, R
 }
 
 /// Lists the commands of a march on a memory.
-#[tactic(auto, using(crate::proofs::Causes::own_cause))]
 pub fn decide_vectors<H: Host>(alloc: Global, words: &[&str], host: &mut H) -> Result<Plan, Refusal>
     requires { HasForm vectors_form words.now }
     ensures kept { OnlyReads (H.state host.old) (H.state host.new) }
