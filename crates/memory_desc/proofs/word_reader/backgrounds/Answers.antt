@@ -35,7 +35,7 @@ returns-in_err-rest-2 c =
 pub returns-in-108 : goal.returns-in-108
 returns-in-108 c =
     let ends : (o : Read (Unit {0})) → end_of c.in_ok-rest-2.rest.now ≡ o → backgrounds_of c.args.text.now ≡ onward o (λ _ x. took (Some log) x) = λ o e.
-        log_begun c.args.text.now c.in-108.len_at_least (omega arith) ∙ took_on _ c.in_ok-rest.ensures (took_on _ c.in_ok-rest-2.ensures (ap (λ o. onward o (λ _ x. took (Some log) x)) e)) in
+    log_begun c.args.text.now c.in-108.len_at_least (omega arith) ∙ took_on _ c.in_ok-rest.ensures (took_on _ c.in_ok-rest-2.ensures (ap (λ o. onward o (λ _ x. took (Some log) x)) e)) in
     on_both c.ended.result c.ended.ensures (λ r h. ends (took tt r.1.now) h.1 ∙ ap (λ v. took (Some (plain_content v)) r.1.now) (sym h.0)) (λ left h. ends (stuck left.now) h)
 
 pub returns-in_err-first : goal.returns-in_err-first

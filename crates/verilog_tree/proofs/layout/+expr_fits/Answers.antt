@@ -68,41 +68,46 @@ pub returns-then-expr_fits : goal.returns-then-expr_fits
 returns-then-expr_fits t c =
     let inner = c.saturating_sub-inner.result in
     binary_fits c.args.room inner c.args.x.now c.in-Binary.field-0 c.in-Binary.a c.in-Binary.b c.if-room-gt0-2.value c.expr_fits-then-expr_fits.result c.in-Binary.is c.saturating_sub-inner.ensures
-    (elim c.if-room-gt0-2.branch
-      [ then-room-gt0-2 w ↦ and_then _ _ _ (lt-ltb 0 _ w.if-room-gt0-2.true) (w.value-is ∙ w.expr_fits-then-room-gt0-2.ensures ∙ ap (λ (x : Expr). expression_fits inner (plain x)) w.deref-then-room-gt0-2.ensures)
-      | else-room-gt0-2 w ↦ and_else _ _ _ (le-ltb 0 _ w.if-room-gt0-2.false) w.value-is ])
+    (elim c.if-room-gt0-2.branch [
+      | then-room-gt0-2 w ↦ and_then _ _ _ (lt-ltb 0 _ w.if-room-gt0-2.true) (w.value-is ∙ w.expr_fits-then-room-gt0-2.ensures ∙ ap (λ (x : Expr). expression_fits inner (plain x)) w.deref-then-room-gt0-2.ensures)
+      | else-room-gt0-2 w ↦ and_else _ _ _ (le-ltb 0 _ w.if-room-gt0-2.false) w.value-is
+    ])
     (and_then _ _ _ c.if-expr_fits.true (c.expr_fits-then-expr_fits.ensures ∙ ap (λ (x : Expr). expression_fits inner (plain x)) c.deref-then-expr_fits.ensures))
 
 pub returns-else-expr_fits : goal.returns-else-expr_fits
 returns-else-expr_fits t c =
     let inner = c.saturating_sub-inner.result in
     binary_fits c.args.room inner c.args.x.now c.in-Binary.field-0 c.in-Binary.a c.in-Binary.b c.if-room-gt0-2.value c.if-room-gt0-2.value c.in-Binary.is c.saturating_sub-inner.ensures
-    (elim c.if-room-gt0-2.branch
-      [ then-room-gt0-2 w ↦ and_then _ _ _ (lt-ltb 0 _ w.if-room-gt0-2.true) (w.value-is ∙ w.expr_fits-then-room-gt0-2.ensures ∙ ap (λ (x : Expr). expression_fits inner (plain x)) w.deref-then-room-gt0-2.ensures)
-      | else-room-gt0-2 w ↦ and_else _ _ _ (le-ltb 0 _ w.if-room-gt0-2.false) w.value-is ])
+    (elim c.if-room-gt0-2.branch [
+      | then-room-gt0-2 w ↦ and_then _ _ _ (lt-ltb 0 _ w.if-room-gt0-2.true) (w.value-is ∙ w.expr_fits-then-room-gt0-2.ensures ∙ ap (λ (x : Expr). expression_fits inner (plain x)) w.deref-then-room-gt0-2.ensures)
+      | else-room-gt0-2 w ↦ and_else _ _ _ (le-ltb 0 _ w.if-room-gt0-2.false) w.value-is
+    ])
     (and_else _ _ _ c.if-expr_fits.false refl)
 
 pub returns-then-expr_fits-3 : goal.returns-then-expr_fits-3
 returns-then-expr_fits-3 t c =
     let inner = c.saturating_sub-inner.result in
     choose_fits c.args.room inner c.args.x.now c.in-Choose.c c.in-Choose.a c.in-Choose.b c.if-room-gt0-3.value c.if-expr_fits-2.value c.expr_fits-then-expr_fits-3.result c.in-Choose.is c.saturating_sub-inner.ensures
-    (elim c.if-room-gt0-3.branch
-      [ then-room-gt0-3 w ↦ and_then _ _ _ (lt-ltb 0 _ w.if-room-gt0-3.true) (w.value-is ∙ w.expr_fits-then-room-gt0-3.ensures ∙ ap (λ (x : Expr). expression_fits inner (plain x)) w.deref-then-room-gt0-3.ensures)
-      | else-room-gt0-3 w ↦ and_else _ _ _ (le-ltb 0 _ w.if-room-gt0-3.false) w.value-is ])
-    (elim c.if-expr_fits-2.branch
-      [ then-expr_fits-2 w ↦ and_then _ _ _ w.if-expr_fits-2.true (w.value-is ∙ w.expr_fits-then-expr_fits-2.ensures ∙ ap (λ (x : Expr). expression_fits inner (plain x)) w.deref-then-expr_fits-2.ensures)
-      | else-expr_fits-2 w ↦ and_else _ _ _ w.if-expr_fits-2.false w.value-is ])
+    (elim c.if-room-gt0-3.branch [
+      | then-room-gt0-3 w ↦ and_then _ _ _ (lt-ltb 0 _ w.if-room-gt0-3.true) (w.value-is ∙ w.expr_fits-then-room-gt0-3.ensures ∙ ap (λ (x : Expr). expression_fits inner (plain x)) w.deref-then-room-gt0-3.ensures)
+      | else-room-gt0-3 w ↦ and_else _ _ _ (le-ltb 0 _ w.if-room-gt0-3.false) w.value-is
+    ])
+    (elim c.if-expr_fits-2.branch [
+      | then-expr_fits-2 w ↦ and_then _ _ _ w.if-expr_fits-2.true (w.value-is ∙ w.expr_fits-then-expr_fits-2.ensures ∙ ap (λ (x : Expr). expression_fits inner (plain x)) w.deref-then-expr_fits-2.ensures)
+      | else-expr_fits-2 w ↦ and_else _ _ _ w.if-expr_fits-2.false w.value-is
+    ])
     (and_then _ _ _ c.if-expr_fits-3.true (c.expr_fits-then-expr_fits-3.ensures ∙ ap (λ (x : Expr). expression_fits inner (plain x)) c.deref-then-expr_fits-3.ensures))
 
 pub returns-else-expr_fits-3 : goal.returns-else-expr_fits-3
 returns-else-expr_fits-3 t c =
     let inner = c.saturating_sub-inner.result in
     choose_fits c.args.room inner c.args.x.now c.in-Choose.c c.in-Choose.a c.in-Choose.b c.if-room-gt0-3.value c.if-expr_fits-2.value c.if-expr_fits-2.value c.in-Choose.is c.saturating_sub-inner.ensures
-    (elim c.if-room-gt0-3.branch
-      [ then-room-gt0-3 w ↦ and_then _ _ _ (lt-ltb 0 _ w.if-room-gt0-3.true) (w.value-is ∙ w.expr_fits-then-room-gt0-3.ensures ∙ ap (λ (x : Expr). expression_fits inner (plain x)) w.deref-then-room-gt0-3.ensures)
-      | else-room-gt0-3 w ↦ and_else _ _ _ (le-ltb 0 _ w.if-room-gt0-3.false) w.value-is ])
-    (elim c.if-expr_fits-2.branch
-      [ then-expr_fits-2 w ↦ and_then _ _ _ w.if-expr_fits-2.true (w.value-is ∙ w.expr_fits-then-expr_fits-2.ensures ∙ ap (λ (x : Expr). expression_fits inner (plain x)) w.deref-then-expr_fits-2.ensures)
-      | else-expr_fits-2 w ↦ and_else _ _ _ w.if-expr_fits-2.false w.value-is ])
+    (elim c.if-room-gt0-3.branch [
+      | then-room-gt0-3 w ↦ and_then _ _ _ (lt-ltb 0 _ w.if-room-gt0-3.true) (w.value-is ∙ w.expr_fits-then-room-gt0-3.ensures ∙ ap (λ (x : Expr). expression_fits inner (plain x)) w.deref-then-room-gt0-3.ensures)
+      | else-room-gt0-3 w ↦ and_else _ _ _ (le-ltb 0 _ w.if-room-gt0-3.false) w.value-is
+    ])
+    (elim c.if-expr_fits-2.branch [
+      | then-expr_fits-2 w ↦ and_then _ _ _ w.if-expr_fits-2.true (w.value-is ∙ w.expr_fits-then-expr_fits-2.ensures ∙ ap (λ (x : Expr). expression_fits inner (plain x)) w.deref-then-expr_fits-2.ensures)
+      | else-expr_fits-2 w ↦ and_else _ _ _ w.if-expr_fits-2.false w.value-is
+    ])
     (and_else _ _ _ c.if-expr_fits-3.false refl)
-

@@ -45,48 +45,56 @@ pub stmt_fits-returns-then-stmts_fit : goal.stmt_fits-returns-then-stmts_fit
 stmt_fits-returns-then-stmts_fit t c =
     let inner = c.saturating_sub-inner.result in
     if_fits c.args.room inner c.args.s.now c.in-If.c c.in-If.a c.in-If.b c.if-room-gt1.value c.if-expr_fits.value c.stmts_fit-then-stmts_fit.result c.in-If.is c.saturating_sub-inner.ensures
-    (elim c.if-room-gt1.branch
-      [ stmt_fits-then-room-gt1 w ↦ and_then _ _ _ (lt-ltb 1 _ w.if-room-gt1.true) (w.value-is ∙ w.expr_fits-then-room-gt1.ensures)
-      | stmt_fits-else-room-gt1 w ↦ and_else _ _ _ (le-ltb 1 _ w.if-room-gt1.false) w.value-is ])
-    (elim c.if-expr_fits.branch
-      [ stmt_fits-then-expr_fits w ↦ and_then _ _ _ w.if-expr_fits.true (w.value-is ∙ w.stmts_fit.ensures ∙ ap (λ l. statements_fit inner (plain_stmts l)) w.deref.ensures.value)
-      | stmt_fits-else-expr_fits w ↦ and_else _ _ _ w.if-expr_fits.false w.value-is ])
+    (elim c.if-room-gt1.branch [
+      | stmt_fits-then-room-gt1 w ↦ and_then _ _ _ (lt-ltb 1 _ w.if-room-gt1.true) (w.value-is ∙ w.expr_fits-then-room-gt1.ensures)
+      | stmt_fits-else-room-gt1 w ↦ and_else _ _ _ (le-ltb 1 _ w.if-room-gt1.false) w.value-is
+    ])
+    (elim c.if-expr_fits.branch [
+      | stmt_fits-then-expr_fits w ↦ and_then _ _ _ w.if-expr_fits.true (w.value-is ∙ w.stmts_fit.ensures ∙ ap (λ l. statements_fit inner (plain_stmts l)) w.deref.ensures.value)
+      | stmt_fits-else-expr_fits w ↦ and_else _ _ _ w.if-expr_fits.false w.value-is
+    ])
     (and_then _ _ _ c.if-stmts_fit.true (c.stmts_fit-then-stmts_fit.ensures ∙ ap (λ l. statements_fit inner (plain_stmts l)) c.deref-then-stmts_fit.ensures.value))
 
 pub stmt_fits-returns-else-stmts_fit : goal.stmt_fits-returns-else-stmts_fit
 stmt_fits-returns-else-stmts_fit t c =
     let inner = c.saturating_sub-inner.result in
     if_fits c.args.room inner c.args.s.now c.in-If.c c.in-If.a c.in-If.b c.if-room-gt1.value c.if-expr_fits.value c.if-expr_fits.value c.in-If.is c.saturating_sub-inner.ensures
-    (elim c.if-room-gt1.branch
-      [ stmt_fits-then-room-gt1 w ↦ and_then _ _ _ (lt-ltb 1 _ w.if-room-gt1.true) (w.value-is ∙ w.expr_fits-then-room-gt1.ensures)
-      | stmt_fits-else-room-gt1 w ↦ and_else _ _ _ (le-ltb 1 _ w.if-room-gt1.false) w.value-is ])
-    (elim c.if-expr_fits.branch
-      [ stmt_fits-then-expr_fits w ↦ and_then _ _ _ w.if-expr_fits.true (w.value-is ∙ w.stmts_fit.ensures ∙ ap (λ l. statements_fit inner (plain_stmts l)) w.deref.ensures.value)
-      | stmt_fits-else-expr_fits w ↦ and_else _ _ _ w.if-expr_fits.false w.value-is ])
+    (elim c.if-room-gt1.branch [
+      | stmt_fits-then-room-gt1 w ↦ and_then _ _ _ (lt-ltb 1 _ w.if-room-gt1.true) (w.value-is ∙ w.expr_fits-then-room-gt1.ensures)
+      | stmt_fits-else-room-gt1 w ↦ and_else _ _ _ (le-ltb 1 _ w.if-room-gt1.false) w.value-is
+    ])
+    (elim c.if-expr_fits.branch [
+      | stmt_fits-then-expr_fits w ↦ and_then _ _ _ w.if-expr_fits.true (w.value-is ∙ w.stmts_fit.ensures ∙ ap (λ l. statements_fit inner (plain_stmts l)) w.deref.ensures.value)
+      | stmt_fits-else-expr_fits w ↦ and_else _ _ _ w.if-expr_fits.false w.value-is
+    ])
     (and_else _ _ _ c.if-stmts_fit.false refl)
 
 pub stmt_fits-returns-then-arms_fit : goal.stmt_fits-returns-then-arms_fit
 stmt_fits-returns-then-arms_fit t c =
     let inner = c.saturating_sub-inner.result in
     case_fits c.args.room inner c.args.s.now c.in-Case.x c.in-Case.choices c.in-Case.other c.if-room-gt1-2.value c.if-expr_fits-2.value c.stmts_fit-then-arms_fit.result c.in-Case.is c.saturating_sub-inner.ensures
-    (elim c.if-room-gt1-2.branch
-      [ stmt_fits-then-room-gt1-2 w ↦ and_then _ _ _ (lt-ltb 1 _ w.if-room-gt1-2.true) (w.value-is ∙ w.expr_fits-then-room-gt1-2.ensures)
-      | stmt_fits-else-room-gt1-2 w ↦ and_else _ _ _ (le-ltb 1 _ w.if-room-gt1-2.false) w.value-is ])
-    (elim c.if-expr_fits-2.branch
-      [ stmt_fits-then-expr_fits-2 w ↦ and_then _ _ _ w.if-expr_fits-2.true (w.value-is ∙ w.arms_fit.ensures ∙ ap (λ l. arms_fit inner (arms (map plain_arm l))) w.deref-then-expr_fits-2.ensures.value)
-      | stmt_fits-else-expr_fits-2 w ↦ and_else _ _ _ w.if-expr_fits-2.false w.value-is ])
+    (elim c.if-room-gt1-2.branch [
+      | stmt_fits-then-room-gt1-2 w ↦ and_then _ _ _ (lt-ltb 1 _ w.if-room-gt1-2.true) (w.value-is ∙ w.expr_fits-then-room-gt1-2.ensures)
+      | stmt_fits-else-room-gt1-2 w ↦ and_else _ _ _ (le-ltb 1 _ w.if-room-gt1-2.false) w.value-is
+    ])
+    (elim c.if-expr_fits-2.branch [
+      | stmt_fits-then-expr_fits-2 w ↦ and_then _ _ _ w.if-expr_fits-2.true (w.value-is ∙ w.arms_fit.ensures ∙ ap (λ l. arms_fit inner (arms (map plain_arm l))) w.deref-then-expr_fits-2.ensures.value)
+      | stmt_fits-else-expr_fits-2 w ↦ and_else _ _ _ w.if-expr_fits-2.false w.value-is
+    ])
     (and_then _ _ _ c.if-arms_fit.true (c.stmts_fit-then-arms_fit.ensures ∙ ap (λ l. statements_fit inner (plain_stmts l)) c.deref-then-arms_fit.ensures.value))
 
 pub stmt_fits-returns-else-arms_fit : goal.stmt_fits-returns-else-arms_fit
 stmt_fits-returns-else-arms_fit t c =
     let inner = c.saturating_sub-inner.result in
     case_fits c.args.room inner c.args.s.now c.in-Case.x c.in-Case.choices c.in-Case.other c.if-room-gt1-2.value c.if-expr_fits-2.value c.if-expr_fits-2.value c.in-Case.is c.saturating_sub-inner.ensures
-    (elim c.if-room-gt1-2.branch
-      [ stmt_fits-then-room-gt1-2 w ↦ and_then _ _ _ (lt-ltb 1 _ w.if-room-gt1-2.true) (w.value-is ∙ w.expr_fits-then-room-gt1-2.ensures)
-      | stmt_fits-else-room-gt1-2 w ↦ and_else _ _ _ (le-ltb 1 _ w.if-room-gt1-2.false) w.value-is ])
-    (elim c.if-expr_fits-2.branch
-      [ stmt_fits-then-expr_fits-2 w ↦ and_then _ _ _ w.if-expr_fits-2.true (w.value-is ∙ w.arms_fit.ensures ∙ ap (λ l. arms_fit inner (arms (map plain_arm l))) w.deref-then-expr_fits-2.ensures.value)
-      | stmt_fits-else-expr_fits-2 w ↦ and_else _ _ _ w.if-expr_fits-2.false w.value-is ])
+    (elim c.if-room-gt1-2.branch [
+      | stmt_fits-then-room-gt1-2 w ↦ and_then _ _ _ (lt-ltb 1 _ w.if-room-gt1-2.true) (w.value-is ∙ w.expr_fits-then-room-gt1-2.ensures)
+      | stmt_fits-else-room-gt1-2 w ↦ and_else _ _ _ (le-ltb 1 _ w.if-room-gt1-2.false) w.value-is
+    ])
+    (elim c.if-expr_fits-2.branch [
+      | stmt_fits-then-expr_fits-2 w ↦ and_then _ _ _ w.if-expr_fits-2.true (w.value-is ∙ w.arms_fit.ensures ∙ ap (λ l. arms_fit inner (arms (map plain_arm l))) w.deref-then-expr_fits-2.ensures.value)
+      | stmt_fits-else-expr_fits-2 w ↦ and_else _ _ _ w.if-expr_fits-2.false w.value-is
+    ])
     (and_else _ _ _ c.if-arms_fit.false refl)
 
 pub stmts_fit-loop-s-init : goal.stmts_fit-loop-s-init

@@ -21,9 +21,10 @@ first_two t u v s p q = rw (sym p, sym q) refl
 pub returns-then-not-formed : goal.returns-then-not-formed
 returns-then-not-formed c =
     let mo = plain_module c.args.module.now in
-    elim c.then-not-formed.branch
-      [ then-not-formed-via-then-not-formed w ↦ not_first (formed mo) (is_name mo.name) (ports_fit mo.ports) (items_fit 64 mo.items) (sym c.formed.ensures ∙ w.if-not-formed.true)
-      | then-not-formed-via-else-not-formed+then-not-is_name w ↦ not_second (formed mo) (is_name mo.name) (ports_fit mo.ports) (items_fit 64 mo.items) (sym c.formed.ensures ∙ w.if-not-formed.false) (sym w.is_name.ensures ∙ w.if-not-is_name.true) ]
+    elim c.then-not-formed.branch [
+      | then-not-formed-via-then-not-formed w ↦ not_first (formed mo) (is_name mo.name) (ports_fit mo.ports) (items_fit 64 mo.items) (sym c.formed.ensures ∙ w.if-not-formed.true)
+      | then-not-formed-via-else-not-formed+then-not-is_name w ↦ not_second (formed mo) (is_name mo.name) (ports_fit mo.ports) (items_fit 64 mo.items) (sym c.formed.ensures ∙ w.if-not-formed.false) (sym w.is_name.ensures ∙ w.if-not-is_name.true)
+    ]
 
 pub loop-port-init : goal.loop-port-init
 loop-port-init c = refl

@@ -27,23 +27,25 @@ loop-item-init c = refl
 pub returns-then-not-fits : goal.returns-then-not-fits
 returns-then-not-fits c =
     let i = c.item-item.result in
-    let e : c.match-item.fits ≡ item_fits 64 (plain_item i) = elim c.match-item.branch
-      [ in-Assign+then-is_name w ↦ w.fits-is ∙ and_then _ _ _ (sym w.is_name.ensures ∙ w.if-is_name.true) w.expr_fits.ensures ∙ fits_as i _ w.in-Assign.is
+    let e : c.match-item.fits ≡ item_fits 64 (plain_item i) = elim c.match-item.branch [
+      | in-Assign+then-is_name w ↦ w.fits-is ∙ and_then _ _ _ (sym w.is_name.ensures ∙ w.if-is_name.true) w.expr_fits.ensures ∙ fits_as i _ w.in-Assign.is
       | in-Assign+else-is_name w ↦ w.fits-is ∙ w.is_name.ensures ∙ and_else _ _ _ (sym w.is_name.ensures ∙ w.if-is_name.false) refl ∙ fits_as i _ w.in-Assign.is
       | in-Always+then-is_name-2 w ↦ w.fits-is ∙ and_then _ _ _ (sym w.is_name-in-Always.ensures ∙ w.if-is_name-2.true) (w.stmts_fit.ensures ∙ ap (λ l. statements_fit 63 (plain_stmts l)) w.deref.ensures.value) ∙ fits_as i _ w.in-Always.is
       | in-Always+else-is_name-2 w ↦ w.fits-is ∙ w.is_name-in-Always.ensures ∙ and_else _ _ _ (sym w.is_name-in-Always.ensures ∙ w.if-is_name-2.false) refl ∙ fits_as i _ w.in-Always.is
-      | in-Wire2 w ↦ w.fits-is ∙ w.is_name-fits.ensures ∙ declared_fits i w.in-Wire.declared w.in-Wire.is ] in
+      | in-Wire2 w ↦ w.fits-is ∙ w.is_name-fits.ensures ∙ declared_fits i w.in-Wire.declared w.in-Wire.is
+    ] in
     at c.args.items.now c.loop-item.item-index i false _ c.loop-item-test.true c.item-item.is (sym c.if-not-fits.true ∙ e) c.loop-item.invariant
 
 pub loop-item-preserved : goal.loop-item-preserved
 loop-item-preserved c =
     let i = c.item-item.result in
-    let e : c.match-item.fits ≡ item_fits 64 (plain_item i) = elim c.match-item.branch
-      [ in-Assign+then-is_name w ↦ w.fits-is ∙ and_then _ _ _ (sym w.is_name.ensures ∙ w.if-is_name.true) w.expr_fits.ensures ∙ fits_as i _ w.in-Assign.is
+    let e : c.match-item.fits ≡ item_fits 64 (plain_item i) = elim c.match-item.branch [
+      | in-Assign+then-is_name w ↦ w.fits-is ∙ and_then _ _ _ (sym w.is_name.ensures ∙ w.if-is_name.true) w.expr_fits.ensures ∙ fits_as i _ w.in-Assign.is
       | in-Assign+else-is_name w ↦ w.fits-is ∙ w.is_name.ensures ∙ and_else _ _ _ (sym w.is_name.ensures ∙ w.if-is_name.false) refl ∙ fits_as i _ w.in-Assign.is
       | in-Always+then-is_name-2 w ↦ w.fits-is ∙ and_then _ _ _ (sym w.is_name-in-Always.ensures ∙ w.if-is_name-2.true) (w.stmts_fit.ensures ∙ ap (λ l. statements_fit 63 (plain_stmts l)) w.deref.ensures.value) ∙ fits_as i _ w.in-Always.is
       | in-Always+else-is_name-2 w ↦ w.fits-is ∙ w.is_name-in-Always.ensures ∙ and_else _ _ _ (sym w.is_name-in-Always.ensures ∙ w.if-is_name-2.false) refl ∙ fits_as i _ w.in-Always.is
-      | in-Wire2 w ↦ w.fits-is ∙ w.is_name-fits.ensures ∙ declared_fits i w.in-Wire.declared w.in-Wire.is ] in
+      | in-Wire2 w ↦ w.fits-is ∙ w.is_name-fits.ensures ∙ declared_fits i w.in-Wire.declared w.in-Wire.is
+    ] in
     at c.args.items.now c.loop-item.item-index i true _ c.loop-item-test.true c.item-item.is (sym c.if-not-fits.false ∙ e) c.loop-item.invariant
 
 pub returns : goal.returns

@@ -16,16 +16,16 @@ loop-item-preserved c =
     item_more (λ i. declared_by (plain_item i)) (λ is. item_declarations (map plain_item is)) m (map declaration c.match-declared_item.all.items) _ c.args.items.now c.loop-item.item-index c.item-item.result (λ y ys. refl)
     c.loop-item-test.true c.item-item.is
     (elim c.match-declared_item.branch [
-      in-Some+in_ok-push w ↦
-        ap (λ v. map declaration v.items) w.all-is
-        ∙ w.in_ok-push.ensures
-        ∙ ap (λ o. m ++ declares (option_map declaration o)) (sym w.in-Some.is)
-        ∙ ap (λ l. m ++ l) here
-    | in_default w ↦
-        ap (λ v. map declaration v.items) w.all-is
-        ∙ sym (append-nil m)
-        ∙ ap (λ o. m ++ declares (option_map declaration o)) (sym w.in_default.is)
-        ∙ ap (λ l. m ++ l) here
+      | in-Some+in_ok-push w ↦
+          ap (λ v. map declaration v.items) w.all-is
+          ∙ w.in_ok-push.ensures
+          ∙ ap (λ o. m ++ declares (option_map declaration o)) (sym w.in-Some.is)
+          ∙ ap (λ l. m ++ l) here
+      | in_default w ↦
+          ap (λ v. map declaration v.items) w.all-is
+          ∙ sym (append-nil m)
+          ∙ ap (λ o. m ++ declares (option_map declaration o)) (sym w.in_default.is)
+          ∙ ap (λ l. m ++ l) here
     ])
     c.loop-item.invariant
 

@@ -10,14 +10,14 @@ use Rattle.verilog_tree.proofs.Refusals.{tells_now}
 use Rattle.verilog_tree.proofs.rules.check_item.Goals as goal
 
 in_turn : (w : List ℕ → ℕ) (ds : List Declaration) (assigned : List ℕ → Bool) (set : List (List ℕ)) (i : ModuleItem) (ms : List Mention) → ms ≡ mentions i → break_behind w ds assigned set i ≡ first_of
-  (first_broken R.Known w ds set i ms
-  ∷ again ds assigned i
-  ∷ first_broken R.InRange w ds set i ms
-  ∷ item_widths w i
-  ∷ first_broken R.Assignable w ds set i ms
-  ∷ first_broken R.InOneBlock w ds set i ms
-  ∷ first_broken R.Clocked w ds set i ms
-  ∷ [])
+    (first_broken R.Known w ds set i ms
+    ∷ again ds assigned i
+    ∷ first_broken R.InRange w ds set i ms
+    ∷ item_widths w i
+    ∷ first_broken R.Assignable w ds set i ms
+    ∷ first_broken R.InOneBlock w ds set i ms
+    ∷ first_broken R.Clocked w ds set i ms
+    ∷ [])
 unfolding break_behind
 in_turn w ds assigned set i ms e = rw e refl
 

@@ -50,14 +50,13 @@ pub loop-item-preserved : goal.loop-item-preserved
 loop-item-preserved c =
     let b = c.loop-item.before in
     let tables = c.in_ok-pass.ensures in
-    let items = c.args.items.now in
-    (
+    let items = c.args.items.now in (
       sym (second _ _ c.in_ok-check_item.ensures)
-      ∙ sym (at_tables (width_of c.args.widths.now) b.declared _ b.assigned _ b.set _ items c.loop-item.item-index c.item-item.result c.loop-item-test.true c.item-item.is tables.declared tables.assigned tables.set)
-      ∙ c.loop-item.invariant.0,
+          ∙ sym (at_tables (width_of c.args.widths.now) b.declared _ b.assigned _ b.set _ items c.loop-item.item-index c.item-item.result c.loop-item-test.true c.item-item.is tables.declared tables.assigned tables.set)
+          ∙ c.loop-item.invariant.0,
       ap (λ n. all_assigned n (map plain_item (drop (c.loop-item.item-index + 1) items))) tables.assigned
-      ∙ sym (at_item (λ is'. all_assigned b.assigned (map plain_item is')) items c.loop-item.item-index c.item-item.result c.loop-item-test.true c.item-item.is)
-      ∙ c.loop-item.invariant.1,
+          ∙ sym (at_item (λ is'. all_assigned b.assigned (map plain_item is')) items c.loop-item.item-index c.item-item.result c.loop-item-test.true c.item-item.is)
+          ∙ c.loop-item.invariant.1,
     )
 
 pub returns-clause-refuses : goal.returns-clause-refuses

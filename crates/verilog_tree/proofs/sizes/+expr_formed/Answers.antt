@@ -42,17 +42,19 @@ expr_formed-returns-else-expr_formed t c =
 pub expr_formed-returns-then-expr_formed-3 : goal.expr_formed-returns-then-expr_formed-3
 expr_formed-returns-then-expr_formed-3 t c =
     choose_formed c.args.x.now c.in-Choose.c c.in-Choose.a c.in-Choose.b c.expr_formed-in-Choose.result c.if-expr_formed-2.value c.expr_formed-then-expr_formed-3.result c.in-Choose.is (c.expr_formed-in-Choose.ensures ∙ ap (λ (x : Expr). expression_formed (plain x)) c.deref-in-Choose.ensures)
-    (elim c.if-expr_formed-2.branch
-      [ expr_formed-then-expr_formed-2 w ↦ and_then _ _ _ w.if-expr_formed-2.true (w.value-is ∙ w.expr_formed-then-expr_formed-2.ensures ∙ ap (λ (x : Expr). expression_formed (plain x)) w.deref-then-expr_formed-2.ensures)
-      | expr_formed-else-expr_formed-2 w ↦ and_else _ _ _ w.if-expr_formed-2.false w.value-is ])
+    (elim c.if-expr_formed-2.branch [
+      | expr_formed-then-expr_formed-2 w ↦ and_then _ _ _ w.if-expr_formed-2.true (w.value-is ∙ w.expr_formed-then-expr_formed-2.ensures ∙ ap (λ (x : Expr). expression_formed (plain x)) w.deref-then-expr_formed-2.ensures)
+      | expr_formed-else-expr_formed-2 w ↦ and_else _ _ _ w.if-expr_formed-2.false w.value-is
+    ])
     (and_then _ _ _ c.if-expr_formed-3.true (c.expr_formed-then-expr_formed-3.ensures ∙ ap (λ (x : Expr). expression_formed (plain x)) c.deref-then-expr_formed-3.ensures))
 
 pub expr_formed-returns-else-expr_formed-3 : goal.expr_formed-returns-else-expr_formed-3
 expr_formed-returns-else-expr_formed-3 t c =
     choose_formed c.args.x.now c.in-Choose.c c.in-Choose.a c.in-Choose.b c.expr_formed-in-Choose.result c.if-expr_formed-2.value c.if-expr_formed-2.value c.in-Choose.is (c.expr_formed-in-Choose.ensures ∙ ap (λ (x : Expr). expression_formed (plain x)) c.deref-in-Choose.ensures)
-    (elim c.if-expr_formed-2.branch
-      [ expr_formed-then-expr_formed-2 w ↦ and_then _ _ _ w.if-expr_formed-2.true (w.value-is ∙ w.expr_formed-then-expr_formed-2.ensures ∙ ap (λ (x : Expr). expression_formed (plain x)) w.deref-then-expr_formed-2.ensures)
-      | expr_formed-else-expr_formed-2 w ↦ and_else _ _ _ w.if-expr_formed-2.false w.value-is ])
+    (elim c.if-expr_formed-2.branch [
+      | expr_formed-then-expr_formed-2 w ↦ and_then _ _ _ w.if-expr_formed-2.true (w.value-is ∙ w.expr_formed-then-expr_formed-2.ensures ∙ ap (λ (x : Expr). expression_formed (plain x)) w.deref-then-expr_formed-2.ensures)
+      | expr_formed-else-expr_formed-2 w ↦ and_else _ _ _ w.if-expr_formed-2.false w.value-is
+    ])
     (and_else _ _ _ c.if-expr_formed-3.false refl)
 
 pub exprs_formed-loop-part-init : goal.exprs_formed-loop-part-init

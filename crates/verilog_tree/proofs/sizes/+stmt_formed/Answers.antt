@@ -44,33 +44,37 @@ stmt_formed-returns-in-Set t c = c.expr_formed.ensures ∙ sym (ap statement_for
 pub stmt_formed-returns-then-stmts_formed : goal.stmt_formed-returns-then-stmts_formed
 stmt_formed-returns-then-stmts_formed t c =
     if_formed c.args.s.now c.in-If.c c.in-If.a c.in-If.b c.expr_formed-in-If.result c.if-expr_formed.value c.stmts_formed-then-stmts_formed.result c.in-If.is c.expr_formed-in-If.ensures
-    (elim c.if-expr_formed.branch
-      [ stmt_formed-then-expr_formed w ↦ and_then _ _ _ w.if-expr_formed.true (w.value-is ∙ w.stmts_formed.ensures ∙ ap (λ l. statements_formed (plain_stmts l)) w.deref.ensures.value)
-      | stmt_formed-else-expr_formed w ↦ and_else _ _ _ w.if-expr_formed.false w.value-is ])
+    (elim c.if-expr_formed.branch [
+      | stmt_formed-then-expr_formed w ↦ and_then _ _ _ w.if-expr_formed.true (w.value-is ∙ w.stmts_formed.ensures ∙ ap (λ l. statements_formed (plain_stmts l)) w.deref.ensures.value)
+      | stmt_formed-else-expr_formed w ↦ and_else _ _ _ w.if-expr_formed.false w.value-is
+    ])
     (and_then _ _ _ c.if-stmts_formed.true (c.stmts_formed-then-stmts_formed.ensures ∙ ap (λ l. statements_formed (plain_stmts l)) c.deref-then-stmts_formed.ensures.value))
 
 pub stmt_formed-returns-else-stmts_formed : goal.stmt_formed-returns-else-stmts_formed
 stmt_formed-returns-else-stmts_formed t c =
     if_formed c.args.s.now c.in-If.c c.in-If.a c.in-If.b c.expr_formed-in-If.result c.if-expr_formed.value c.if-expr_formed.value c.in-If.is c.expr_formed-in-If.ensures
-    (elim c.if-expr_formed.branch
-      [ stmt_formed-then-expr_formed w ↦ and_then _ _ _ w.if-expr_formed.true (w.value-is ∙ w.stmts_formed.ensures ∙ ap (λ l. statements_formed (plain_stmts l)) w.deref.ensures.value)
-      | stmt_formed-else-expr_formed w ↦ and_else _ _ _ w.if-expr_formed.false w.value-is ])
+    (elim c.if-expr_formed.branch [
+      | stmt_formed-then-expr_formed w ↦ and_then _ _ _ w.if-expr_formed.true (w.value-is ∙ w.stmts_formed.ensures ∙ ap (λ l. statements_formed (plain_stmts l)) w.deref.ensures.value)
+      | stmt_formed-else-expr_formed w ↦ and_else _ _ _ w.if-expr_formed.false w.value-is
+    ])
     (and_else _ _ _ c.if-stmts_formed.false refl)
 
 pub stmt_formed-returns-then-arms_formed : goal.stmt_formed-returns-then-arms_formed
 stmt_formed-returns-then-arms_formed t c =
     case_formed c.args.s.now c.in-Case.x c.in-Case.choices c.in-Case.other c.expr_formed-in-Case.result c.if-expr_formed-2.value c.stmts_formed-then-arms_formed.result c.in-Case.is c.expr_formed-in-Case.ensures
-    (elim c.if-expr_formed-2.branch
-      [ stmt_formed-then-expr_formed-2 w ↦ and_then _ _ _ w.if-expr_formed-2.true (w.value-is ∙ w.arms_formed.ensures ∙ ap (λ l. has_arm (arms (map plain_arm l)) && arms_formed (arms (map plain_arm l))) w.deref-then-expr_formed-2.ensures.value)
-      | stmt_formed-else-expr_formed-2 w ↦ and_else _ _ _ w.if-expr_formed-2.false w.value-is ])
+    (elim c.if-expr_formed-2.branch [
+      | stmt_formed-then-expr_formed-2 w ↦ and_then _ _ _ w.if-expr_formed-2.true (w.value-is ∙ w.arms_formed.ensures ∙ ap (λ l. has_arm (arms (map plain_arm l)) && arms_formed (arms (map plain_arm l))) w.deref-then-expr_formed-2.ensures.value)
+      | stmt_formed-else-expr_formed-2 w ↦ and_else _ _ _ w.if-expr_formed-2.false w.value-is
+    ])
     (and_then _ _ _ c.if-arms_formed.true (c.stmts_formed-then-arms_formed.ensures ∙ ap (λ l. statements_formed (plain_stmts l)) c.deref-then-arms_formed.ensures.value))
 
 pub stmt_formed-returns-else-arms_formed : goal.stmt_formed-returns-else-arms_formed
 stmt_formed-returns-else-arms_formed t c =
     case_formed c.args.s.now c.in-Case.x c.in-Case.choices c.in-Case.other c.expr_formed-in-Case.result c.if-expr_formed-2.value c.if-expr_formed-2.value c.in-Case.is c.expr_formed-in-Case.ensures
-    (elim c.if-expr_formed-2.branch
-      [ stmt_formed-then-expr_formed-2 w ↦ and_then _ _ _ w.if-expr_formed-2.true (w.value-is ∙ w.arms_formed.ensures ∙ ap (λ l. has_arm (arms (map plain_arm l)) && arms_formed (arms (map plain_arm l))) w.deref-then-expr_formed-2.ensures.value)
-      | stmt_formed-else-expr_formed-2 w ↦ and_else _ _ _ w.if-expr_formed-2.false w.value-is ])
+    (elim c.if-expr_formed-2.branch [
+      | stmt_formed-then-expr_formed-2 w ↦ and_then _ _ _ w.if-expr_formed-2.true (w.value-is ∙ w.arms_formed.ensures ∙ ap (λ l. has_arm (arms (map plain_arm l)) && arms_formed (arms (map plain_arm l))) w.deref-then-expr_formed-2.ensures.value)
+      | stmt_formed-else-expr_formed-2 w ↦ and_else _ _ _ w.if-expr_formed-2.false w.value-is
+    ])
     (and_else _ _ _ c.if-arms_formed.false refl)
 
 pub stmts_formed-loop-s-init : goal.stmts_formed-loop-s-init
@@ -91,17 +95,19 @@ arms_formed-loop-arm-init t c = refl
 pub arms_formed-returns-then-not-stmts_formed : goal.arms_formed-returns-then-not-stmts_formed
 arms_formed-returns-then-not-stmts_formed t c =
     sym (and_right _ _ (at_arm c.args.choices.now c.loop-arm.arm-index c.arm-item.result c.labels_formed.result false _ c.loop-arm-test.true c.arm-item.is (c.labels_formed.ensures ∙ ap (λ l. has_label l && labels_formed l) c.deref.ensures.value)
-    (sym c.if-not-stmts_formed.true ∙ elim c.if-labels_formed.branch
-      [ arms_formed-then-labels_formed w ↦ and_then _ _ _ w.if-labels_formed.true (w.value-is ∙ w.stmts_formed.ensures ∙ ap (λ l. statements_formed (plain_stmts l)) w.deref-then-labels_formed.ensures.value)
-      | arms_formed-else-labels_formed w ↦ and_else _ _ _ w.if-labels_formed.false w.value-is ])
+    (sym c.if-not-stmts_formed.true ∙ elim c.if-labels_formed.branch [
+      | arms_formed-then-labels_formed w ↦ and_then _ _ _ w.if-labels_formed.true (w.value-is ∙ w.stmts_formed.ensures ∙ ap (λ l. statements_formed (plain_stmts l)) w.deref-then-labels_formed.ensures.value)
+      | arms_formed-else-labels_formed w ↦ and_else _ _ _ w.if-labels_formed.false w.value-is
+    ])
     c.loop-arm.invariant))
 
 pub arms_formed-loop-arm-preserved : goal.arms_formed-loop-arm-preserved
 arms_formed-loop-arm-preserved t c =
     at_arm c.args.choices.now c.loop-arm.arm-index c.arm-item.result c.labels_formed.result true _ c.loop-arm-test.true c.arm-item.is (c.labels_formed.ensures ∙ ap (λ l. has_label l && labels_formed l) c.deref.ensures.value)
-    (sym c.if-not-stmts_formed.false ∙ elim c.if-labels_formed.branch
-      [ arms_formed-then-labels_formed w ↦ and_then _ _ _ w.if-labels_formed.true (w.value-is ∙ w.stmts_formed.ensures ∙ ap (λ l. statements_formed (plain_stmts l)) w.deref-then-labels_formed.ensures.value)
-      | arms_formed-else-labels_formed w ↦ and_else _ _ _ w.if-labels_formed.false w.value-is ])
+    (sym c.if-not-stmts_formed.false ∙ elim c.if-labels_formed.branch [
+      | arms_formed-then-labels_formed w ↦ and_then _ _ _ w.if-labels_formed.true (w.value-is ∙ w.stmts_formed.ensures ∙ ap (λ l. statements_formed (plain_stmts l)) w.deref-then-labels_formed.ensures.value)
+      | arms_formed-else-labels_formed w ↦ and_else _ _ _ w.if-labels_formed.false w.value-is
+    ])
     c.loop-arm.invariant
 
 pub arms_formed-returns : goal.arms_formed-returns

@@ -39,8 +39,8 @@ loop-byte-preserved c =
     let k = c.physical_of.result in (
       length-set c.loop-byte.high byte _ ∙ c.loop-byte.invariant.0,
       more c.args.scramble.now c.loop-byte.high byte k c.args.zeros
-      (inside byte c.args.last _ c.loop-byte.invariant.0 c.loop-byte-test.true c.requires.byte) c.loop-byte.invariant.1
-      (record { below = c.physical_of.ensures.fits; back = c.physical_of.ensures.back ∙ reduced byte c.args.last c.loop-byte-test.true c.requires.byte }),
+          (inside byte c.args.last _ c.loop-byte.invariant.0 c.loop-byte-test.true c.requires.byte) c.loop-byte.invariant.1
+          (record { below = c.physical_of.ensures.fits; back = c.physical_of.ensures.back ∙ reduced byte c.args.last c.loop-byte-test.true c.requires.byte }),
     )
 
 under : (x last byte : ℕ) → x ≤ last → last + 1 ≤ byte → x < byte

@@ -56,8 +56,8 @@ returns-in_err-check_place-clause-err c = same_err c.from_residual.result refl
 
 pub returns-in_err-check_place-clause-fits : goal.returns-in_err-check_place-clause-fits
 returns-in_err-check_place-clause-fits c = (
-    λ is. absurd (never_both c.from_residual.result c.from_residual.ensures.0 is),
-    λ fits. absurd (true≢false (sym (c.in_err-check_place.ensures.fits.1 (subst (λ (s : ArrayState). FitsBox s.shape c.args.planted.now) (sym c.self.view_is) fits)))),
+  λ is. absurd (never_both c.from_residual.result c.from_residual.ensures.0 is),
+  λ fits. absurd (true≢false (sym (c.in_err-check_place.ensures.fits.1 (subst (λ (s : ArrayState). FitsBox s.shape c.args.planted.now) (sym c.self.view_is) fits)))),
 )
 
 pub returns-in_err-check_place-clause-bad_place : goal.returns-in_err-check_place-clause-bad_place
