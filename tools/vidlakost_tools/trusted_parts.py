@@ -246,6 +246,7 @@ says which refusal comes first.
             "escape_array/*",
             "coverage/*",
             "dynamic_prover/*",
+            "report_lines/*",
             "report/*",
         ),
     ),

@@ -51,7 +51,8 @@ pub use Rattle.std.specs.Option.{IsSome, option_copied, option_map}
 pub use Rattle.std.specs.Prelude.{MatchOption}
 pub use Rattle.std.specs.List.{AllByRecursion, range_with_len}
 pub use Rattle.report.proofs.OneReport.{detects_one, text_one}
-pub use Rattle.report.specs.Report.{DetectsOf, IsMixedReport, total_line}
+pub use Rattle.report.specs.Report.{DetectsOf, IsMixedReport}
+pub use Rattle.report_lines.specs.Lines.{total_line}
 pub use Rattle.verilog_cycle.specs.Design.{DesignView, Elaborates, Fit, IsNew, NoLoop, Refused, registers_of}
 pub use Rattle.verilog_tree.specs.Grammar.{ByPrecedence, Parenthesised}
 pub use Rattle.word_device.specs.Chips.{FitsAggPlace, FitsMemory}

@@ -12,7 +12,8 @@ use Rattle.verilog_emit.specs.Written.{IsTextOf}
 use Rattle.self_test.specs.SelfTest.{SelfTest}
 use Rattle.self_test.specs.Expected.{ShowsExpected}
 use Rattle.self_test.specs.Numbers.{ShowsNumbers}
-use Rattle.report.specs.Report.{IsMixedReport, DetectsOf, total_line}
+use Rattle.report.specs.Report.{IsMixedReport, DetectsOf}
+use Rattle.report_lines.specs.Lines.{total_line}
 use Rattle.bist_endings.specs.Words.{Words, word}
 use Rattle.bist_endings.specs.Ending.{found_status}
 use Rattle.bist_inputs.specs.Inputs.{input_limit}

@@ -5,7 +5,8 @@ use Rattle.march_core.specs.March.{MarchElement}
 use Rattle.memory_desc.specs.Descriptions.{Description}
 use Rattle.dynamic_core.specs.declared.item.Item.{Item}
 use Rattle.report.specs.Items.{DetectsItem}
-use Rattle.report.specs.Report.{IsMixedReport, DetectsOf, total_line}
+use Rattle.report.specs.Report.{IsMixedReport, DetectsOf}
+use Rattle.report_lines.specs.Lines.{total_line}
 
 -- some item of the list isn't detected, or each is
 abbrev pub SomeEscapes : List MarchElement → List Item → Bool → Type 0

@@ -9,7 +9,8 @@ use bist_bits::NoMemory;
 use dynamic_core::Item;
 use march_core::March;
 use memory_desc::Memory;
-use report::{count_covered, judge_items, total_text, write_judged};
+use report::{count_covered, judge_items, write_judged};
+use report_lines::total_text;
 use std::alloc::Global;
 
 /// A report, its last line, how many items are covered, and whether some escapes.

@@ -7,7 +7,8 @@ use dynamic_core::Item;
 use fault_core::{Prim, PrimFault};
 use march_core::March;
 use march_syntax::read_march;
-use report::{count_covered, judge_items, total_text, write_judged, write_mixed, write_report};
+use report::{count_covered, judge_items, write_judged, write_mixed, write_report};
+use report_lines::total_text;
 use std::alloc::Global;
 use std::test::Fail;
 

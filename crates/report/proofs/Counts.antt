@@ -12,7 +12,8 @@ use Rattle.dynamic_prover.specs.declared.escape.DynVerdict.{DynVerdict}
 use Rattle.report.specs.declared.class_lines.ItemClass.{ItemClass}
 use Rattle.report.specs.declared.judged.JudgedItem.{JudgedItem}
 use Rattle.report.specs.Items.{DetectsItem, IsJudged, AreJudged, item_of, is_covered, covered_count}
-use Rattle.report.specs.Report.{march_line, memory_line, total_line, judged_line, judged_lines, is_in_class, is_covered_in, class_size, class_covered, class_lines, class_order, report_text, DetectsOf, IsLine, AreLines, AreClassLines, IsMixedReport}
+use Rattle.report_lines.specs.Lines.{march_line, memory_line, total_line}
+use Rattle.report.specs.Report.{judged_line, judged_lines, is_in_class, is_covered_in, class_size, class_covered, class_lines, class_order, report_text, DetectsOf, IsLine, AreLines, AreClassLines, IsMixedReport}
 
 -- what a right verdict says: that the item is detected, where it is covered, and else that it isn't
 abbrev pub TellsDetects : List MarchElement → Item → Bool → Type 0

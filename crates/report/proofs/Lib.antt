@@ -1,6 +1,5 @@
-pub mod ReportLines
+pub mod ClassLines
 pub mod Counts
-pub mod CountSteps
 pub mod PlainItems
 pub mod ClassOrder
 pub mod OneReport

@@ -18,7 +18,8 @@ use Rattle.dynamic_core.specs.Detecting.{FitsDynAgg}
 use Rattle.dynamic_prover.specs.declared.escape.DynEscape.{DynEscape}
 use Rattle.dynamic_prover.specs.Escapes.{DynArray, PassesDyn, address_number, digit_of, digits_of, order_of_array, IsInOrder, array_of, LeastDyn}
 use Rattle.report.specs.declared.class_lines.ItemClass.{ItemClass}
-use Rattle.report.specs.Report.{places_text, passing_text, escape_text, dyn_escape_text, escape_line, class_line, class_size, class_order, total_line, memory_line, march_line, DetectsOf, IsEscapeText, IsLine, AreLines, AreClassLines, IsMixedReport}
+use Rattle.report_lines.specs.Lines.{places_text, passing_text, march_line, memory_line, total_line}
+use Rattle.report.specs.Report.{escape_text, dyn_escape_text, escape_line, class_line, class_size, class_order, DetectsOf, IsEscapeText, IsLine, AreLines, AreClassLines, IsMixedReport}
 
 -- ---- the least array of two cells
 

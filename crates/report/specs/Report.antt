@@ -1,18 +1,13 @@
 -- Trusted. The report of verdicts: the march, the memory where there is one, one line for each item of the list, one for each class that
 -- occurs, and the total. Every line ends with a line feed.
-use Rattle.std.specs.Prelude.{◌≡◌, ◌-◌, ◌+◌, ◌++◌, ◌&&◌, ◌⊎◌, ℕ, zero, suc, Bool, if◌then◌else◌, Option, Some, None, List, [], ◌∷◌, length, filter, count_by, map, take, codes, decimal}
+use Rattle.std.specs.Prelude.{◌≡◌, ◌+◌, ◌++◌, ◌&&◌, ◌⊎◌, ℕ, zero, suc, Bool, if◌then◌else◌, Option, List, [], ◌∷◌, length, filter, count_by, map, take, codes, decimal}
 use Rattle.std.specs.List.{flat_map}
 use Rattle.std.specs.Str.{bytes_eq}
 use Rattle.fault_core.specs.declared.table.Class.TheVariants.{SF, TF, WDF, RDF, DRDF, IRF, CFst, CFds, CFtr, CFwd, CFrd, CFdr, CFir, DRF}
 use Rattle.fault_core.specs.Classes.{class_by_parts}
 use Rattle.fault_syntax.specs.Names.{class_text as list_text}
-use Rattle.fault_syntax.specs.PrimText.{bit_text}
-use Rattle.fault_syntax.specs.Printed.{printed as printed_prim}
 use Rattle.march_core.specs.March.{MarchElement}
-use Rattle.march_core.specs.Visits.{Direction, Upward, Downward, directions_of}
-use Rattle.march_syntax.specs.Printed.{printed}
 use Rattle.memory_desc.specs.Descriptions.{Description}
-use Rattle.word_march.specs.Commands.{command_count}
 use Rattle.escape_array.specs.declared.escape.EscapeArray.{EscapeArray}
 use Rattle.escape_array.specs.Escapes.{IsLeastEscape}
 use Rattle.coverage.specs.declared.verdict.Verdict.{Verdict}
@@ -23,6 +18,7 @@ use Rattle.dynamic_core.specs.Printed.{printed_dynamic}
 use Rattle.dynamic_prover.specs.declared.escape.DynEscape.{DynEscape}
 use Rattle.dynamic_prover.specs.declared.escape.DynVerdict.{DynVerdict}
 use Rattle.dynamic_prover.specs.Escapes.{LeastDyn}
+use Rattle.report_lines.specs.Lines.{march_line, memory_line, total_line, prim_text, places_text, passing_text}
 use Rattle.report.specs.declared.class_lines.ItemClass.{ItemClass}
 use Rattle.report.specs.declared.class_lines.ItemClass.TheVariants.{Static, DynOne, DynTwo}
 use Rattle.report.specs.declared.judged.JudgedItem.{JudgedItem}
@@ -68,38 +64,10 @@ item_class (Dyn p) = if has_aggressor p then DynTwo else DynOne
 abbrev pub is_in_class : ItemClass → Item → Bool
 is_in_class c item = bytes_eq (class_text (item_class item)) (class_text c)
 
--- an item in its printed form
-abbrev pub printed_item : Item → List ℕ
-printed_item (Plain p) = printed_prim p
-printed_item (Dyn p) = printed_dynamic p
-
 -- an item and its class
 abbrev pub item_text : Item → List ℕ
-item_text item = printed_item item ++ codes " " ++ class_text (item_class item)
-
-abbrev pub aggressor_text : Option ℕ → List ℕ
-aggressor_text None = codes "none"
-aggressor_text (Some a) = decimal a
-
--- a digit for each cell, cell 0 first
-abbrev pub content_text : List Bool → List ℕ
-content_text content = flat_map bit_text content
-
-abbrev pub letter : Direction → List ℕ
-letter Upward = codes "u"
-letter Downward = codes "d"
-
--- a letter for each element
-unfoldable pub directions_text : ℕ → ℕ → List ℕ
-directions_text word size = flat_map letter (directions_of word size)
-
--- where an instance stands
-abbrev pub places_text : Option ℕ → ℕ → List ℕ
-places_text agg vic = codes " aggressor " ++ aggressor_text agg ++ codes " victim " ++ decimal vic
-
--- what an array holds, and the directions in which the march passes
-abbrev pub passing_text : ℕ → List Bool → ℕ → List ℕ
-passing_text size content directions = codes " content " ++ content_text content ++ codes " directions " ++ directions_text directions size
+item_text (Plain p) = prim_text p
+item_text (Dyn p) = printed_dynamic p ++ codes " " ++ class_text (item_class (Dyn p))
 
 -- an escape of a march with so many elements: its content is that before closing
 abbrev pub escape_text : ℕ → EscapeArray → List ℕ
@@ -151,28 +119,6 @@ class_line c (suc n) covered = codes "class " ++ class_text c ++ codes " " ++ de
 -- the lines of these classes
 abbrev pub class_lines : List ItemClass → List JudgedItem → List ℕ
 class_lines classes judged = flat_map (λ c. class_line c (class_size c (map item_of judged)) (class_covered c judged)) classes
-
--- the number of items, and how many of them are covered
-abbrev pub total_line : ℕ → ℕ → List ℕ
-total_line count covered =
-    codes "total " ++ decimal count ++ codes " covered " ++ decimal covered ++ codes " escapes " ++ decimal (count - covered) ++ codes "\n"
-
--- a memory's name and size
-abbrev pub size_text : Description → List ℕ
-size_text d = codes "memory " ++ d.name ++ codes " words " ++ decimal d.words ++ codes " bits " ++ decimal d.bits
-
--- how often the march runs on it, and with how many commands in all
-abbrev pub work_text : List MarchElement → Description → List ℕ
-work_text march d = codes " backgrounds " ++ decimal (length d.backgrounds) ++ codes " commands " ++ decimal (command_count march d)
-
--- the line of the memory, where there is one
-abbrev pub memory_line : List MarchElement → Option Description → List ℕ
-memory_line march None = []
-memory_line march (Some d) = size_text d ++ work_text march d ++ codes "\n"
-
--- the line of the march
-abbrev pub march_line : List MarchElement → List ℕ
-march_line march = codes "march " ++ printed march ++ codes "\n"
 
 -- the lines of judged items as a report
 abbrev pub report_text : List MarchElement → Option Description → List JudgedItem → List ℕ

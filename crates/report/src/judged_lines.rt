@@ -1,28 +1,17 @@
-ghost use Rattle.std.specs.Prelude.{◌≡◌, ◌<◌, ◌≤◌, ◌++◌, OnOk, codes, length, take};
-ghost use Rattle.march_core.specs.Visits.{direction_at};
-ghost use Rattle.dynamic_core.specs.declared.item.Item.TheVariants.{Plain, Dyn};
-ghost use Rattle.fault_syntax.specs.PrimText.{bit_text};
-ghost use Rattle.report.specs.Report.{letter, item_text, aggressor_text, places_text, passing_text, escape_text, dyn_escape_text, judged_line, judged_lines};
+ghost use Rattle.std.specs.Prelude.{◌≡◌, ◌≤◌, ◌++◌, OnOk, codes, length, take};
+ghost use Rattle.dynamic_core.specs.declared.item.Item.TheVariants.{Dyn};
+ghost use Rattle.report.specs.Report.{item_text, escape_text, dyn_escape_text, judged_line, judged_lines};
 
-use crate::class_lines::{ItemClass, class_name, dyn_class};
+use crate::class_lines::{class_name, dyn_class};
 use crate::judged::JudgedItem;
 use bist_bits::NoMemory;
-use bist_text::{put, put_between, put_decimal, put_number_between};
+use bist_text::{put, put_between, put_number_between};
 use coverage::Verdict;
 use dynamic_core::{DynPrim, print_dyn};
 use dynamic_prover::{DynEscape, DynVerdict};
 use escape_array::EscapeArray;
-use fault_core::{Prim, class_of};
-use fault_syntax::print_prim;
-use march_core::is_down;
-
-/// Appends a verdict, a static primitive and its class.
-fn write_prim(out: &mut Vec<u8>, verdict: &[u8], prim: &Prim) -> Result<(), NoMemory>
-    ensures { OnOk result (out.new.items ≡ out.old.items ++ (verdict.now ++ item_text (Plain prim.now))) }
-{
-    put_between(out, verdict, print_prim(prim).as_str().as_bytes(), b" ")?;
-    put(out, class_name(ItemClass::Static(class_of(prim))))
-}
+use fault_core::Prim;
+use report_lines::{write_passing, write_places, write_prim};
 
 /// Appends a verdict, a dynamic primitive and its class.
 fn write_dyn(out: &mut Vec<u8>, verdict: &[u8], prim: &DynPrim) -> Result<(), NoMemory>
@@ -30,64 +19,6 @@ fn write_dyn(out: &mut Vec<u8>, verdict: &[u8], prim: &DynPrim) -> Result<(), No
 {
     put_between(out, verdict, print_dyn(prim).as_str().as_bytes(), b" ")?;
     put(out, class_name(dyn_class(prim)))
-}
-
-fn write_aggressor(out: &mut Vec<u8>, agg: Option<u8>) -> Result<(), NoMemory>
-    ensures { OnOk result (out.new.items ≡ out.old.items ++ (codes " aggressor " ++ aggressor_text agg ++ codes " victim ")) }
-{
-    match agg {
-        None => put(out, b" aggressor none victim "),
-        Some(cell) => put_number_between(out, b" aggressor ", u64::from(cell), b" victim "),
-    }
-}
-
-fn digit(bit: bool) -> &'static [u8]
-    ensures { result.now ≡ bit_text bit }
-{
-    if bit { b"1" } else { b"0" }
-}
-
-/// The letter of an element in a direction word.
-#[tactic(auto, unfolding(march_core::specs::Visits::direction_at))]
-fn letter_at(directions: u64, element: usize) -> &'static [u8]
-    requires { element < 64 }
-    ensures { result.now ≡ letter (direction_at directions element) }
-{
-    if is_down(directions, element) {
-        b"d"
-    } else {
-        b"u"
-    }
-}
-
-/// Appends where an instance stands.
-fn write_places(out: &mut Vec<u8>, agg: Option<u8>, vic: u8) -> Result<(), NoMemory>
-    ensures { OnOk result (out.new.items ≡ out.old.items ++ places_text agg vic) }
-{
-    write_aggressor(out, agg)?;
-    put_decimal(out, u64::from(vic))
-}
-
-/// Appends what the cells of an array hold, a digit for each, and the directions in which a march with so many elements
-/// passes, a letter for each.
-fn write_passing(
-    out: &mut Vec<u8>,
-    content: &[bool],
-    directions: u64,
-    size: usize,
-) -> Result<(), NoMemory>
-    requires { size ≤ 64 }
-    ensures { OnOk result (out.new.items ≡ out.old.items ++ passing_text size content.now directions) }
-{
-    put(out, b" content ")?;
-    for bit in content {
-        put(out, digit(*bit))?;
-    }
-    put(out, b" directions ")?;
-    for element in 0..size {
-        put(out, letter_at(directions, element))?;
-    }
-    Ok(())
 }
 
 /// Appends an escape of a march with so many elements.

@@ -3,7 +3,8 @@
 //! ```
 //! use dynamic_core::read_items;
 //! use march_syntax::read_march;
-//! use report::{count_covered, judge_items, total_text};
+//! use report::{count_covered, judge_items};
+//! use report_lines::total_text;
 //!
 //! let march = read_march(b"{any(w0);up(r0,w1);down(r1,w0)}")?;
 //! let judged = judge_items(rt.alloc(), &march, &read_items(rt.alloc(), b"TF\n")?)?;
@@ -18,7 +19,6 @@ mod class_lines;
 mod judged;
 mod judged_lines;
 mod laws;
-mod memory_line;
 mod one_text;
 mod same;
 mod total;
@@ -28,6 +28,6 @@ mod write;
 pub use judged::{JudgedItem, judge_items};
 pub use laws::classes_in_order;
 pub use one_text::report_is_one;
-pub use total::{count_covered, total_text};
+pub use total::count_covered;
 pub use verdicts::write_report;
 pub use write::{write_judged, write_mixed};

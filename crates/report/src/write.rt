@@ -1,28 +1,19 @@
-ghost use Rattle.std.specs.Prelude.{◌≡◌, ◌++◌, OnOk, IfOk, map};
+ghost use Rattle.std.specs.Prelude.{◌≡◌, IfOk, map};
 ghost use Rattle.std.specs.List.{AllByRecursion};
 ghost use Rattle.std.specs.Option.{option_copied};
 ghost use Rattle.report.specs.Items.{IsJudged, item_of};
-ghost use Rattle.report.specs.Report.{march_line, report_text, IsMixedReport};
+ghost use Rattle.report.specs.Report.{report_text, IsMixedReport};
 
 use crate::class_lines::write_classes;
 use crate::judged::{JudgedItem, judge_items};
 use crate::judged_lines::write_lines;
-use crate::memory_line::write_memory;
-use crate::total::{count_covered, write_total};
+use crate::total::count_covered;
 use bist_bits::NoMemory;
-use bist_text::put_between;
 use dynamic_core::Item;
 use march_core::March;
-use march_syntax::print_march;
 use memory_desc::Memory;
+use report_lines::{write_march, write_memory, write_total};
 use std::alloc::Global;
-
-/// Appends the line of the march.
-fn write_march(alloc: Global, out: &mut Vec<u8>, march: &March) -> Result<(), NoMemory>
-    ensures { OnOk result (out.new.items ≡ out.old.items ++ march_line march.now) }
-{
-    put_between(out, b"march ", print_march(alloc, march)?.as_slice(), b"\n")
-}
 
 /// The report: the march, the memory where one is given, one line for each judged item in their order, one for each
 /// class that occurs, and the total. Every line ends with a line feed. The only refusal is want of memory.

@@ -1,6 +1,6 @@
 use Rattle.bist_app.proofs.Common.{ap, ◌∙◌, sym, subst, length, nat_lt, option_copied}
 use Rattle.report.specs.Items.{AreJudged}
-use Rattle.report.specs.Report.{total_line}
+use Rattle.report_lines.specs.Lines.{total_line}
 use Rattle.bist_app.proofs.Judging.{reports_of, covered_of}
 use Rattle.bist_app.proofs.reporting.report_list.Goals as goal
 

@@ -5,7 +5,7 @@ use Rattle.std.proofs.lemmas.List.{take_all}
 use Rattle.report.specs.Items.{item_of}
 use Rattle.report.specs.Report.{is_in_class, is_covered_in, class_covered}
 use Rattle.report.proofs.Counts.{class_size_of}
-use Rattle.report.proofs.CountSteps.{counted_more, one_at_most}
+use Rattle.report_lines.proofs.CountSteps.{counted_more, one_at_most}
 use Rattle.report.proofs.class_lines.count_class.Goals as goal
 
 pub overflow_add-count : goal.overflow_add-count

@@ -1,5 +1,5 @@
 use Rattle.std.proofs.Common.{◌≢◌, ◌<◌, ℕ, ap, sym, codes, ◌∙◌, ◌++◌, arith}
-use Rattle.report.proofs.ReportLines.{class_written}
+use Rattle.report.proofs.ClassLines.{class_written}
 use Rattle.report.proofs.class_lines.write_class.Goals as goal
 
 some : (n : ℕ) → n ≢ 0 → 0 < n

@@ -4,7 +4,7 @@ use Rattle.report.specs.declared.class_lines.ItemClass.{ItemClass}
 use Rattle.report.specs.declared.class_lines.ItemClass.TheVariants.{Static}
 use Rattle.report.specs.Items.{item_of}
 use Rattle.report.specs.Report.{class_line, class_size, class_covered, class_lines, class_order}
-use Rattle.report.proofs.ReportLines.{class_line_more}
+use Rattle.report.proofs.ClassLines.{class_line_more}
 use Rattle.report.proofs.class_lines.write_classes.Goals as goal
 
 pub loop-class-preserved : goal.loop-class-preserved

@@ -1,6 +1,6 @@
 use Rattle.std.proofs.Common.{◌∙◌}
 use Rattle.report.specs.Report.{judged_line}
-use Rattle.report.proofs.ReportLines.{text_more, all_texts}
+use Rattle.report_lines.proofs.LinesGrow.{text_more, all_texts}
 use Rattle.report.proofs.judged_lines.write_lines.Goals as goal
 
 pub loop-item-preserved : goal.loop-item-preserved

@@ -2,7 +2,7 @@ use Rattle.std.proofs.Common.{◌≤◌, ap, sym, ◌∙◌, arith}
 use Rattle.std.specs.Int.{from_bool}
 use Rattle.std.proofs.lemmas.List.{take_all}
 use Rattle.report.specs.Items.{is_covered, covered_count}
-use Rattle.report.proofs.CountSteps.{counted_more, one_at_most}
+use Rattle.report_lines.proofs.CountSteps.{counted_more, one_at_most}
 use Rattle.report.proofs.total.count_covered.Goals as goal
 
 pub overflow_add-count : goal.overflow_add-count

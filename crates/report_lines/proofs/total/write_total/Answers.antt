@@ -1,5 +1,5 @@
-use Rattle.report.proofs.ReportLines.{total_written}
-use Rattle.report.proofs.total.write_total.Goals as goal
+use Rattle.report_lines.proofs.LinesGrow.{total_written}
+use Rattle.report_lines.proofs.total.write_total.Goals as goal
 
 pub returns : goal.returns
 returns c =

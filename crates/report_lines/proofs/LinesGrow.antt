@@ -1,17 +1,12 @@
 -- Texts that grow by one line, or by one letter.
-use Rattle.std.proofs.Common.{◌≡◌, ◌+◌, ◌-◌, ◌<◌, ◌≤◌, ℕ, List, [], ◌∷◌, ◌++◌, map, take, get_or, length, Result, Ok, Err, OnOk, zero, suc, refl, ap, sym, ◌∙◌, append_assoc, append-nil, arith}
+use Rattle.std.proofs.Common.{◌≡◌, ◌+◌, ◌-◌, ◌<◌, ◌≤◌, ℕ, List, [], ◌∷◌, ◌++◌, map, take, get_or, length, Result, Ok, Err, OnOk, refl, ap, sym, ◌∙◌, append_assoc, append-nil, arith}
 use Rattle.std.proofs.lemmas.List.{take_more, take_all, flat_map_more}
 use Rattle.std.proofs.lemmas.Grind.{flat_map-append}
 use Rattle.std.proofs.lemmas.List.FromFn.{map-range_with_len_more}
 use Rattle.std.specs.List.{flat_map, range_with_len}
 use Rattle.std.specs.Prelude.{codes, decimal}
 use Rattle.march_core.specs.Visits.{direction_at}
-use Rattle.fault_core.specs.declared.table.Class.TheVariants.{SF}
-use Rattle.report.specs.declared.class_lines.ItemClass.{ItemClass}
-use Rattle.report.specs.declared.class_lines.ItemClass.TheVariants.{Static}
-use Rattle.report.specs.declared.judged.JudgedItem.{JudgedItem}
-use Rattle.report.specs.Items.{item_of}
-use Rattle.report.specs.Report.{class_text, letter, directions_text, class_size, class_covered, class_line, class_lines, class_order, total_line}
+use Rattle.report_lines.specs.Lines.{letter, directions_text, total_line}
 
 pub no_letters : (word : ℕ) → directions_text word 0 ≡ []
 unfolding directions_text
@@ -24,20 +19,9 @@ one_letter_more word k =
     ∙ flat_map-append letter (map (direction_at word) (range_with_len 0 k)) (direction_at word k ∷ [])
     ∙ ap (λ l. flat_map letter (map (direction_at word) (range_with_len 0 k)) ++ l) (append-nil (letter (direction_at word k)))
 
-pub class_line_more : (js : List JudgedItem) (k : ℕ) → k < 16
-    → class_lines (take (k + 1) class_order) js
-    ≡ class_lines (take k class_order) js
-    ++ (let c : ItemClass = get_or class_order k (Static SF) in class_line c (class_size c (map item_of js)) (class_covered c js))
-class_line_more js k h =
-    let line : ItemClass → List ℕ = λ c. class_line c (class_size c (map item_of js)) (class_covered c js) in
-    let last : ItemClass = get_or class_order k (Static SF) in
-    ap (λ l. flat_map line l) (take_more class_order k (Static SF) h) ∙ flat_map-append line (take k class_order) (last ∷ [])
-    ∙ ap (λ l. flat_map line (take k class_order) ++ l) (append-nil (line last))
-
--- a text that grew by four parts
-pub four_parts : (o a b c d p q r s : List ℕ) → p ≡ o ++ a → q ≡ p ++ b → r ≡ q ++ c → s ≡ r ++ d → s ≡ o ++ (((a ++ b) ++ c) ++ d)
-four_parts o a b c d p q r s ep eq er es =
-    es ∙ ap (λ l. l ++ d) (er ∙ ap (λ l. l ++ c) (eq ∙ ap (λ l. l ++ b) ep)) ∙ simp append_assoc
+-- a text that grew by two parts
+pub two_parts : (o a b p q : List ℕ) → p ≡ o ++ a → q ≡ p ++ b → q ≡ o ++ (a ++ b)
+two_parts o a b p q ep eq = eq ∙ ap (λ l. l ++ b) ep ∙ append_assoc o a b
 
 -- a text that grew by the text of one element more, and by those of all
 pub text_more : {X : Type 0} (f : X → List ℕ) (xs : List X) (i : ℕ) (d x : X) (old so_far now : List ℕ) → i < length xs → x ≡ get_or xs i d
@@ -53,16 +37,9 @@ pub all_texts : {X : Type 0} (f : X → List ℕ) (xs : List X) (i : ℕ) (old n
 all_texts f xs i old now h inv = inv ∙ ap (λ l. old ++ flat_map f l) (take_all i xs h)
 
 -- a text that grew by seven parts, in three steps
-seven_parts : {E : Type 0} (result : Result (Unit {0}) E) (o a b c d e f g p q t : List ℕ) → p ≡ o ++ (a ++ b ++ c) → q ≡ p ++ (d ++ e) → OnOk result (t ≡ q ++ (f ++ g)) → OnOk result (t ≡ o ++ (a ++ b ++ c ++ d ++ e ++ f ++ g))
+pub seven_parts : {E : Type 0} (result : Result (Unit {0}) E) (o a b c d e f g p q t : List ℕ) → p ≡ o ++ (a ++ b ++ c) → q ≡ p ++ (d ++ e) → OnOk result (t ≡ q ++ (f ++ g)) → OnOk result (t ≡ o ++ (a ++ b ++ c ++ d ++ e ++ f ++ g))
 seven_parts (Err x) o a b c d e f g p q t ep eq et = tt
 seven_parts (Ok u) o a b c d e f g p q t ep eq et = et ∙ ap (λ l. l ++ (f ++ g)) (eq ∙ ap (λ l. l ++ (d ++ e)) ep) ∙ simp append_assoc
-
--- the line of a class that occurs
-pub class_written : {E : Type 0} (result : Result (Unit {0}) E) (class : ItemClass) (count covered : ℕ) (o p q t : List ℕ) → 0 < count → p ≡ o ++ (codes "class " ++ class_text class ++ codes " ")
-    → q ≡ p ++ (decimal count ++ codes " covered ") → OnOk result (t ≡ q ++ (decimal covered ++ codes "\n")) → OnOk result (t ≡ o ++ class_line class count covered)
-class_written result class zero covered o p q t some ep eq et = absurd (omega (arith, some))
-class_written result class (suc n) covered o p q t some ep eq et =
-    seven_parts result o (codes "class ") (class_text class) (codes " ") (decimal (suc n)) (codes " covered ") (decimal covered) (codes "\n") p q t ep eq et
 
 -- the line of the total
 pub total_written : {E : Type 0} (result : Result (Unit {0}) E) (count covered : ℕ) (o p q t : List ℕ) → p ≡ o ++ (codes "total " ++ decimal count ++ codes " covered ")

@@ -1,8 +1,8 @@
 use Rattle.std.proofs.Common.{◌≡◌, length, ap}
 use Rattle.std.specs.Prelude.{codes, decimal}
 use Rattle.word_march.specs.Commands.{command_count}
-use Rattle.report.proofs.ReportLines.{memory_written}
-use Rattle.report.proofs.memory_line.write_described.Goals as goal
+use Rattle.report_lines.proofs.LinesGrow.{memory_written}
+use Rattle.report_lines.proofs.header.write_described.Goals as goal
 
 pub returns : goal.returns
 returns c =

@@ -1,12 +1,23 @@
+//! The first lines of a report: the march, and the memory where there is one.
+
 ghost use Rattle.std.specs.Prelude.{◌≡◌, ◌++◌, OnOk, codes};
 ghost use Rattle.std.specs.Option.{option_copied};
-ghost use Rattle.report.specs.Report.{size_text, work_text, memory_line};
+ghost use Rattle.report_lines.specs.Lines.{march_line, size_text, work_text, memory_line};
 
 use bist_bits::NoMemory;
 use bist_text::{put_between, put_number_between};
 use march_core::March;
+use march_syntax::print_march;
 use memory_desc::Memory;
+use std::alloc::Global;
 use word_march::length;
+
+/// Appends the line of the march.
+pub fn write_march(alloc: Global, out: &mut Vec<u8>, march: &March) -> Result<(), NoMemory>
+    ensures { OnOk result (out.new.items ≡ out.old.items ++ march_line march.now) }
+{
+    put_between(out, b"march ", print_march(alloc, march)?.as_slice(), b"\n")
+}
 
 /// Appends the line of a memory: its name and size, how often the march runs on it, and with how many commands in all.
 fn write_described(out: &mut Vec<u8>, march: &March, memory: &Memory) -> Result<(), NoMemory>
@@ -20,7 +31,7 @@ fn write_described(out: &mut Vec<u8>, march: &March, memory: &Memory) -> Result<
 }
 
 /// Appends the line of a memory, where there is one.
-pub(crate) fn write_memory(
+pub fn write_memory(
     out: &mut Vec<u8>,
     march: &March,
     memory: Option<&Memory>,

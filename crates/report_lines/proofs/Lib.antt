@@ -1,0 +1,2 @@
+pub mod LinesGrow
+pub mod CountSteps
