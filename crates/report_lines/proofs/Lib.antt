@@ -1,2 +1,3 @@
 pub mod LinesGrow
 pub mod CountSteps
+pub mod Listed
