@@ -17,6 +17,7 @@ use crate::chip::decide_chip;
 use crate::compile::decide_compile;
 use crate::forms::has_form;
 use crate::judge::decide_judge;
+use crate::linked_command::decide_linked;
 use crate::make::decide_make;
 use crate::sim::decide_sim;
 use crate::vectors::decide_vectors;
@@ -30,6 +31,7 @@ use word_device::Device;
 pub enum Command {
     Sim,
     Judge,
+    Linked,
     Vectors,
     Compile,
     Make,
@@ -48,6 +50,7 @@ fn command_named(name: &str) -> Option<Command>
     match name {
         "sim" => Some(Command::Sim),
         "judge" => Some(Command::Judge),
+        "linked" => Some(Command::Linked),
         "vectors" => Some(Command::Vectors),
         "compile" => Some(Command::Compile),
         "make" => Some(Command::Make),
@@ -68,6 +71,7 @@ fn is_formed(words: &[&str], command: Command) -> bool
     match command {
         Command::Sim => has_form(words, "sim", 8, 1, 2),
         Command::Judge => has_form(words, "judge", 4, 1, 4),
+        Command::Linked => has_form(words, "linked", 3, 1, 3),
         Command::Vectors => has_form(words, "vectors", 4, 1, 4),
         Command::Compile => has_form(words, "compile", 6, 1, 6),
         Command::Make => has_form(words, "make", 7, 2, 7),
@@ -111,6 +115,7 @@ pub fn decide<H: Host>(
         None => Err(Refusal::Usage),
         Some(Command::Sim) => decide_sim(alloc, words, host),
         Some(Command::Judge) => decide_judge(alloc, words, host),
+        Some(Command::Linked) => decide_linked(alloc, words, host),
         Some(Command::Vectors) => decide_vectors(alloc, words, host),
         Some(Command::Compile) => decide_compile(alloc, words, host),
         Some(Command::Make) => decide_make(alloc, words),

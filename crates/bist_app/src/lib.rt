@@ -29,6 +29,7 @@ mod directions;
 mod forms;
 mod judge;
 pub mod laws;
+mod linked_command;
 mod make;
 mod parts;
 mod reporting;

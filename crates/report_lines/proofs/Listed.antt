@@ -39,6 +39,13 @@ module _ {A J : Type 0} (P : A → Type 0) (item : J → A) (covered : J → Boo
       subst (CountsOf P (filter t (map item (j ∷ js)))) (sym (sum_by-cons (λ k. cond (t (item k) && covered k) 1 0) j js))
       (filtered P (item j) (filter t (map item js)) (t (item j)) (covered j) (count_by (λ k. t (item k) && covered k) js) (tells j h.0) (counted_among t js h.1))
 
+-- how many pass a test, counted among what was judged
+pub size_of : {A J : Type 0} (item : J → A) (t : A → Bool) (js : List J) → count_by (λ j. t (item j)) js ≡ count_by t (map item js)
+size_of item t [] = refl
+size_of item t (j ∷ js) =
+    sum_by-cons (λ k. cond (t (item k)) 1 0) j js ∙ ap (λ n. cond (t (item j)) 1 0 + n) (size_of item t js)
+    ∙ sym (sum_by-cons (λ x. cond (t x) 1 0) (item j) (map item js))
+
 -- ---- whether one lacks the property
 
 behind : {A : Type 0} (P : A → Type 0) (x : A) (xs : List A) (b : Bool) → P x → SomeLacks P xs b → SomeLacks P (x ∷ xs) b

@@ -24,6 +24,15 @@ returns-in-Some-Judge g c = record {
   make = no_make _ Command.Judge tt c.in-Some-Judge.field-0-is c.in-Some-Judge.ensures;
 }
 
+pub returns-in-Some-Linked : goal.returns-in-Some-Linked
+returns-in-Some-Linked g c = record {
+  kept = c.decide_linked.ensures.kept;
+  outputs = c.decide_linked.ensures.outputs;
+  answer = decided _ Command.Linked c.in-Some-Linked.field-0-is c.in-Some-Linked.ensures (c.decide_linked.ensures.answer, refl);
+  cause = c.decide_linked.ensures.cause;
+  make = no_make _ Command.Linked tt c.in-Some-Linked.field-0-is c.in-Some-Linked.ensures;
+}
+
 pub returns-in-Some-Vectors : goal.returns-in-Some-Vectors
 returns-in-Some-Vectors g c = record {
   kept = c.decide_vectors.ensures.kept;

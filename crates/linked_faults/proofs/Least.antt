@@ -1,0 +1,182 @@
+-- The search in the order of the places and of the contents finds the least escape, and none exactly where every size is detected.
+use Rattle.std.proofs.Common.{◌≡◌, ◌+◌, ◌*◌, ◌<◌, ◌≤◌, ℕ, zero, suc, Option, Some, None, List, [], length, refl, ap, sym, subst, ◌∙◌, ◌⊎◌, inl, inr, ⊎_elim, arith}
+use Rattle.std.specs.Bool.{IsTrue}
+use Rattle.std.specs.Prelude.{MatchOption}
+use Rattle.std.proofs.Math.Nat.{eq-or-lt_of_le}
+use Rattle.std.proofs.lemmas.Bool.{cases_lt}
+use Rattle.march_core.specs.March.{MarchElement, IsMarch}
+use Rattle.march_core.specs.Visits.{Direction, is_direction, directions_of}
+use Rattle.pair_tracker.specs.Survivors.{IsLeastOf}
+use Rattle.linked_faults.specs.declared.link.Link.{Link}
+use Rattle.linked_faults.specs.declared.link.Spots.{Spots}
+use Rattle.linked_faults.specs.declared.three.Three.{Three}
+use Rattle.linked_faults.specs.declared.escape.LinkEscape.{LinkEscape}
+use Rattle.linked_faults.specs.Linking.{FitsSpots}
+use Rattle.linked_faults.specs.Detection.{IsCaught, Detects}
+use Rattle.linked_faults.specs.Escapes.{cells_of, spots_number, three_number, IsEscape, IsNoGreater, IsVerdict, IsVerdictAt}
+use Rattle.linked_faults.specs.inner.Threes.{three_at, three_run}
+use Rattle.linked_faults.specs.inner.Searching.{word_to, LetsThrough, spots_in, NoneBefore, NoneIn, IsLeastIn, IsFirstFound}
+use Rattle.linked_faults.proofs.EverySize.{firsts, firsts_fit, spots_same, caught_where, through_unless, passes_with, detected_never, IsSorted, sorted}
+use Rattle.linked_faults.proofs.Numbers.{number_below, same_number, IsOrder, order_of, in_order}
+use Rattle.linked_faults.proofs.Seen.{FitsThree, spots_from}
+use Rattle.linked_faults.proofs.Words.{least_whole, some_word, through_fits, through_within, run_through}
+
+-- the places in their orders are three different cells
+pub fits_order : (o : ℕ) → o < 6 → FitsThree (spots_in o)
+fits_order zero h = record { a_within = omega arith; b_within = omega arith; v_within = omega arith; a_v = omega arith; b_v = omega arith; a_b = omega arith }
+fits_order (suc zero) h = record { a_within = omega arith; b_within = omega arith; v_within = omega arith; a_v = omega arith; b_v = omega arith; a_b = omega arith }
+fits_order (suc (suc zero)) h = record { a_within = omega arith; b_within = omega arith; v_within = omega arith; a_v = omega arith; b_v = omega arith; a_b = omega arith }
+fits_order (suc (suc (suc zero))) h = record { a_within = omega arith; b_within = omega arith; v_within = omega arith; a_v = omega arith; b_v = omega arith; a_b = omega arith }
+fits_order (suc (suc (suc (suc zero)))) h = record { a_within = omega arith; b_within = omega arith; v_within = omega arith; a_v = omega arith; b_v = omega arith; a_b = omega arith }
+fits_order (suc (suc (suc (suc (suc zero))))) h = record { a_within = omega arith; b_within = omega arith; v_within = omega arith; a_v = omega arith; b_v = omega arith; a_b = omega arith }
+fits_order (suc (suc (suc (suc (suc (suc o)))))) h = absurd (omega arith)
+
+order_is : (s : Spots) → FitsThree s → IsOrder s
+order_is s fits = order_of s.a s.b s.v fits
+
+-- where no array of three cells is let through, no three cells get through
+none_through : (march : List MarchElement) (link : Link) → IsMarch march → NoneIn march link 6
+    → (s : Spots) → FitsThree s → (q : Three) (ds : List Direction) → IsTrue (is_direction march ds) → three_run link s q march ds ≡ None
+none_through march link is none s fits q ds allowed = go (three_run link s q march ds) refl
+  where
+    order : IsOrder s
+    order = order_is s fits
+
+    go : (r : Option Three) → three_run link s q march ds ≡ r → three_run link s q march ds ≡ None
+    go None e = e
+    go (Some z) e =
+        let through = some_word link s march q z ds is allowed e in
+        absurd (none order.order order.within q (number_below q) through.0 (subst (λ (at : Spots). LetsThrough march link at q through.0) order.is through.1))
+
+-- so every size is detected
+pub none_detects : (march : List MarchElement) (link : Link) → IsMarch march → NoneIn march link 6 → Detects march link
+none_detects march link is none n more ds at content allowed fits size =
+    let order : IsSorted at n = sorted at n fits in
+    subst (λ (s : Spots). IsCaught march ds link s content) order.is
+    (caught_where link order.spots order.trio n order.is_trio order.fits march ds content is size
+    (none_through march link is none order.spots order.fits (three_at order.trio content) ds allowed))
+
+-- what is found is an escape
+found_escape : (march : List MarchElement) (link : Link) (o : ℕ) (e : LinkEscape) → IsMarch march → o < 6 → IsLeastIn march link o e → IsEscape march e
+found_escape march link o e is within least =
+    let through : LetsThrough march link (spots_in o) e.content e.directions = least.word.0 in
+    let ds : List Direction = directions_of e.directions (length march) in
+    record {
+      array = record {
+        spots = subst (λ (at : Spots). FitsSpots at 3) (sym least.spots) (fits_order o within);
+        is_word = through_within link (spots_in o) march e.content e.directions is through;
+        directions = through_fits link (spots_in o) march e.content e.directions through;
+      };
+      passes =
+          subst (λ (at : Spots). IsCaught march ds e.link at (cells_of e.content) → ⊥) (sym least.spots)
+          (subst (λ (l : Link). IsCaught march ds l (spots_in o) (cells_of e.content) → ⊥) (sym least.link_is)
+          (passes_with march link (spots_in o) e.content [] e.directions is (fits_order o within) through));
+    }
+
+-- an escape is let through
+escape_through : (march : List MarchElement) (link : Link) (f : LinkEscape) → IsMarch march → IsEscape march f → f.link ≡ link
+    → LetsThrough march link f.spots f.content f.directions
+escape_through march link f is escape same =
+    let ds : List Direction = directions_of f.directions (length march) in
+    let passes : IsCaught march ds f.link (spots_from firsts f.spots) (cells_of f.content) → ⊥ =
+    subst (λ (at : Spots). IsCaught march ds f.link at (cells_of f.content) → ⊥) (sym (spots_same f.spots escape.array.spots)) escape.passes in
+    let through = through_unless f.link f.spots firsts 3 (firsts_fit 3 (omega arith)) escape.array.spots march ds (cells_of f.content) is refl passes in
+    subst (λ (l : Link). LetsThrough march l f.spots f.content f.directions) same
+    (run_through f.link f.spots march f.content through.0 f.directions is escape.array.is_word escape.array.directions through.1)
+
+-- no escape in the same places is less
+no_greater : (march : List MarchElement) (link : Link) (o : ℕ) (e f : LinkEscape) → IsLeastIn march link o e
+    → f.spots ≡ spots_in o → LetsThrough march link (spots_in o) f.content f.directions → IsNoGreater e f
+no_greater march link o e f least places through =
+    let same : spots_number e.spots ≡ spots_number f.spots = ap spots_number (least.spots ∙ sym places) in
+    ⊎_elim
+    (λ (h : three_number e.content < three_number f.content). inl (less (spots_number e.spots) (spots_number f.spots) (three_number e.content) (three_number f.content) same h))
+    (λ (h : three_number f.content ≤ three_number e.content).
+    ⊎_elim
+    (λ (k : three_number f.content ≡ three_number e.content).
+    let content : f.content ≡ e.content = same_number f.content e.content k in
+    inr (ap (λ m. 8 * m + three_number e.content) same ∙ ap (λ m. 8 * spots_number f.spots + m) (sym k), least.word.1 f.directions (subst (λ (c : Three). LetsThrough march link (spots_in o) c f.directions) content through)))
+    (λ (k : three_number f.content < three_number e.content). absurd (least.before f.content k f.directions through))
+    (eq-or-lt_of_le h))
+    (cases_lt (three_number e.content) (three_number f.content))
+  where
+    less : (m n x y : ℕ) → m ≡ n → x < y → 8 * m + x < 8 * n + y
+    less m n x y same h = omega arith
+
+far : (m n x y : ℕ) → m < n → x < 8 → 8 * m + x < 8 * n + y
+far m n x y h k = omega arith
+
+least_of_first : (march : List MarchElement) (link : Link) (e : LinkEscape) → IsMarch march → (found : IsFirstFound march link e) → (f : LinkEscape) → f.link ≡ e.link
+    → IsEscape march f → IsNoGreater e f
+least_of_first march link e is found f same escape =
+    let o : ℕ = found.order in
+    let order : IsOrder f.spots = order_is f.spots escape.array.spots in
+    let p : ℕ = order.order in
+    let through : LetsThrough march link (spots_in p) f.content f.directions =
+    subst (λ (at : Spots). LetsThrough march link at f.content f.directions) order.is (escape_through march link f is escape (same ∙ found.least.link_is)) in
+    ⊎_elim
+    (λ (h : p < o). absurd (found.none p h f.content (number_below f.content) f.directions through))
+    (λ (h : o ≤ p).
+    ⊎_elim
+    (λ (k : o ≡ p).
+    no_greater march link o e f found.least (order.is ∙ ap spots_in (sym k)) (subst (λ m. LetsThrough march link (spots_in m) f.content f.directions) (sym k) through))
+    (λ (k : o < p).
+    let further : spots_number e.spots < spots_number f.spots =
+    subst (λ (at : Spots). spots_number at < spots_number f.spots) (sym found.least.spots)
+    (subst (λ (at : Spots). spots_number (spots_in o) < spots_number at) (sym order.is) (in_order o p k order.within)) in
+    inl (far (spots_number e.spots) (spots_number f.spots) (three_number e.content) (three_number f.content) further (number_below e.content)))
+    (eq-or-lt_of_le h))
+    (cases_lt p o)
+
+-- what the clauses of a verdict say
+abbrev pub Judged : List MarchElement → Link → Option LinkEscape → Type 0
+Judged march link result = IsVerdict march link result × ((size : ℕ) → 3 ≤ size → IsVerdictAt size march link result)
+
+pub judged : (march : List MarchElement) (link : Link) (result : Option LinkEscape) → IsMarch march
+    → MatchOption result (NoneIn march link 6) (λ e. IsFirstFound march link e) → Judged march link result
+judged march link None is none = let detects = none_detects march link is none in (detects, λ size more. detects size more)
+judged march link (Some e) is found =
+    let never = detected_never march link (spots_in found.order) e.content e.directions is (fits_order found.order found.within) found.least.word.0 in (
+      (
+        found.least.link_is,
+        record { escape = found_escape march link found.order e is found.within found.least; least = λ f same escape. least_of_first march link e is found f same escape },
+        λ detects. never 3 (omega arith) (detects 3 (omega arith)),
+      ),
+      λ size more. never size more,
+    )
+
+-- the search over the contents
+pub none_so_far : (march : List MarchElement) (link : Link) (o number : ℕ) (content : Three) → IsMarch march
+    → three_number content ≡ number → NoneBefore march link o number → word_to link (spots_in o) march 0 content ≡ None → NoneBefore march link o (number + 1)
+none_so_far march link o number content is at before none c low word through =
+    let nothing : IsLeastOf (LetsThrough march link (spots_in o) content) None =
+    subst (IsLeastOf (LetsThrough march link (spots_in o) content)) none (least_whole link (spots_in o) march content is) in
+    ⊎_elim
+    (λ (h : three_number c ≡ number).
+    let same : c ≡ content = same_number c content (h ∙ sym at) in
+    nothing word (subst (λ (d : Three). LetsThrough march link (spots_in o) d word) same through))
+    (λ (h : three_number c < number). before c h word through)
+    (eq_or_lt (three_number c) number low)
+  where
+    eq_or_lt : (m n : ℕ) → m < n + 1 → (m ≡ n) ⊎ (m < n)
+    eq_or_lt m n h = eq-or-lt_of_le (omega arith)
+
+pub least_here : (march : List MarchElement) (link : Link) (o number : ℕ) (content : Three) (word : ℕ) (e : LinkEscape) → IsMarch march
+    → three_number content ≡ number → NoneBefore march link o number → word_to link (spots_in o) march 0 content ≡ Some word
+    → e.link ≡ link → e.spots ≡ spots_in o → e.content ≡ content → e.directions ≡ word → IsLeastIn march link o e
+least_here march link o number content word e is at before found link_is places content_is word_is =
+    let least : IsLeastOf (LetsThrough march link (spots_in o) content) (Some word) =
+    subst (IsLeastOf (LetsThrough march link (spots_in o) content)) found (least_whole link (spots_in o) march content is) in
+    record {
+      link_is = link_is;
+      spots = places;
+      before = subst (NoneBefore march link o) (sym (ap three_number content_is ∙ at)) before;
+      word =
+          subst (λ (w : ℕ). IsLeastOf (LetsThrough march link (spots_in o) e.content) (Some w)) (sym word_is)
+          (subst (λ (c : Three). IsLeastOf (LetsThrough march link (spots_in o) c) (Some word)) (sym content_is) least);
+    }
+
+-- the search over the places
+pub none_in_next : (march : List MarchElement) (link : Link) (o : ℕ) → NoneIn march link o → NoneBefore march link o 8 → NoneIn march link (o + 1)
+none_in_next march link o before none p low =
+    ⊎_elim (λ (h : p ≡ o). subst (λ m. NoneBefore march link m 8) (sym h) none) (λ (h : p < o). before p h) (eq-or-lt_of_le (omega arith))

@@ -1,0 +1,12 @@
+pub mod Numbers
+pub mod Words
+pub mod Runs
+pub mod Seen
+pub mod Seats
+pub mod Passing
+pub mod EverySize
+pub mod Least
+pub mod Both
+pub mod Places
+pub mod Testing
+pub mod Choosing

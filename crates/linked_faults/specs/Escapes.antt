@@ -1,0 +1,55 @@
+-- Public. Arrays of three cells that pass a march with a linked fault, the least of them, and what a verdict says.
+use Rattle.std.specs.Prelude.{◌≡◌, ◌<◌, ◌≤◌, ◌+◌, ◌*◌, ◌^◌, ◌⊎◌, ℕ, Bool, if◌then◌else◌, Option, Some, None, List, [], ◌∷◌, length}
+use Rattle.march_core.specs.March.{MarchElement}
+use Rattle.march_core.specs.Visits.{FitsWord, directions_of}
+use Rattle.linked_faults.specs.declared.link.Link.{Link}
+use Rattle.linked_faults.specs.declared.link.Spots.{Spots}
+use Rattle.linked_faults.specs.declared.three.Three.{Three}
+use Rattle.linked_faults.specs.declared.escape.LinkEscape.{LinkEscape}
+use Rattle.linked_faults.specs.Linking.{FitsSpots}
+use Rattle.linked_faults.specs.Detection.{IsCaught, DetectsAt, Detects}
+
+abbrev pub cells_of : Three → List Bool
+cells_of q = q.x ∷ q.y ∷ q.z ∷ []
+
+-- an array of three cells with the three cells of its fault, and a direction word that fits the march
+pub record IsArray (march : List MarchElement) (e : LinkEscape) : Type 0 where
+  pub spots : FitsSpots e.spots 3
+  pub is_word : e.directions < 2 ^ 64
+  pub directions : FitsWord march e.directions
+
+-- no read differs in it
+pub record IsEscape (march : List MarchElement) (e : LinkEscape) : Type 0 where
+  pub array : IsArray march e
+  pub passes : IsCaught march (directions_of e.directions (length march)) e.link e.spots (cells_of e.content) → ⊥
+
+-- places in their order: by the first aggressor's cell, then the second's, then the victim's
+abbrev pub spots_number : Spots → ℕ
+spots_number at = 9 * at.a + 3 * at.b + at.v
+
+-- contents in their order: 000 to 111, the digit of cell 0 first
+abbrev pub three_number : Three → ℕ
+three_number q = 4 * (if q.x then 1 else 0) + 2 * (if q.y then 1 else 0) + (if q.z then 1 else 0)
+
+abbrev pub array_number : LinkEscape → ℕ
+array_number e = 8 * spots_number e.spots + three_number e.content
+
+-- the order of escapes: by the array, then by the direction word
+abbrev pub IsNoGreater : LinkEscape → LinkEscape → Type 0
+IsNoGreater e f =
+    (array_number e < array_number f) ⊎ ((array_number e ≡ array_number f) × (e.directions ≤ f.directions))
+
+-- the least escape of its fault
+pub record IsLeastEscape (march : List MarchElement) (e : LinkEscape) : Type 0 where
+  pub escape : IsEscape march e
+  pub least : (f : LinkEscape) → f.link ≡ e.link → IsEscape march f → IsNoGreater e f
+
+-- none exactly where the fault is detected at every size; else the least escape
+abbrev pub IsVerdict : List MarchElement → Link → Option LinkEscape → Type 0
+IsVerdict march link None = Detects march link
+IsVerdict march link (Some e) = (e.link ≡ link) × IsLeastEscape march e × (Detects march link → ⊥)
+
+-- at this single size the verdict is the same
+abbrev pub IsVerdictAt : ℕ → List MarchElement → Link → Option LinkEscape → Type 0
+IsVerdictAt size march link None = DetectsAt size march link
+IsVerdictAt size march link (Some e) = DetectsAt size march link → ⊥

@@ -1,0 +1,5 @@
+pub mod Linking
+pub mod Kinds
+pub mod Detection
+pub mod Escapes
+pub mod inner

@@ -1,0 +1,70 @@
+-- Inner. Only helps proofs: what the search for the least escape finds.
+use Rattle.std.specs.Prelude.{◌≡◌, ◌<◌, ◌==◌, ℕ, Bool, true, if◌then◌else◌, Option, Some, None, List, length}
+use Rattle.march_core.specs.March.{MarchElement}
+use Rattle.march_core.specs.Visits.{directions_of, is_direction}
+use Rattle.pair_tracker.specs.declared.search.DeadEnds.{DeadEnds}
+use Rattle.pair_tracker.specs.Legs.{elements_between}
+use Rattle.pair_tracker.specs.Reached.{is_dead}
+use Rattle.pair_tracker.specs.Survivors.{IsLeastOf}
+use Rattle.pair_tracker.specs.Tracking.{IsSpanWord}
+use Rattle.pair_tracker.specs.Ways.{word_by}
+use Rattle.linked_faults.specs.declared.link.Link.{Link}
+use Rattle.linked_faults.specs.declared.link.Spots.{Spots}
+use Rattle.linked_faults.specs.declared.three.Three.{Three}
+use Rattle.linked_faults.specs.declared.escape.LinkEscape.{LinkEscape}
+use Rattle.linked_faults.specs.Escapes.{three_number}
+use Rattle.linked_faults.specs.inner.Threes.{three_run, end_of}
+
+abbrev pub any_end : Three → Bool
+any_end q = true
+
+-- the least word of the elements from i on that leads from a state to the end
+abbrev pub word_to : Link → Spots → List MarchElement → ℕ → Three → Option ℕ
+word_to link at march i start = word_by any_end (end_of link at) i (elements_between march i (length march)) start
+
+-- what is known to lead nowhere does
+abbrev pub KnowsOf : List MarchElement → Link → Spots → DeadEnds → Type 0
+KnowsOf march link at dead = (i : ℕ) (q : Three) → is_dead dead i (three_number q) ≡ true → word_to link at march i q ≡ None
+
+-- no read differs in the directions of a word
+pub record LetsThrough (march : List MarchElement) (link : Link) (at : Spots) (content : Three) (word : ℕ) : Type 0 where
+  pub end : Three
+  pub span : IsSpanWord 0 (length march) word
+  pub allowed : is_direction march (directions_of word (length march)) ≡ true
+  pub ends : three_run link at content march (directions_of word (length march)) ≡ Some end
+
+-- the places of three cells in an array of three
+abbrev pub spots_at : ℕ → ℕ → ℕ → Spots
+spots_at a b v = record { a = a; b = b; v = v }
+
+abbrev pub spots_in : ℕ → Spots
+spots_in order =
+    if order == 0 then spots_at 0 1 2
+    else if order == 1 then spots_at 0 2 1
+    else if order == 2 then spots_at 1 0 2
+    else if order == 3 then spots_at 1 2 0
+    else if order == 4 then spots_at 2 0 1
+    else spots_at 2 1 0
+
+-- no content before this one is let through
+abbrev pub NoneBefore : List MarchElement → Link → ℕ → ℕ → Type 0
+NoneBefore march link order number =
+    (content : Three) → three_number content < number → (word : ℕ) → LetsThrough march link (spots_in order) content word → ⊥
+
+-- no places before these let a content through
+abbrev pub NoneIn : List MarchElement → Link → ℕ → Type 0
+NoneIn march link order = (o : ℕ) → o < order → NoneBefore march link o 8
+
+-- the array of the least content that is let through, with its least word
+pub record IsLeastIn (march : List MarchElement) (link : Link) (order : ℕ) (e : LinkEscape) : Type 0 where
+  pub link_is : e.link ≡ link
+  pub spots : e.spots ≡ spots_in order
+  pub before : NoneBefore march link order (three_number e.content)
+  pub word : IsLeastOf (LetsThrough march link (spots_in order) e.content) (Some e.directions)
+
+-- the least in the first places that let a content through
+pub record IsFirstFound (march : List MarchElement) (link : Link) (e : LinkEscape) : Type 0 where
+  pub order : ℕ
+  pub within : order < 6
+  pub none : NoneIn march link order
+  pub least : IsLeastIn march link order e

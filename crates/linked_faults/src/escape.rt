@@ -1,0 +1,106 @@
+ghost use Rattle.std.specs.Prelude.{◌≡◌, ◌<◌, ◌≤◌, ℕ, None, MatchOption, length};
+ghost use Rattle.march_core.specs.March.{IsMarch};
+ghost use Rattle.linked_faults.specs.Linking.{FitsSpots, IsLinked, NeverBoth, HaveSpots};
+ghost use Rattle.linked_faults.specs.Escapes.{three_number, IsVerdict, IsVerdictAt};
+ghost use Rattle.linked_faults.specs.inner.Searching.{spots_in, NoneBefore, NoneIn, IsLeastIn, IsFirstFound};
+
+use crate::link::{Link, Spots};
+use crate::search::{Search, word_from};
+use crate::three::Three;
+use march_core::March;
+use pair_tracker::DeadEnds;
+
+/// An array of three cells with a linked fault, its content, and a direction word.
+#[derive(Clone, Copy)]
+pub struct LinkEscape {
+    pub link: Link,
+    pub spots: Spots,
+    pub content: Three,
+    /// Element `i` stands at bit `63-i`, with 1 for downward.
+    pub directions: u64,
+}
+
+/// None exactly where the linked fault is caught at every three cells, in every array of at least three, from every
+/// content and for every choice of directions. For each single size from 3 the verdict is the same. Else the least
+/// array of three cells that passes. Where the two are linked, no act is both's. All
+/// places that two primitives can have are those of some three cells.
+pub fn least_escape(march: &March, link: &Link) -> Option<LinkEscape>
+    ensures verdict { IsVerdict march.now link.now result }
+    ensures each_size { (size : ℕ) → 3 ≤ size → IsVerdictAt size march.now link.now result }
+    ensures one_acts { IsLinked link.now → NeverBoth link.now }
+    ensures places { HaveSpots link.now }
+{
+    recall(march);
+    least_found(march, link)
+}
+
+/// The least over all places.
+fn least_found(march: &March, link: &Link) -> Option<LinkEscape>
+    ensures { MatchOption result (NoneIn march.now link.now 6) (λ e. IsFirstFound march.now link.now e) }
+{
+    for order in 0..6 {
+        if let Some(escape) = least_in(march, link, order) {
+            return Some(escape);
+        }
+    }
+    None
+}
+
+/// The least escape in one choice of places. The contents share what is found out of dead ends.
+fn least_in(march: &March, link: &Link, order: u8) -> Option<LinkEscape>
+    requires { order < 6 }
+    ensures { MatchOption result (NoneBefore march.now link.now order 8) (λ e. IsLeastIn march.now link.now order e) }
+{
+    recall(march);
+    let spots = spots_in(order);
+    let search = Search { march, link, spots };
+    let mut dead_ends = DeadEnds::unknown();
+    for number in 0..8 {
+        let content = content_of(number);
+        if let Some(directions) = word_from(&search, &mut dead_ends, 0, Some(content)) {
+            return Some(LinkEscape {
+                link: *link,
+                spots,
+                content,
+                directions,
+            });
+        }
+    }
+    None
+}
+
+fn spots_in(order: u8) -> Spots
+    requires { order < 6 }
+    ensures spots { result ≡ spots_in order }
+    ensures fits { FitsSpots result 3 }
+{
+    match order {
+        0 => Spots { a: 0, b: 1, v: 2 },
+        1 => Spots { a: 0, b: 2, v: 1 },
+        2 => Spots { a: 1, b: 0, v: 2 },
+        3 => Spots { a: 1, b: 2, v: 0 },
+        4 => Spots { a: 2, b: 0, v: 1 },
+        _ => Spots { a: 2, b: 1, v: 0 },
+    }
+}
+
+/// The content with this number.
+fn content_of(number: u8) -> Three
+    requires { number < 8 }
+    ensures { three_number result ≡ number }
+{
+    let x = number >= 4;
+    let rest = number % 4;
+    Three {
+        x,
+        y: rest >= 2,
+        z: rest % 2 == 1,
+    }
+}
+
+/// Says as a fact what every march is.
+fn recall(march: &March)
+    ensures { IsMarch march.now }
+{
+    let _elements = march.len();
+}

@@ -1,0 +1,4 @@
+pub mod JudgedLinks
+pub mod Written
+pub mod Reporting
+pub mod OneReport

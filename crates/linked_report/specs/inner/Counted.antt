@@ -1,0 +1,36 @@
+-- Inner. Only helps proofs: the report of links that were judged.
+use Rattle.std.specs.Prelude.{◌++◌, ◌&&◌, ℕ, Bool, List, Option, Some, None, length, count_by}
+use Rattle.std.specs.List.{flat_map}
+use Rattle.march_core.specs.March.{MarchElement}
+use Rattle.linked_faults.specs.declared.table.LinkKind.{LinkKind}
+use Rattle.linked_faults.specs.declared.link.Link.{Link}
+use Rattle.linked_faults.specs.declared.escape.LinkEscape.{LinkEscape}
+use Rattle.report_lines.specs.Lines.{march_line, total_line}
+use Rattle.linked_report.specs.declared.judged.JudgedLink.{JudgedLink}
+use Rattle.linked_report.specs.Links.{is_link_covered}
+use Rattle.linked_report.specs.Report.{kind_order, is_of_kind, kind_line, covered_line, escape_line}
+
+-- whether a judged link is of this kind, and covered
+abbrev pub is_covered_in : LinkKind → JudgedLink → Bool
+is_covered_in kind j = is_of_kind kind j.link && is_link_covered j
+
+abbrev pub kind_covered : LinkKind → List JudgedLink → ℕ
+kind_covered kind judged = count_by (is_covered_in kind) judged
+
+-- the line of a kind
+abbrev pub counted_line : List JudgedLink → LinkKind → List ℕ
+counted_line judged kind = kind_line kind (count_by (λ j. is_of_kind kind j.link) judged) (kind_covered kind judged)
+
+-- the line of a link by its escape, where there is one
+abbrev pub line_by : ℕ → Link → Option LinkEscape → List ℕ
+line_by size link None = covered_line link
+line_by size link (Some e) = escape_line size e
+
+-- the line of a judged link under a march with so many elements
+abbrev pub judged_link_line : ℕ → JudgedLink → List ℕ
+judged_link_line size j = line_by size j.link j.escape
+
+abbrev pub linked_text : List MarchElement → List JudgedLink → List ℕ
+linked_text march judged =
+    march_line march ++ flat_map (judged_link_line (length march)) judged ++ flat_map (counted_line judged) kind_order
+    ++ total_line (length judged) (count_by is_link_covered judged)
