@@ -4,6 +4,7 @@ use Rattle.std.specs.Bool.{IsTrue}
 use Rattle.std.specs.Prelude.{MatchOption}
 use Rattle.std.proofs.Math.Nat.{eq-or-lt_of_le}
 use Rattle.std.proofs.lemmas.Bool.{cases_lt}
+use Rattle.fault_core.specs.Primitive.{has_aggressor}
 use Rattle.march_core.specs.March.{MarchElement, IsMarch}
 use Rattle.march_core.specs.Visits.{Direction, is_direction, directions_of}
 use Rattle.pair_tracker.specs.Survivors.{IsLeastOf}
@@ -13,34 +14,34 @@ use Rattle.linked_faults.specs.declared.three.Three.{Three}
 use Rattle.linked_faults.specs.declared.escape.LinkEscape.{LinkEscape}
 use Rattle.linked_faults.specs.Linking.{FitsSpots}
 use Rattle.linked_faults.specs.Detection.{IsCaught, Detects}
-use Rattle.linked_faults.specs.Escapes.{cells_of, spots_number, three_number, IsEscape, IsNoGreater, IsVerdict, IsVerdictAt}
+use Rattle.linked_faults.specs.Escapes.{cells_of, has_other, spots_number, three_number, IsEscape, IsNoGreater, IsVerdict, IsVerdictAt}
 use Rattle.linked_faults.specs.inner.Threes.{three_at, three_run}
-use Rattle.linked_faults.specs.inner.Searching.{word_to, LetsThrough, spots_in, NoneBefore, NoneIn, IsLeastIn, IsFirstFound}
+use Rattle.linked_faults.specs.inner.Searching.{word_to, LetsThrough, choice, spots_in, NoneBefore, NoneIn, IsLeastIn, IsFirstFound}
 use Rattle.linked_faults.proofs.EverySize.{firsts, firsts_fit, spots_same, caught_where, through_unless, passes_with, detected_never, IsSorted, sorted}
-use Rattle.linked_faults.proofs.Numbers.{number_below, same_number, IsOrder, order_of, in_order}
+use Rattle.linked_faults.proofs.Numbers.{number_below, same_number, IsOrder, order_is, fits_placed, in_order}
 use Rattle.linked_faults.proofs.Seen.{FitsThree, spots_from}
 use Rattle.linked_faults.proofs.Words.{least_whole, some_word, through_fits, through_within, run_through}
 
 -- the places in their orders are three different cells
-pub fits_order : (o : ℕ) → o < 6 → FitsThree (spots_in o)
-fits_order zero h = record { a_within = omega arith; b_within = omega arith; v_within = omega arith; a_v = omega arith; b_v = omega arith; a_b = omega arith }
-fits_order (suc zero) h = record { a_within = omega arith; b_within = omega arith; v_within = omega arith; a_v = omega arith; b_v = omega arith; a_b = omega arith }
-fits_order (suc (suc zero)) h = record { a_within = omega arith; b_within = omega arith; v_within = omega arith; a_v = omega arith; b_v = omega arith; a_b = omega arith }
-fits_order (suc (suc (suc zero))) h = record { a_within = omega arith; b_within = omega arith; v_within = omega arith; a_v = omega arith; b_v = omega arith; a_b = omega arith }
-fits_order (suc (suc (suc (suc zero)))) h = record { a_within = omega arith; b_within = omega arith; v_within = omega arith; a_v = omega arith; b_v = omega arith; a_b = omega arith }
-fits_order (suc (suc (suc (suc (suc zero))))) h = record { a_within = omega arith; b_within = omega arith; v_within = omega arith; a_v = omega arith; b_v = omega arith; a_b = omega arith }
-fits_order (suc (suc (suc (suc (suc (suc o)))))) h = absurd (omega arith)
+fits_choice : (o : ℕ) → o < 6 → FitsThree (choice o)
+fits_choice zero h = record { a_within = omega arith; b_within = omega arith; v_within = omega arith; a_v = omega arith; b_v = omega arith; a_b = omega arith }
+fits_choice (suc zero) h = record { a_within = omega arith; b_within = omega arith; v_within = omega arith; a_v = omega arith; b_v = omega arith; a_b = omega arith }
+fits_choice (suc (suc zero)) h = record { a_within = omega arith; b_within = omega arith; v_within = omega arith; a_v = omega arith; b_v = omega arith; a_b = omega arith }
+fits_choice (suc (suc (suc zero))) h = record { a_within = omega arith; b_within = omega arith; v_within = omega arith; a_v = omega arith; b_v = omega arith; a_b = omega arith }
+fits_choice (suc (suc (suc (suc zero)))) h = record { a_within = omega arith; b_within = omega arith; v_within = omega arith; a_v = omega arith; b_v = omega arith; a_b = omega arith }
+fits_choice (suc (suc (suc (suc (suc zero))))) h = record { a_within = omega arith; b_within = omega arith; v_within = omega arith; a_v = omega arith; b_v = omega arith; a_b = omega arith }
+fits_choice (suc (suc (suc (suc (suc (suc o)))))) h = absurd (omega arith)
 
-order_is : (s : Spots) → FitsThree s → IsOrder s
-order_is s fits = order_of s.a s.b s.v fits
+pub fits_order : (link : Link) (o : ℕ) → o < 6 → FitsThree (spots_in link o)
+fits_order link o h = fits_placed (has_aggressor link.first) (has_other link) (choice o) (fits_choice o h)
 
 -- where no array of three cells is let through, no three cells get through
 none_through : (march : List MarchElement) (link : Link) → IsMarch march → NoneIn march link 6
     → (s : Spots) → FitsThree s → (q : Three) (ds : List Direction) → IsTrue (is_direction march ds) → three_run link s q march ds ≡ None
 none_through march link is none s fits q ds allowed = go (three_run link s q march ds) refl
   where
-    order : IsOrder s
-    order = order_is s fits
+    order : IsOrder link s
+    order = order_is link s fits
 
     go : (r : Option Three) → three_run link s q march ds ≡ r → three_run link s q march ds ≡ None
     go None e = e
@@ -59,18 +60,18 @@ none_detects march link is none n more ds at content allowed fits size =
 -- what is found is an escape
 found_escape : (march : List MarchElement) (link : Link) (o : ℕ) (e : LinkEscape) → IsMarch march → o < 6 → IsLeastIn march link o e → IsEscape march e
 found_escape march link o e is within least =
-    let through : LetsThrough march link (spots_in o) e.content e.directions = least.word.0 in
+    let through : LetsThrough march link (spots_in link o) e.content e.directions = least.word.0 in
     let ds : List Direction = directions_of e.directions (length march) in
     record {
       array = record {
-        spots = subst (λ (at : Spots). FitsSpots at 3) (sym least.spots) (fits_order o within);
-        is_word = through_within link (spots_in o) march e.content e.directions is through;
-        directions = through_fits link (spots_in o) march e.content e.directions through;
+        spots = subst (λ (at : Spots). FitsSpots at 3) (sym least.spots) (fits_order link o within);
+        is_word = through_within link (spots_in link o) march e.content e.directions is through;
+        directions = through_fits link (spots_in link o) march e.content e.directions through;
       };
       passes =
           subst (λ (at : Spots). IsCaught march ds e.link at (cells_of e.content) → ⊥) (sym least.spots)
-          (subst (λ (l : Link). IsCaught march ds l (spots_in o) (cells_of e.content) → ⊥) (sym least.link_is)
-          (passes_with march link (spots_in o) e.content [] e.directions is (fits_order o within) through));
+          (subst (λ (l : Link). IsCaught march ds l (spots_in link o) (cells_of e.content) → ⊥) (sym least.link_is)
+          (passes_with march link (spots_in link o) e.content [] e.directions is (fits_order link o within) through));
     }
 
 -- an escape is let through
@@ -85,17 +86,20 @@ escape_through march link f is escape same =
     (run_through f.link f.spots march f.content through.0 f.directions is escape.array.is_word escape.array.directions through.1)
 
 -- no escape in the same places is less
-no_greater : (march : List MarchElement) (link : Link) (o : ℕ) (e f : LinkEscape) → IsLeastIn march link o e
-    → f.spots ≡ spots_in o → LetsThrough march link (spots_in o) f.content f.directions → IsNoGreater e f
-no_greater march link o e f least places through =
-    let same : spots_number e.spots ≡ spots_number f.spots = ap spots_number (least.spots ∙ sym places) in
+no_greater : (march : List MarchElement) (link : Link) (o : ℕ) (e f : LinkEscape) → IsLeastIn march link o e → f.link ≡ e.link
+    → f.spots ≡ spots_in link o → LetsThrough march link (spots_in link o) f.content f.directions → IsNoGreater e f
+no_greater march link o e f least links places through =
+    let spots = least.spots ∙ sym places in
+    let here : ℕ = spots_number e.link e.spots in
+    let there : ℕ = spots_number f.link f.spots in
+    let same : here ≡ there = (λ i. spots_number (sym links i) (spots i)) in
     ⊎_elim
-    (λ (h : three_number e.content < three_number f.content). inl (less (spots_number e.spots) (spots_number f.spots) (three_number e.content) (three_number f.content) same h))
+    (λ (h : three_number e.content < three_number f.content). inl (less here there (three_number e.content) (three_number f.content) same h))
     (λ (h : three_number f.content ≤ three_number e.content).
     ⊎_elim
     (λ (k : three_number f.content ≡ three_number e.content).
     let content : f.content ≡ e.content = same_number f.content e.content k in
-    inr (ap (λ m. 8 * m + three_number e.content) same ∙ ap (λ m. 8 * spots_number f.spots + m) (sym k), least.word.1 f.directions (subst (λ (c : Three). LetsThrough march link (spots_in o) c f.directions) content through)))
+    inr (ap (λ m. 8 * m + three_number e.content) same ∙ ap (λ m. 8 * there + m) (sym k), least.word.1 f.directions (subst (λ (c : Three). LetsThrough march link (spots_in link o) c f.directions) content through)))
     (λ (k : three_number f.content < three_number e.content). absurd (least.before f.content k f.directions through))
     (eq-or-lt_of_le h))
     (cases_lt (three_number e.content) (three_number f.content))
@@ -110,21 +114,23 @@ least_of_first : (march : List MarchElement) (link : Link) (e : LinkEscape) → 
     → IsEscape march f → IsNoGreater e f
 least_of_first march link e is found f same escape =
     let o : ℕ = found.order in
-    let order : IsOrder f.spots = order_is f.spots escape.array.spots in
+    let order : IsOrder link f.spots = order_is link f.spots escape.array.spots in
     let p : ℕ = order.order in
-    let through : LetsThrough march link (spots_in p) f.content f.directions =
+    let through : LetsThrough march link (spots_in link p) f.content f.directions =
     subst (λ (at : Spots). LetsThrough march link at f.content f.directions) order.is (escape_through march link f is escape (same ∙ found.least.link_is)) in
     ⊎_elim
     (λ (h : p < o). absurd (found.none p h f.content (number_below f.content) f.directions through))
     (λ (h : o ≤ p).
     ⊎_elim
     (λ (k : o ≡ p).
-    no_greater march link o e f found.least (order.is ∙ ap spots_in (sym k)) (subst (λ m. LetsThrough march link (spots_in m) f.content f.directions) (sym k) through))
+    no_greater march link o e f found.least same (order.is ∙ ap (spots_in link) (sym k)) (subst (λ m. LetsThrough march link (spots_in link m) f.content f.directions) (sym k) through))
     (λ (k : o < p).
-    let further : spots_number e.spots < spots_number f.spots =
-    subst (λ (at : Spots). spots_number at < spots_number f.spots) (sym found.least.spots)
-    (subst (λ (at : Spots). spots_number (spots_in o) < spots_number at) (sym order.is) (in_order o p k order.within)) in
-    inl (far (spots_number e.spots) (spots_number f.spots) (three_number e.content) (three_number f.content) further (number_below e.content)))
+    let here : spots_number e.link e.spots ≡ spots_number link (spots_in link o) = (λ i. spots_number (found.least.link_is i) (found.least.spots i)) in
+    let links : f.link ≡ link = same ∙ found.least.link_is in
+    let there : spots_number f.link f.spots ≡ spots_number link (spots_in link p) = (λ i. spots_number (links i) (order.is i)) in
+    let further : spots_number e.link e.spots < spots_number f.link f.spots =
+    subst (λ (n : ℕ). n < spots_number f.link f.spots) (sym here) (subst (λ (n : ℕ). spots_number link (spots_in link o) < n) (sym there) (in_order link o p k order.within)) in
+    inl (far (spots_number e.link e.spots) (spots_number f.link f.spots) (three_number e.content) (three_number f.content) further (number_below e.content)))
     (eq-or-lt_of_le h))
     (cases_lt p o)
 
@@ -136,7 +142,7 @@ pub judged : (march : List MarchElement) (link : Link) (result : Option LinkEsca
     → MatchOption result (NoneIn march link 6) (λ e. IsFirstFound march link e) → Judged march link result
 judged march link None is none = let detects = none_detects march link is none in (detects, λ size more. detects size more)
 judged march link (Some e) is found =
-    let never = detected_never march link (spots_in found.order) e.content e.directions is (fits_order found.order found.within) found.least.word.0 in (
+    let never = detected_never march link (spots_in link found.order) e.content e.directions is (fits_order link found.order found.within) found.least.word.0 in (
       (
         found.least.link_is,
         record { escape = found_escape march link found.order e is found.within found.least; least = λ f same escape. least_of_first march link e is found f same escape },
@@ -147,14 +153,14 @@ judged march link (Some e) is found =
 
 -- the search over the contents
 pub none_so_far : (march : List MarchElement) (link : Link) (o number : ℕ) (content : Three) → IsMarch march
-    → three_number content ≡ number → NoneBefore march link o number → word_to link (spots_in o) march 0 content ≡ None → NoneBefore march link o (number + 1)
+    → three_number content ≡ number → NoneBefore march link o number → word_to link (spots_in link o) march 0 content ≡ None → NoneBefore march link o (number + 1)
 none_so_far march link o number content is at before none c low word through =
-    let nothing : IsLeastOf (LetsThrough march link (spots_in o) content) None =
-    subst (IsLeastOf (LetsThrough march link (spots_in o) content)) none (least_whole link (spots_in o) march content is) in
+    let nothing : IsLeastOf (LetsThrough march link (spots_in link o) content) None =
+    subst (IsLeastOf (LetsThrough march link (spots_in link o) content)) none (least_whole link (spots_in link o) march content is) in
     ⊎_elim
     (λ (h : three_number c ≡ number).
     let same : c ≡ content = same_number c content (h ∙ sym at) in
-    nothing word (subst (λ (d : Three). LetsThrough march link (spots_in o) d word) same through))
+    nothing word (subst (λ (d : Three). LetsThrough march link (spots_in link o) d word) same through))
     (λ (h : three_number c < number). before c h word through)
     (eq_or_lt (three_number c) number low)
   where
@@ -162,18 +168,18 @@ none_so_far march link o number content is at before none c low word through =
     eq_or_lt m n h = eq-or-lt_of_le (omega arith)
 
 pub least_here : (march : List MarchElement) (link : Link) (o number : ℕ) (content : Three) (word : ℕ) (e : LinkEscape) → IsMarch march
-    → three_number content ≡ number → NoneBefore march link o number → word_to link (spots_in o) march 0 content ≡ Some word
-    → e.link ≡ link → e.spots ≡ spots_in o → e.content ≡ content → e.directions ≡ word → IsLeastIn march link o e
+    → three_number content ≡ number → NoneBefore march link o number → word_to link (spots_in link o) march 0 content ≡ Some word
+    → e.link ≡ link → e.spots ≡ spots_in link o → e.content ≡ content → e.directions ≡ word → IsLeastIn march link o e
 least_here march link o number content word e is at before found link_is places content_is word_is =
-    let least : IsLeastOf (LetsThrough march link (spots_in o) content) (Some word) =
-    subst (IsLeastOf (LetsThrough march link (spots_in o) content)) found (least_whole link (spots_in o) march content is) in
+    let least : IsLeastOf (LetsThrough march link (spots_in link o) content) (Some word) =
+    subst (IsLeastOf (LetsThrough march link (spots_in link o) content)) found (least_whole link (spots_in link o) march content is) in
     record {
       link_is = link_is;
       spots = places;
       before = subst (NoneBefore march link o) (sym (ap three_number content_is ∙ at)) before;
       word =
-          subst (λ (w : ℕ). IsLeastOf (LetsThrough march link (spots_in o) e.content) (Some w)) (sym word_is)
-          (subst (λ (c : Three). IsLeastOf (LetsThrough march link (spots_in o) c) (Some word)) (sym content_is) least);
+          subst (λ (w : ℕ). IsLeastOf (LetsThrough march link (spots_in link o) e.content) (Some w)) (sym word_is)
+          (subst (λ (c : Three). IsLeastOf (LetsThrough march link (spots_in link o) c) (Some word)) (sym content_is) least);
     }
 
 -- the search over the places

@@ -2,7 +2,7 @@ ghost use Rattle.std.specs.Prelude.{◌≡◌, ◌<◌, ◌≤◌, ℕ, None, Ma
 ghost use Rattle.march_core.specs.March.{IsMarch};
 ghost use Rattle.linked_faults.specs.Linking.{FitsSpots, IsLinked, NeverBoth, HaveSpots};
 ghost use Rattle.linked_faults.specs.Escapes.{three_number, IsVerdict, IsVerdictAt};
-ghost use Rattle.linked_faults.specs.inner.Searching.{spots_in, NoneBefore, NoneIn, IsLeastIn, IsFirstFound};
+ghost use Rattle.linked_faults.specs.inner.Searching.{choice, placed, spots_in, NoneBefore, NoneIn, IsLeastIn, IsFirstFound};
 
 use crate::link::{Link, Spots};
 use crate::search::{Search, word_from};
@@ -52,7 +52,7 @@ fn least_in(march: &March, link: &Link, order: u8) -> Option<LinkEscape>
     ensures { MatchOption result (NoneBefore march.now link.now order 8) (λ e. IsLeastIn march.now link.now order e) }
 {
     recall(march);
-    let spots = spots_in(order);
+    let spots = spots_in(link, order);
     let search = Search { march, link, spots };
     let mut dead_ends = DeadEnds::unknown();
     for number in 0..8 {
@@ -69,9 +69,10 @@ fn least_in(march: &March, link: &Link, order: u8) -> Option<LinkEscape>
     None
 }
 
-fn spots_in(order: u8) -> Spots
+/// Three cells in an order, as the places of the cells that take part, and then of the others.
+fn choice(order: u8) -> Spots
     requires { order < 6 }
-    ensures spots { result ≡ spots_in order }
+    ensures spots { result ≡ choice order }
     ensures fits { FitsSpots result 3 }
 {
     match order {
@@ -82,6 +83,42 @@ fn spots_in(order: u8) -> Spots
         4 => Spots { a: 2, b: 0, v: 1 },
         _ => Spots { a: 2, b: 1, v: 0 },
     }
+}
+
+/// The cells that take part, in the places that are chosen for them.
+fn placed(has_first: bool, has_other: bool, chosen: Spots) -> Spots
+    requires { FitsSpots chosen 3 }
+    ensures spots { result ≡ placed has_first has_other chosen }
+    ensures fits { FitsSpots result 3 }
+{
+    match (has_first, has_other) {
+        (true, true) => chosen,
+        (true, false) => Spots {
+            a: chosen.a,
+            b: chosen.v,
+            v: chosen.b,
+        },
+        (false, true) => Spots {
+            a: chosen.v,
+            b: chosen.a,
+            v: chosen.b,
+        },
+        (false, false) => Spots {
+            a: chosen.b,
+            b: chosen.v,
+            v: chosen.a,
+        },
+    }
+}
+
+/// The places of a link in their order.
+fn spots_in(link: &Link, order: u8) -> Spots
+    requires { order < 6 }
+    ensures spots { result ≡ spots_in link.now order }
+    ensures fits { FitsSpots result 3 }
+{
+    let has_other = link.second.is_two_cell() && !link.is_shared;
+    placed(link.first.is_two_cell(), has_other, choice(order))
 }
 
 /// The content with this number.

@@ -1,13 +1,13 @@
 -- A report on linked faults has one text.
-use Rattle.std.proofs.Common.{◌≡◌, ◌+◌, ◌*◌, ◌<◌, ◌≤◌, ◌++◌, inl, inr, ℕ, Bool, true, false, if◌then◌else◌, List, length, refl, sym, ◌∙◌, ap, subst, arith}
+use Rattle.std.proofs.Common.{◌≡◌, ◌++◌, inl, inr, ℕ, List, length, sym, ◌∙◌, ap, subst, arith}
 use Rattle.march_core.specs.March.{MarchElement}
 use Rattle.linked_faults.specs.declared.link.Link.{Link}
 use Rattle.linked_faults.specs.declared.table.LinkKind.{LinkKind}
 use Rattle.linked_faults.specs.declared.escape.LinkEscape.{LinkEscape}
-use Rattle.linked_faults.specs.Linking.{FitsSpots}
 use Rattle.linked_faults.specs.Detection.{Detects}
 use Rattle.linked_faults.specs.Escapes.{IsNoGreater, IsLeastEscape, array_number}
 use Rattle.linked_faults.proofs.Choosing.{links_one}
+use Rattle.linked_faults.proofs.Numbers.{same_array}
 use Rattle.report_lines.specs.Lines.{march_line, total_line}
 use Rattle.report_lines.specs.Listed.{CountsOf, AreLinesOf}
 use Rattle.report_lines.proofs.Listed.{counts_one, lines_one}
@@ -21,38 +21,11 @@ both_least e f (inl h) (inr (i, k)) = absurd (omega (arith, h, i))
 both_least e f (inr (h, k)) (inl i) = absurd (omega (arith, h, i))
 both_least e f (inr (h, k)) (inr (i, l)) = (h, omega (arith, k, l))
 
-abbrev digit : Bool → ℕ
-digit b = if b then 1 else 0
-
-small : (b : Bool) → digit b ≤ 1
-small true = omega arith
-small false = omega arith
-
-digit_one : (x y : Bool) → digit x ≡ digit y → x ≡ y
-digit_one true true h = refl
-digit_one false false h = refl
-digit_one true false h = let no : 1 ≡ 0 = h in absurd (omega (arith, no))
-digit_one false true h = let no : 0 ≡ 1 = h in absurd (omega (arith, no))
-
-digits_one : (a b v x y z c d w p q r : ℕ) → a < 3 → b < 3 → v < 3 → c < 3 → d < 3 → w < 3 → x ≤ 1 → y ≤ 1 → z ≤ 1 → p ≤ 1 → q ≤ 1 → r ≤ 1
-    → 8 * (9 * a + 3 * b + v) + (4 * x + 2 * y + z) ≡ 8 * (9 * c + 3 * d + w) + (4 * p + 2 * q + r)
-    → (a ≡ c) × (b ≡ d) × (v ≡ w) × (x ≡ p) × (y ≡ q) × (z ≡ r)
-digits_one a b v x y z c d w p q r ha hb hv hc hd hw hx hy hz hp hq hr h =
-    (omega arith, omega arith, omega arith, omega arith, omega arith, omega arith)
-
-same_array : (e f : LinkEscape) → FitsSpots e.spots 3 → FitsSpots f.spots 3 → array_number e ≡ array_number f → (e.spots ≡ f.spots) × (e.content ≡ f.content)
-same_array e f s t h =
-    let a = e.spots in let b = f.spots in let x = e.content in let y = f.content in
-    let all = digits_one a.a a.b a.v (digit x.x) (digit x.y) (digit x.z) b.a b.b b.v (digit y.x) (digit y.y) (digit y.z)
-    s.a_within s.b_within s.v_within t.a_within t.b_within t.v_within (small x.x) (small x.y) (small x.z) (small y.x) (small y.y) (small y.z) h in
-    let xs = digit_one x.x y.x all.3 in let ys = digit_one x.y y.y all.4 in let zs = digit_one x.z y.z all.5 in
-    ((λ i. record { a = all.0 i; b = all.1 i; v = all.2 i }), (λ i. record { x = xs i; y = ys i; z = zs i }))
-
 escape_one : (march : List MarchElement) (size : ℕ) (e f : LinkEscape) → e.link ≡ f.link → IsLeastEscape march e → IsLeastEscape march f
     → escape_line size e ≡ escape_line size f
 escape_one march size e f same x y =
     let both = both_least e f (x.least f (sym same) y.escape) (y.least e same x.escape) in
-    let array = same_array e f x.escape.array.spots y.escape.array.spots both.0 in
+    let array = same_array e f same x.escape.array.spots y.escape.array.spots both.0 in
     λ i. escape_line size (record { link = same i; spots = array.0 i; content = array.1 i; directions = both.1 i })
 
 line_one : (march : List MarchElement) (link : Link) (s t : List ℕ) → IsLinkLine march link s → IsLinkLine march link t → s ≡ t

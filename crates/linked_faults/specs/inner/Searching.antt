@@ -1,5 +1,6 @@
 -- Inner. Only helps proofs: what the search for the least escape finds.
-use Rattle.std.specs.Prelude.{◌≡◌, ◌<◌, ◌==◌, ℕ, Bool, true, if◌then◌else◌, Option, Some, None, List, length}
+use Rattle.std.specs.Prelude.{◌≡◌, ◌<◌, ◌==◌, ℕ, Bool, true, false, if◌then◌else◌, Option, Some, None, List, length}
+use Rattle.fault_core.specs.Primitive.{has_aggressor}
 use Rattle.march_core.specs.March.{MarchElement}
 use Rattle.march_core.specs.Visits.{directions_of, is_direction}
 use Rattle.pair_tracker.specs.declared.search.DeadEnds.{DeadEnds}
@@ -12,7 +13,7 @@ use Rattle.linked_faults.specs.declared.link.Link.{Link}
 use Rattle.linked_faults.specs.declared.link.Spots.{Spots}
 use Rattle.linked_faults.specs.declared.three.Three.{Three}
 use Rattle.linked_faults.specs.declared.escape.LinkEscape.{LinkEscape}
-use Rattle.linked_faults.specs.Escapes.{three_number}
+use Rattle.linked_faults.specs.Escapes.{three_number, has_other}
 use Rattle.linked_faults.specs.inner.Threes.{three_run, end_of}
 
 abbrev pub any_end : Three → Bool
@@ -37,8 +38,8 @@ pub record LetsThrough (march : List MarchElement) (link : Link) (at : Spots) (c
 abbrev pub spots_at : ℕ → ℕ → ℕ → Spots
 spots_at a b v = record { a = a; b = b; v = v }
 
-abbrev pub spots_in : ℕ → Spots
-spots_in order =
+abbrev pub choice : ℕ → Spots
+choice order =
     if order == 0 then spots_at 0 1 2
     else if order == 1 then spots_at 0 2 1
     else if order == 2 then spots_at 1 0 2
@@ -46,10 +47,21 @@ spots_in order =
     else if order == 4 then spots_at 2 0 1
     else spots_at 2 1 0
 
+-- the cells that take part in the places that are chosen for them
+abbrev pub placed : Bool → Bool → Spots → Spots
+placed true true s = s
+placed true false s = spots_at s.a s.v s.b
+placed false true s = spots_at s.v s.a s.b
+placed false false s = spots_at s.b s.v s.a
+
+-- the places of a link in their order
+abbrev pub spots_in : Link → ℕ → Spots
+spots_in link order = placed (has_aggressor link.first) (has_other link) (choice order)
+
 -- no content before this one is let through
 abbrev pub NoneBefore : List MarchElement → Link → ℕ → ℕ → Type 0
 NoneBefore march link order number =
-    (content : Three) → three_number content < number → (word : ℕ) → LetsThrough march link (spots_in order) content word → ⊥
+    (content : Three) → three_number content < number → (word : ℕ) → LetsThrough march link (spots_in link order) content word → ⊥
 
 -- no places before these let a content through
 abbrev pub NoneIn : List MarchElement → Link → ℕ → Type 0
@@ -58,9 +70,9 @@ NoneIn march link order = (o : ℕ) → o < order → NoneBefore march link o 8
 -- the array of the least content that is let through, with its least word
 pub record IsLeastIn (march : List MarchElement) (link : Link) (order : ℕ) (e : LinkEscape) : Type 0 where
   pub link_is : e.link ≡ link
-  pub spots : e.spots ≡ spots_in order
+  pub spots : e.spots ≡ spots_in link order
   pub before : NoneBefore march link order (three_number e.content)
-  pub word : IsLeastOf (LetsThrough march link (spots_in order) e.content) (Some e.directions)
+  pub word : IsLeastOf (LetsThrough march link (spots_in link order) e.content) (Some e.directions)
 
 -- the least in the first places that let a content through
 pub record IsFirstFound (march : List MarchElement) (link : Link) (e : LinkEscape) : Type 0 where
