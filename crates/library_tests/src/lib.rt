@@ -35,6 +35,8 @@ mod hosts;
 #[cfg(test)]
 mod judge_rows;
 #[cfg(test)]
+mod linked_rows;
+#[cfg(test)]
 mod march_texts;
 #[cfg(test)]
 mod memory_texts;
