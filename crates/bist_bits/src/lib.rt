@@ -23,7 +23,7 @@ mod bits;
 pub use bits::{Bits, concat, select};
 
 /// There was no memory.
-#[derive(Clone, Copy, Debug)]
+#[derive(Clone, Copy, Debug, PartialEq, Eq)]
 pub struct NoMemory;
 
 /// Whether an odd number of the bits of `value` are 1.

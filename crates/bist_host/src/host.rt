@@ -2,7 +2,7 @@ ghost use Rattle.std.specs.Prelude.{MatchResult};
 ghost use Rattle.bist_host.specs.Files.{HostState, OnlyReads, OnlyWrites, OnlySays, ReadGives, ReadRefused, WritesFile, WriteRefused, Says, SayRefused};
 
 /// Why a call of a host gives up.
-#[derive(Clone, Copy, Debug)]
+#[derive(Clone, Copy, Debug, PartialEq, Eq)]
 pub enum HostFault {
     /// No file has the name. A host that doesn't tell its files raises its count of read faults with it.
     Absent,

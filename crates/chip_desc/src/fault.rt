@@ -1,5 +1,5 @@
 /// A part of a chip file that must be there.
-#[derive(Clone, Copy)]
+#[derive(Clone, Copy, Debug, PartialEq, Eq)]
 pub enum ChipField {
     Name,
     Budget,
@@ -7,7 +7,7 @@ pub enum ChipField {
 }
 
 /// Why a text is no chip file. Lines are counted from 1 and bytes from 0 within their line.
-#[derive(Clone, Copy)]
+#[derive(Clone, Copy, Debug, PartialEq, Eq)]
 pub enum ChipFault {
     /// C1: the line up to and with this byte can't be continued to a line of a chip file.
     Unexpected { line: usize, byte: usize },

@@ -20,7 +20,7 @@ pub struct Sense {
 }
 
 /// Why the parts are no primitive.
-#[derive(Clone, Copy, Debug)]
+#[derive(Clone, Copy, Debug, PartialEq, Eq)]
 pub enum PrimFault {
     /// F3: they describe no static fault.
     NotAFault,

@@ -1,5 +1,5 @@
 /// Why a text is refused. Lines are counted from 1, and bytes within a line from 0.
-#[derive(Clone, Copy)]
+#[derive(Clone, Copy, Debug, PartialEq, Eq)]
 pub enum FaultFault {
     /// F1: the line up to and with this byte can't be continued.
     Unexpected { line: usize, byte: usize },

@@ -1,5 +1,5 @@
 /// Why a march is refused. Elements, operations and bytes are counted from 0.
-#[derive(Clone, Copy, Debug)]
+#[derive(Clone, Copy, Debug, PartialEq, Eq)]
 pub enum MarchFault {
     /// M1: the text up to and with this byte can't be continued to a march text. Only a reader answers it.
     Unexpected { byte: usize },

@@ -1,5 +1,5 @@
 /// A part of a description that must be there.
-#[derive(Clone, Copy, Debug)]
+#[derive(Clone, Copy, Debug, PartialEq, Eq)]
 pub enum Field {
     Name,
     Words,
@@ -9,7 +9,7 @@ pub enum Field {
 }
 
 /// Why a text is no memory description. Lines are counted from 1 and bytes from 0 within their line.
-#[derive(Clone, Copy, Debug)]
+#[derive(Clone, Copy, Debug, PartialEq, Eq)]
 pub enum MemoryFault {
     /// D1: the line up to and with this byte can't be continued to a line of a description.
     Unexpected { line: usize, byte: usize },

@@ -10,7 +10,7 @@ pub struct Matrix {
 }
 
 /// Rows whose exclusive or is 0: bit `i` is 1 where row `i` is one of them.
-#[derive(Clone, Copy, Debug)]
+#[derive(Clone, Copy, Debug, PartialEq, Eq)]
 pub struct Dependence {
     pub rows: u16,
 }

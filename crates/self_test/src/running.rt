@@ -15,7 +15,7 @@ use word_march::cycle_count;
 const CYCLE_LIMIT: u64 = 2_000_000;
 
 /// Why a module isn't run as a self-test.
-#[derive(Clone, Copy)]
+#[derive(Clone, Copy, Debug, PartialEq, Eq)]
 pub enum RunFault {
     /// B1: the run takes so many cycles, more than 2,000,000.
     TooLong { cycles: u64 },

@@ -35,7 +35,7 @@ pub struct PortCmd {
 }
 
 /// Why a box takes no shape or no instance.
-#[derive(Clone, Copy, Debug)]
+#[derive(Clone, Copy, Debug, PartialEq, Eq)]
 pub enum DeviceFault {
     /// V1: it has room for fewer words.
     TooBig,
