@@ -11,7 +11,7 @@
 //! assert!(rt; ended.status == 1 && host.said() == b"total 2 covered 1 escapes 1\n".as_slice());
 //! ```
 //!
-//! It never touches a real file.
+//! It never reaches a file but through its host.
 #![tactic(auto)]
 
 mod bench_command;

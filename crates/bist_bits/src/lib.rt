@@ -1,7 +1,6 @@
 //! Bit vectors of 1 to 64 bits, and the answer of a call that found no memory.
 //!
-//! A vector is a width and an unsigned value below two to that width. Bit 0 is the lowest. No call of
-//! this crate takes memory.
+//! A vector is a width and an unsigned value below two to that width. Bit 0 is the lowest.
 //!
 //! ```
 //! use bist_bits::{Bits, concat, select, width_of};

@@ -31,8 +31,8 @@ abbrev pub stated : {C : Type 0} → ℕ → Option C → List (Statement C)
 stated number None = []
 stated number (Some c) = (record { line = number; content = c }) ∷ []
 
--- why a line is none of these: it is refused at a byte, or it ended too early. One that ended too early and has a line feed is
--- refused at the place of the line feed.
+-- why a line is neither empty nor a content line that may stand: it is refused at a byte, or it ended too early. One that ended too
+-- early at a line feed is refused at the place of the line feed, and so only the last line can be told as one that ended too early.
 abbrev pub IsLineFault : {C V : Type 0} → (List ℕ → C → Type 0) → (Option V → C → Bool) → Option V → TextLine → TextFault → Type 0
 IsLineFault text stands given l (Unexpected line byte) = (line ≡ l.number)
     × (IsUnexpected (LineOf text stands given) l.text byte ⊎ ((l.ended ≡ true) × IsTruncated (LineOf text stands given) l.text × (byte ≡ length l.text)))
