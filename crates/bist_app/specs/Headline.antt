@@ -8,10 +8,14 @@ use Rattle.memory_desc.specs.Described.{SpellsMemory}
 use Rattle.dynamic_core.specs.declared.item.Item.{Item}
 use Rattle.dynamic_core.specs.Items.{SpellsItems}
 use Rattle.verilog_tree.specs.Plain.{ModuleTree}
+use Rattle.verilog_tree.specs.Spells.{Spells, FreelySpells}
 use Rattle.verilog_emit.specs.Written.{IsTextOf}
 use Rattle.self_test.specs.SelfTest.{SelfTest}
 use Rattle.self_test.specs.Expected.{ShowsExpected}
 use Rattle.self_test.specs.Numbers.{ShowsNumbers}
+use Rattle.word_march.specs.Commands.{cycle_count}
+use Rattle.port_check.specs.declared.answer.PortAnswer.{PortAnswer}
+use Rattle.port_check.specs.Answers.{IsAnswer}
 use Rattle.report.specs.Report.{IsMixedReport, DetectsOf}
 use Rattle.report_lines.specs.Lines.{total_line}
 use Rattle.bist_endings.specs.Words.{Words, word}
@@ -35,11 +39,12 @@ InputHas files name P = FileHas files name (λ bytes. (length bytes ≤ input_li
 
 -- The files MARCH, MEMORY and FAULTS were read as a march, a memory and a list, and spell no others. Now the bytes of VERILOG are the text of a
 -- module and of no other: its layout, with parentheses round each operator and begin and end round each body, where its names are legal and its
--- literals hold their values. (By the grammars of the readers they spell no other module either, and the answer of its open run is that it
--- conforms: the clause answer says that.) The module is a self-test of that memory by that march; `wdata` has what a read expects in the cycle
--- of each; and where nothing is known of its registers at first, nor of `rdata` but where the answer of a read stands there, each output has a
--- number behind the reset, and in it `en`, `done` and `fail` have 0. The bytes of REPORT are the report of the list. Some item isn't detected
--- exactly where the status is 1. How many there are and how many are detected was said, and all other files are as before.
+-- literals hold their values. Read by the grammar, with all parentheses or with operators that bind by precedence, they are that module and no
+-- other. The module is a self-test of that memory by that march; `wdata` has what a read expects in the cycle of each; and where nothing is
+-- known of its registers at first, nor of `rdata` but where the answer of a read stands there, each output has a number behind the reset, and in
+-- it `en`, `done` and `fail` have 0. The answer of its open run, by which `check` tells, is that it conforms, and no other. The bytes of REPORT
+-- are the report of the list. Some item isn't detected exactly where the status is 1. How many there are and how many are detected was said, and
+-- all other files are as before.
 pub record IsCompilation (words : Words) (files files' : Files) (said said' : Option (List ℕ)) (status : ℕ) : Type 0 where
   pub shape : HasForm compile_form words
   pub march : List MarchElement
@@ -53,7 +58,10 @@ pub record IsCompilation (words : Words) (files files' : Files) (said said' : Op
   pub self_test : SelfTest tree march memory
   pub expected : ShowsExpected tree march memory
   pub numbers : ShowsNumbers tree march memory
+  pub conforms : Only (IsAnswer tree march memory) (PortAnswer.Conforms (cycle_count march memory))
   pub module_text : FileHas files' (word words 4) (λ bytes. Only (IsTextOf bytes) tree)
+  pub spells : FileHas files' (word words 4) (λ bytes. Only (Spells bytes) tree)
+  pub freely : FileHas files' (word words 4) (λ bytes. Only (FreelySpells bytes) tree)
   pub report_text : FileHas files' (word words 5) (λ bytes. IsMixedReport bytes march (Some memory) items)
   pub escapes : Bool
   pub found : SomeEscapes march items escapes
