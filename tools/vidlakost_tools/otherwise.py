@@ -1,14 +1,16 @@
 """What other tools may read otherwise than the program does, though the standard is on its side: bytes in a module's
-comments that some obey or end a line at, and names of a chip that SystemVerilog reserves."""
+comments that some obey or end a line at, a `?` that some take for a digit, shifts so far that some take another value, and
+names of a chip that SystemVerilog reserves."""
 from __future__ import annotations
 
 import pathlib
 import re
 from typing import Iterator
 
+from vidlakost_tools.diagnose_verilog import Events
 from vidlakost_tools.finding import place
 from vidlakost_tools.text import read_described, statements
-from vidlakost_tools.verilog import COMMENT
+from vidlakost_tools.verilog import COMMENT, Expression, Unread
 
 # what may stand in a comment, or as a blank, and why another tool may go another way
 IN_TEXT = [
@@ -25,6 +27,13 @@ IN_COMMENT = [
         "a comment that tools which make gates obey",
     ),
 ]
+BEHIND_DECIMAL = (
+    rb"'[dD][0-9][0-9_]*(\?)",
+    "a `?` right behind a decimal literal: Verilator and Yosys take it for a digit, and refuse the module",
+)
+# from here on Yosys takes the amount of a shift for a negative number
+FAR = 1 << 31
+FAR_SHIFT = "a shift whose amount can be 2147483648 or more: Yosys takes another value"
 RESERVED = set(
     """accept_on alias always_comb always_ff always_latch assert assume before bind bins binsof bit break byte chandle checker
     class clocking const constraint context continue cover covergroup coverpoint cross dist do endchecker endclass endclocking
@@ -38,8 +47,57 @@ RESERVED = set(
 )
 
 
+class Shifts(Events):
+    """The places of the shifts of a module whose amount can be too far."""
+
+    def __init__(self, text: bytes):
+        self.far: list[int] = []
+        self.known: dict[int, int | None] = {}
+        super().__init__(text)
+
+    def width(self, it: Expression) -> int | None:
+        if id(it) not in self.known:
+            self.known[id(it)] = super().width(it)
+            if it.kind == "infix" and it.token.text in ("<<", ">>") and self.greatest(it.operands[1]) >= FAR:
+                self.far.append(it.token.at)
+        return self.known[id(it)]
+
+    def greatest(self, it: Expression) -> int:
+        """A number that an expression doesn't exceed."""
+        if it.kind == "literal":
+            return it.value
+        if it.kind == "choice":
+            return max(map(self.greatest, it.operands[1:]))
+        if it.kind == "join":
+            number = 0
+            for part in it.operands:
+                number = number << (self.width(part) or 0) | self.greatest(part)
+            return number
+        return (1 << (self.width(it) or 0)) - 1
+
+
+def far_shift(text: bytes) -> int | None:
+    """The place of the first shift whose amount can be too far."""
+    try:
+        return min(Shifts(text).far, default=None)
+    except Unread:
+        return None
+
+
+def blanked(match: re.Match[bytes]) -> bytes:
+    """Blanks in the place of a comment."""
+    return b" " * len(match[0])
+
+
 def places_in(text: bytes) -> Iterator[tuple[int, str]]:
     """Of each kind the first byte, and what it is."""
+    pattern, why = BEHIND_DECIMAL
+    behind = re.search(pattern, re.sub(COMMENT.encode(), blanked, text, flags=re.DOTALL))
+    if behind:
+        yield behind.start(1), why
+    far = far_shift(text)
+    if far is not None:
+        yield far, FAR_SHIFT
     for pattern, why in IN_TEXT:
         found = re.search(pattern, text)
         if found:

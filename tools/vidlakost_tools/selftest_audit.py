@@ -12,7 +12,14 @@ PORTS = (
     "  output done, output fail);\n"
 )
 NAMES = "other_names.v"
+# a right controller, in whose words stand shifts that leave nothing: by a constant, and by what only late becomes one
+FAR = read_text(ROOT / FOLDER / "styles" / "two_processes.v").replace(
+    "wdata = ground;", "wdata = ground ^ (ground << 32'hffffffff) ^ (ground >> (none - 1));"
+).replace("  integer i;", "  integer i;\n  wire [31:0] none;\n  nothing part(none);") + (
+    "module nothing(output [31:0] none);\n  assign none = 0;\nendmodule\n"
+)
 FILES = {
+    "far.v": FAR,
     "asks.v": "`ifdef YOSYS\nmodule t(input clk);\nendmodule\n`endif\n",
     "escapes.v": "module t(input clk);\n  wire \\x// ; `ifdef YOSYS\n  wire y;\n`endif\nendmodule\n",
     "includes.v": "`include \"inner.vh\"\n",
@@ -50,6 +57,7 @@ CALLS: List[Tuple[str, List[str], int, str, str]] = [
     ("yosys", ["tools/audit", "includes.v", "c.m", "s.mem"], 1, "audit: refused", "audit: 'inner.vh':2: it asks whether"),
     ("yosys", ["tools/audit", "escapes.v", "c.m", "s.mem"], 1, "audit: refused", "audit: 'escapes.v':2: it asks whether"),
     ("yosys", ["tools/audit", "latch.v", "c.m", "s.mem"], 1, "audit: refused", "audit: "),
+    ("yosys", ["tools/audit", "far.v", *WALK[1:]], 0, "audit: conforms, fail is exact\n", ""),
     ("yosys", ["tools/audit", "no_clear.v", "c.m", "s.mem"], 1, "en hangs on later", "audit: "),
     ("yosys", ["tools/audit", NAMES, "c.m", "s.mem"], 1, "", "audit: a self-test of s has the ports"),
     ("yosys", ["tools/audit", "simulated.v", "c.m", "s.mem"], 1, "", "audit: simulated.v:3: $time is a call"),

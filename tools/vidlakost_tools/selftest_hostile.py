@@ -265,6 +265,17 @@ def warnings(bench: Bench) -> None:
         told = f"warned.v:1:{column}: warning: {why}"
         bench.look(["./vidlakost", "check", "warned.v", *judged], 0, "conforms 43", told)
         bench.look(["./vidlakost", "check", "warned.v", *judged], 0, "conforms 43", "", VIDLAKOST_EXPLAIN="0")
+    for value, column, why in (
+        ("(4'd1?reset:reset)", 21, "a `?` right behind a decimal literal"),
+        ("(reset << 32'hffffffff)", 23, "a shift whose amount can be 2147483648 or more"),
+        ("(reset >> {rdata, 31'h0})", 23, "a shift whose amount can be 2147483648 or more"),
+    ):
+        (bench.folder / "warned.v").write_text(text.replace("endmodule", f"  wire odd;\n  assign odd = {value};\nendmodule"))
+        told = f"warned.v:{text.count(chr(10)) + 1}:{column}: warning: {why}"
+        bench.look(["./vidlakost", "check", "warned.v", *judged], 0, "conforms 43", told)
+    near = "  // 4'd1? and 1 << 32'hffffffff\n  wire odd;\n  assign odd = (reset << {1'h0, 31'h7fffffff});\nendmodule"
+    (bench.folder / "warned.v").write_text(text.replace("endmodule", near))
+    bench.look(["./vidlakost", "check", "warned.v", *judged], 0, "conforms 43", "")
     (bench.folder / "warned.v").write_bytes(text.replace("\n", "\r\n").encode())
     bench.look(["./vidlakost", "check", "warned.v", *judged], 0, "conforms 43", "")
     for name, why in (("logic", "SystemVerilog reserves 'logic'"), ("wdata_1", "'wdata_1' is also a port")):
