@@ -1,9 +1,10 @@
 -- What is made is written to files that the words name.
-use Rattle.bist_app.proofs.Common.{◌≡◌, ◌++◌, ◌∙◌, ℕ, List, [], ap, sym, subst, arith, length, codes, append_assoc, Done, Words, NamesWords, HasForm, decimal}
+use Rattle.bist_app.proofs.Common.{◌≡◌, ◌++◌, ◌∙◌, ℕ, List, [], ap, sym, subst, arith, length, codes, append_assoc, Done, Words, NamesWords, HasForm, decimal, Result, Ok, Err, IfOk, Plan, done_of, Item, MarchElement, Description}
 use Rattle.memory_desc.specs.Printed.{printed}
 use Rattle.made_inputs.specs.MadeMarch.{made_march, line_of}
-use Rattle.made_inputs.specs.MadeList.{made_text}
-use Rattle.bist_app.specs.Make.{make_form, IsMade, made_outputs, sizes_text, made_line}
+use Rattle.made_inputs.specs.MadeList.{made_text, made_items}
+use Rattle.made_inputs.specs.MadeMemory.{IsMadeMemory}
+use Rattle.bist_app.specs.Make.{make_form, IsMade, IsMadeOf, made_outputs, sizes_text, made_line}
 
 are_named : (words : Words) (march memory listed text bytes : List ℕ) → length words ≡ 7 → NamesWords words (made_outputs march memory listed text bytes)
 are_named words march memory listed text bytes count =
@@ -34,3 +35,16 @@ line_joined before first second third elements operations commands covered count
   where
     in_line : (l a x b y c : List ℕ) → (l ++ a ++ x) ++ (b ++ y ++ c) ≡ l ++ (a ++ x ++ b ++ y ++ c)
     in_line l a x b y c = simp append_assoc
+
+-- what is made of the inputs of a number
+pub made_from : {E : Type 0} (number : ℕ) (d : Description) (march : List MarchElement) (items : List Item) (listed : List ℕ) (result : Result Plan E)
+    → march ≡ made_march number → items ≡ made_items → listed ≡ made_text → IsMadeMemory number d
+    → IfOk result (λ plan. IsMadeOf march d items listed (done_of plan)) → IfOk result (λ plan. IsMade number (done_of plan))
+made_from number d march items listed (Err e) is_march is_items is_listed memory h = tt
+made_from number d march items listed (Ok plan) is_march is_items is_listed memory h = (
+  d,
+  memory,
+  subst (λ (m : List MarchElement). IsMadeOf m d made_items made_text (done_of plan)) is_march
+      (subst (λ (xs : List Item). IsMadeOf march d xs made_text (done_of plan)) is_items
+      (subst (λ (text : List ℕ). IsMadeOf march d items text (done_of plan)) is_listed h)),
+)

@@ -1,5 +1,5 @@
 -- A report has one text.
-use Rattle.std.proofs.Common.{◌≡◌, ◌+◌, ◌++◌, inl, inr, ℕ, Bool, true, false, List, [], ◌∷◌, Option, Some, None, length, codes, decimal, refl, sym, ◌∙◌, ap, ap₂, subst, arith}
+use Rattle.std.proofs.Common.{◌≡◌, ◌++◌, inl, inr, ℕ, Bool, true, false, List, [], ◌∷◌, Option, Some, None, length, codes, decimal, refl, sym, ◌∙◌, ap, ap₂, subst, arith}
 use Rattle.std.specs.Option.{IsSome}
 use Rattle.fault_core.specs.declared.primitive.Sense.{Sense}
 use Rattle.fault_core.specs.declared.cells.Places.{Places}
@@ -11,6 +11,7 @@ use Rattle.pair_tracker.specs.declared.placement.Placement.TheVariants.{Alone, B
 use Rattle.pair_tracker.specs.Placements.{places_in, FitsPlacement}
 use Rattle.escape_array.specs.declared.escape.EscapeArray.{EscapeArray}
 use Rattle.escape_array.specs.Escapes.{placement_number, content_number, IsNoGreater, IsLeastEscape}
+use Rattle.escape_array.proofs.LeastArray.{same_content}
 use Rattle.dynamic_core.specs.declared.item.Item.{Item}
 use Rattle.dynamic_core.specs.declared.item.Item.TheVariants.{Plain, Dyn}
 use Rattle.dynamic_core.specs.Primitive.{DynamicSense, DynamicPrimitive}
@@ -19,7 +20,9 @@ use Rattle.dynamic_prover.specs.declared.escape.DynEscape.{DynEscape}
 use Rattle.dynamic_prover.specs.Escapes.{DynArray, PassesDyn, address_number, digit_of, digits_of, order_of_array, IsInOrder, array_of, LeastDyn}
 use Rattle.report.specs.declared.class_lines.ItemClass.{ItemClass}
 use Rattle.report_lines.specs.Lines.{places_text, passing_text, march_line, memory_line, total_line}
-use Rattle.report.specs.Report.{escape_text, dyn_escape_text, escape_line, class_line, class_size, class_order, DetectsOf, IsEscapeText, IsLine, AreLines, AreClassLines, IsMixedReport}
+use Rattle.report_lines.proofs.Listed.{counts_one, line_one, lines_one}
+use Rattle.report.specs.Items.{DetectsItem}
+use Rattle.report.specs.Report.{item_text, escape_text, dyn_escape_text, class_line, class_size, class_order, DetectsOf, IsEscapeText, IsLine, IsClassLine, IsMixedReport}
 
 -- ---- the least array of two cells
 
@@ -52,33 +55,6 @@ same_places p q Below Above same f g h = let no : 0 ≡ 1 = h in absurd (omega (
 same_places p q Above Alone same f g h = absurd (none_or_some q p (sym same) g f)
 same_places p q Above Below same f g h = let no : 1 ≡ 0 = h in absurd (omega (arith, no))
 same_places p q Above Above same f g h = refl
-
-same_bits : (a b c d : Bool) → content_number (a ∷ b ∷ []) ≡ content_number (c ∷ d ∷ []) → (let xs : List Bool = a ∷ b ∷ [] in xs) ≡ c ∷ d ∷ []
-same_bits false false false false e = refl
-same_bits false true false true e = refl
-same_bits true false true false e = refl
-same_bits true true true true e = refl
-same_bits false false false true e = let no : 0 ≡ 1 = e in absurd (omega (arith, no))
-same_bits false false true false e = let no : 0 ≡ 2 = e in absurd (omega (arith, no))
-same_bits false false true true e = let no : 0 ≡ 3 = e in absurd (omega (arith, no))
-same_bits false true false false e = let no : 1 ≡ 0 = e in absurd (omega (arith, no))
-same_bits false true true false e = let no : 1 ≡ 2 = e in absurd (omega (arith, no))
-same_bits false true true true e = let no : 1 ≡ 3 = e in absurd (omega (arith, no))
-same_bits true false false false e = let no : 2 ≡ 0 = e in absurd (omega (arith, no))
-same_bits true false false true e = let no : 2 ≡ 1 = e in absurd (omega (arith, no))
-same_bits true false true true e = let no : 2 ≡ 3 = e in absurd (omega (arith, no))
-same_bits true true false false e = let no : 3 ≡ 0 = e in absurd (omega (arith, no))
-same_bits true true false true e = let no : 3 ≡ 1 = e in absurd (omega (arith, no))
-same_bits true true true false e = let no : 3 ≡ 2 = e in absurd (omega (arith, no))
-
-same_content : (xs ys : List Bool) → length xs ≡ 2 → length ys ≡ 2 → content_number xs ≡ content_number ys → xs ≡ ys
-same_content [] ys h i e = absurd (omega (arith, h))
-same_content (a ∷ []) ys h i e = absurd (omega (arith, h))
-same_content (a ∷ b ∷ z ∷ zs) ys h i e = absurd (omega (arith, h))
-same_content (a ∷ b ∷ []) [] h i e = absurd (omega (arith, i))
-same_content (a ∷ b ∷ []) (c ∷ []) h i e = absurd (omega (arith, i))
-same_content (a ∷ b ∷ []) (c ∷ d ∷ z ∷ zs) h i e = absurd (omega (arith, i))
-same_content (a ∷ b ∷ []) (c ∷ d ∷ []) h i e = same_bits a b c d e
 
 static_one : (march : List MarchElement) (size : ℕ) (e f : EscapeArray) → e.prim ≡ f.prim → IsLeastEscape march e → IsLeastEscape march f
     → escape_text size e ≡ escape_text size f
@@ -162,33 +138,19 @@ escape_one : (march : List MarchElement) (item : Item) (s t : List ℕ) → IsEs
 escape_one march (Plain p) s t (e, a, x, is) (f, b, y, it) = is ∙ static_one march (length march) e f (a ∙ sym b) x y ∙ sym it
 escape_one march (Dyn p) s t (e, a, x, is) (f, b, y, it) = is ∙ dynamic_one march (length march) e f (a ∙ sym b) x y ∙ sym it
 
-line_one : (march : List MarchElement) (item : Item) (s t : List ℕ) → IsLine march item s → IsLine march item t → s ≡ t
-line_one march item s t (inl (d, is)) (inl (e, it)) = is ∙ sym it
-line_one march item s t (inl (d, is)) (inr (never, y, g, it)) = absurd (never d)
-line_one march item s t (inr (never, x, f, is)) (inl (d, it)) = absurd (never d)
-line_one march item s t (inr (never, x, f, is)) (inr (nor, y, g, it)) = is ∙ ap (escape_line item) (escape_one march item x y f g) ∙ sym it
-
-lines_one : (march : List MarchElement) (items : List Item) (s t : List ℕ) → AreLines march items s → AreLines march items t → s ≡ t
-lines_one march [] s t is it = is ∙ sym it
-lines_one march (i ∷ items) s t (a, b, f, g, is) (c, d, h, k, it) =
-    is ∙ ap₂ (λ (x y : List ℕ). x ++ y) (line_one march i a c f h) (lines_one march items b d g k) ∙ sym it
+one_line : (march : List MarchElement) (item : Item) (s t : List ℕ) → IsLine march item s → IsLine march item t → s ≡ t
+one_line march item = line_one (item_text item) (DetectsItem march item) (IsEscapeText march item) (escape_one march item)
 
 pub detects_one : (march : List MarchElement) (items : List Item) (m n : ℕ) → DetectsOf march items m → DetectsOf march items n → m ≡ n
-detects_one march [] m n h i = h ∙ sym i
-detects_one march (p ∷ ps) m n (inl (d, k, a, x)) (inl (e, l, b, y)) = x ∙ ap (λ (z : ℕ). 1 + z) (detects_one march ps k l a b) ∙ sym y
-detects_one march (p ∷ ps) m n (inl h) (inr i) = absurd (i.0 h.0)
-detects_one march (p ∷ ps) m n (inr h) (inl i) = absurd (h.0 i.0)
-detects_one march (p ∷ ps) m n (inr h) (inr i) = detects_one march ps m n h.1 i.1
+detects_one march = counts_one (DetectsItem march)
 
-classes_one : (march : List MarchElement) (items : List Item) (cs : List ItemClass) (s t : List ℕ) → AreClassLines march items cs s → AreClassLines march items cs t → s ≡ t
-classes_one march items [] s t is it = is ∙ sym it
-classes_one march items (c ∷ cs) s t (m, a, f, g, is) (n, b, h, k, it) =
-    is ∙ ap₂ (λ (z : ℕ) (x : List ℕ). class_line c (class_size c items) z ++ x) (detects_one march _ m n f h) (classes_one march items cs a b g k) ∙ sym it
+one_class : (march : List MarchElement) (items : List Item) (c : ItemClass) (s t : List ℕ) → IsClassLine march items c s → IsClassLine march items c t → s ≡ t
+one_class march items c s t (m, f, is) (n, g, it) = is ∙ ap (class_line c (class_size c items)) (detects_one march _ m n f g) ∙ sym it
 
 pub text_one : (march : List MarchElement) (memory : Option Description) (items : List Item) (text other : List ℕ)
     → IsMixedReport text march memory items → IsMixedReport other march memory items → text ≡ other
 text_one march memory items text other r q =
-    let lines = lines_one march items r.lines q.lines r.are_lines q.are_lines in
-    let classes = classes_one march items class_order r.classes q.classes r.are_classes q.are_classes in
+    let lines = lines_one (IsLine march) (one_line march) items r.lines q.lines r.are_lines q.are_lines in
+    let classes = lines_one (IsClassLine march items) (one_class march items) class_order r.classes q.classes r.are_classes q.are_classes in
     let covered = detects_one march items r.covered q.covered r.detects q.detects in
     r.is ∙ (λ j. march_line march ++ memory_line march memory ++ lines j ++ classes j ++ total_line (length items) (covered j)) ∙ sym q.is

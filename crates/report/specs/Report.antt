@@ -1,6 +1,6 @@
 -- Trusted. The report of verdicts: the march, the memory where there is one, one line for each item of the list, one for each class that
 -- occurs, and the total. Every line ends with a line feed.
-use Rattle.std.specs.Prelude.{◌≡◌, ◌+◌, ◌++◌, ◌&&◌, ◌⊎◌, ℕ, zero, suc, Bool, if◌then◌else◌, Option, List, [], ◌∷◌, length, filter, count_by, map, take, codes, decimal}
+use Rattle.std.specs.Prelude.{◌≡◌, ◌++◌, ◌&&◌, ℕ, zero, suc, Bool, if◌then◌else◌, Option, List, [], ◌∷◌, length, filter, count_by, map, take, codes, decimal}
 use Rattle.std.specs.List.{flat_map}
 use Rattle.std.specs.Str.{bytes_eq}
 use Rattle.fault_core.specs.declared.table.Class.TheVariants.{SF, TF, WDF, RDF, DRDF, IRF, CFst, CFds, CFtr, CFwd, CFrd, CFdr, CFir, DRF}
@@ -19,6 +19,7 @@ use Rattle.dynamic_prover.specs.declared.escape.DynEscape.{DynEscape}
 use Rattle.dynamic_prover.specs.declared.escape.DynVerdict.{DynVerdict}
 use Rattle.dynamic_prover.specs.Escapes.{LeastDyn}
 use Rattle.report_lines.specs.Lines.{march_line, memory_line, total_line, prim_text, places_text, passing_text}
+use Rattle.report_lines.specs.Listed.{CountsOf, AreLinesOf, IsVerdictLine, covered_line, escape_line}
 use Rattle.report.specs.declared.class_lines.ItemClass.{ItemClass}
 use Rattle.report.specs.declared.class_lines.ItemClass.TheVariants.{Static, DynOne, DynTwo}
 use Rattle.report.specs.declared.judged.JudgedItem.{JudgedItem}
@@ -81,19 +82,12 @@ dyn_places_text e = codes " cells " ++ decimal e.size ++ places_text e.agg e.vic
 abbrev pub dyn_escape_text : ℕ → DynEscape → List ℕ
 dyn_escape_text size e = dyn_places_text e ++ passing_text size (take e.size e.content) e.directions
 
--- the line of an item that is covered, and of one that escapes
-abbrev pub covered_line : Item → List ℕ
-covered_line item = codes "covered " ++ item_text item ++ codes "\n"
-
-abbrev pub escape_line : Item → List ℕ → List ℕ
-escape_line item escape = codes "escape " ++ item_text item ++ escape ++ codes "\n"
-
 -- the line of a judged item under a march with so many elements
 abbrev pub judged_line : ℕ → JudgedItem → List ℕ
-judged_line size (JudgedItem.Plain p Verdict.Covered) = covered_line (Plain p)
-judged_line size (JudgedItem.Plain p (Verdict.Escape e)) = escape_line (Plain p) (escape_text size e)
-judged_line size (JudgedItem.Dyn p DynVerdict.Covered) = covered_line (Dyn p)
-judged_line size (JudgedItem.Dyn p (DynVerdict.Escape e)) = escape_line (Dyn p) (dyn_escape_text size e)
+judged_line size (JudgedItem.Plain p Verdict.Covered) = covered_line (item_text (Plain p))
+judged_line size (JudgedItem.Plain p (Verdict.Escape e)) = escape_line (item_text (Plain p)) (escape_text size e)
+judged_line size (JudgedItem.Dyn p DynVerdict.Covered) = covered_line (item_text (Dyn p))
+judged_line size (JudgedItem.Dyn p (DynVerdict.Escape e)) = escape_line (item_text (Dyn p)) (dyn_escape_text size e)
 
 -- the lines of judged items
 abbrev pub judged_lines : ℕ → List JudgedItem → List ℕ
@@ -130,9 +124,7 @@ report_text march memory judged =
 
 -- the march detects so many of these items, repeats included
 abbrev pub DetectsOf : List MarchElement → List Item → ℕ → Type 0
-DetectsOf march [] n = n ≡ 0
-DetectsOf march (i ∷ items) n =
-    (DetectsItem march i × (k : ℕ) × DetectsOf march items k × (n ≡ 1 + k)) ⊎ ((DetectsItem march i → ⊥) × DetectsOf march items n)
+DetectsOf march items n = CountsOf (DetectsItem march) items n
 
 -- the text is that of the least escape of an item
 abbrev pub IsEscapeText : List MarchElement → Item → List ℕ → Type 0
@@ -141,28 +133,19 @@ IsEscapeText march (Dyn p) text = (e : DynEscape) × (e.prim ≡ p) × LeastDyn 
 
 -- the line of an item: covered exactly where the march detects it, and else its least escape
 abbrev pub IsLine : List MarchElement → Item → List ℕ → Type 0
-IsLine march item line =
-    (DetectsItem march item × (line ≡ covered_line item))
-    ⊎ ((DetectsItem march item → ⊥) × (escape : List ℕ) × IsEscapeText march item escape × (line ≡ escape_line item escape))
+IsLine march item line = IsVerdictLine (item_text item) (DetectsItem march item) (IsEscapeText march item) line
 
--- the lines of items in their order
-abbrev pub AreLines : List MarchElement → List Item → List ℕ → Type 0
-AreLines march [] text = text ≡ []
-AreLines march (i ∷ items) text = (line : List ℕ) × (rest : List ℕ) × IsLine march i line × AreLines march items rest × (text ≡ line ++ rest)
-
--- the lines of classes: for each that occurs the number of its items, and of those that the march detects
-abbrev pub AreClassLines : List MarchElement → List Item → List ItemClass → List ℕ → Type 0
-AreClassLines march items [] text = text ≡ []
-AreClassLines march items (c ∷ cs) text =
-    (covered : ℕ) × (rest : List ℕ) × DetectsOf march (filter (is_in_class c) items) covered × AreClassLines march items cs rest
-    × (text ≡ class_line c (class_size c items) covered ++ rest)
+-- the line of a class: the number of its items, and of those that the march detects
+abbrev pub IsClassLine : List MarchElement → List Item → ItemClass → List ℕ → Type 0
+IsClassLine march items c line =
+    (covered : ℕ) × DetectsOf march (filter (is_in_class c) items) covered × (line ≡ class_line c (class_size c items) covered)
 
 -- The bytes are the report of these items. Without dynamic ones it has no line of their classes, and no escape with a size.
 pub record IsMixedReport (text : List ℕ) (march : List MarchElement) (memory : Option Description) (items : List Item) : Type 0 where
   pub lines : List ℕ
   pub classes : List ℕ
   pub covered : ℕ
-  pub are_lines : AreLines march items lines
-  pub are_classes : AreClassLines march items class_order classes
+  pub are_lines : AreLinesOf (IsLine march) items lines
+  pub are_classes : AreLinesOf (IsClassLine march items) class_order classes
   pub detects : DetectsOf march items covered
   pub is : text ≡ march_line march ++ memory_line march memory ++ lines ++ classes ++ total_line (length items) covered

@@ -2,10 +2,10 @@
 use Rattle.std.proofs.Common.{◌≡◌, ◌+◌, ◌≤◌, ◌<◌, inl, inr, ℕ, zero, suc, Bool, true, false, cond, ◌&&◌, nat_lt, List, [], ◌∷◌, ◌++◌, length, map, slice_index_or, refl, ap, ap₂, sym, subst, ◌∙◌, zero-add, arith}
 use Rattle.std.specs.List.{filter, flat_map, AllByRecursion}
 use Rattle.std.specs.Prelude.{count_by}
-use Rattle.std.proofs.lemmas.List.{map-append}
-use Rattle.std.proofs.lemmas.List.Sums.{count_by-le-length, sum_by-cons}
+use Rattle.std.proofs.lemmas.List.{map-append, length-map}
+use Rattle.std.proofs.lemmas.List.Sums.{sum_by-cons}
 use Rattle.std.proofs.lemmas.Bool.Decides.{nat_tests}
-use Rattle.report_lines.specs.Listed.{CountsOf, SomeLacks, AreLinesOf}
+use Rattle.report_lines.specs.Listed.{CountsOf, SomeLacks, AreLinesOf, IsVerdictLine, escape_line}
 
 -- what a right verdict says: the item has the property where it is covered, and else it has it not
 abbrev pub Tells : {A : Type 0} → (A → Type 0) → A → Bool → Type 0
@@ -55,21 +55,30 @@ behind P x xs false d h = (d, h)
 lt_more : (m n : ℕ) → nat_lt (1 + m) (suc n) ≡ nat_lt m n
 lt_more m n = grind (arith, nat_tests)
 
-lt_here : (m n : ℕ) → m ≤ n → nat_lt (0 + m) (suc n) ≡ true
+lt_here : (m n : ℕ) → m ≤ n → nat_lt m (suc n) ≡ true
 lt_here m n h = grind (arith, nat_tests)
 
-one_before : {A : Type 0} (P : A → Type 0) (x : A) (xs : List A) (b : Bool) (m n : ℕ) → Tells P x b → m ≤ n → SomeLacks P xs (nat_lt m n)
-    → SomeLacks P (x ∷ xs) (nat_lt (cond b 1 0 + m) (suc n))
-one_before P x xs true m n d le h = subst (SomeLacks P (x ∷ xs)) (sym (lt_more m n)) (behind P x xs (nat_lt m n) d h)
-one_before P x xs false m n d le h = subst (SomeLacks P (x ∷ xs)) (sym (lt_here m n le)) (x, (0, omega arith, refl), d)
+-- there are no more of them than items
+pub at_most : {A : Type 0} (P : A → Type 0) (xs : List A) (n : ℕ) → CountsOf P xs n → n ≤ length xs
+at_most P [] n h = omega (arith, h)
+at_most P (x ∷ xs) n (inl (p, k, rest, is)) = let few : k ≤ length xs = at_most P xs k rest in omega (arith, few, is)
+at_most P (x ∷ xs) n (inr (never, rest)) = let few : n ≤ length xs = at_most P xs n rest in omega (arith, few)
 
--- one lacks it exactly where fewer are covered than there are
-module _ {A J : Type 0} (P : A → Type 0) (item : J → A) (covered : J → Bool) (Right : J → Type 0) (tells : (j : J) → Right j → Tells P (item j) (covered j)) where
-  pub some_lacks : (js : List J) → AllByRecursion Right js → SomeLacks P (map item js) (nat_lt (count_by covered js) (length js))
-  some_lacks [] h = tt
-  some_lacks (j ∷ js) h =
-      subst (λ n. SomeLacks P (map item (j ∷ js)) (nat_lt n (suc (length js)))) (sym (sum_by-cons (λ k. cond (covered k) 1 0) j js))
-      (one_before P (item j) (map item js) (covered j) (count_by covered js) (length js) (tells j h.0) (count_by-le-length covered js) (some_lacks js h.1))
+-- one lacks it exactly where fewer have it than there are
+pub lacks_where : {A : Type 0} (P : A → Type 0) (xs : List A) (n : ℕ) → CountsOf P xs n → SomeLacks P xs (nat_lt n (length xs))
+lacks_where P [] n h = subst (λ k. SomeLacks P [] (nat_lt k 0)) (sym h) tt
+lacks_where P (x ∷ xs) n (inl (p, k, rest, is)) =
+    subst (λ m. SomeLacks P (x ∷ xs) (nat_lt m (suc (length xs)))) (sym is)
+    (subst (SomeLacks P (x ∷ xs)) (sym (lt_more k (length xs))) (behind P x xs (nat_lt k (length xs)) p (lacks_where P xs k rest)))
+lacks_where P (x ∷ xs) n (inr (never, rest)) =
+    subst (SomeLacks P (x ∷ xs)) (sym (lt_here n (length xs) (at_most P xs n rest))) (x, (0, omega arith, refl), never)
+
+-- the same of judged items
+pub some_lacks : {A J : Type 0} (P : A → Type 0) (item : J → A) (covered : J → Bool) (Right : J → Type 0) → ((j : J) → Right j → Tells P (item j) (covered j))
+    → (js : List J) → AllByRecursion Right js → SomeLacks P (map item js) (nat_lt (count_by covered js) (length js))
+some_lacks P item covered Right tells js h =
+    subst (λ n. SomeLacks P (map item js) (nat_lt (count_by covered js) n)) (length-map js item)
+    (lacks_where P (map item js) (count_by covered js) (counted P item covered Right tells js h))
 
 -- ---- lines
 
@@ -101,6 +110,14 @@ counts_one P (x ∷ xs) m n (inl (p, k, a, is)) (inl (q, l, b, it)) = is ∙ ap 
 counts_one P (x ∷ xs) m n (inl h) (inr i) = absurd (i.0 h.0)
 counts_one P (x ∷ xs) m n (inr h) (inl i) = absurd (h.0 i.0)
 counts_one P (x ∷ xs) m n (inr h) (inr i) = counts_one P xs m n h.1 i.1
+
+-- where an item has one escape, it has one line
+pub line_one : (item : List ℕ) (Detected : Type 0) (IsEscape : List ℕ → Type 0) → ((s t : List ℕ) → IsEscape s → IsEscape t → s ≡ t)
+    → (s t : List ℕ) → IsVerdictLine item Detected IsEscape s → IsVerdictLine item Detected IsEscape t → s ≡ t
+line_one item Detected IsEscape escape_one s t (inl (d, is)) (inl (e, it)) = is ∙ sym it
+line_one item Detected IsEscape escape_one s t (inl (d, is)) (inr (never, y, g, it)) = absurd (never d)
+line_one item Detected IsEscape escape_one s t (inr (never, x, f, is)) (inl (d, it)) = absurd (never d)
+line_one item Detected IsEscape escape_one s t (inr (never, x, f, is)) (inr (nor, y, g, it)) = is ∙ ap (escape_line item) (escape_one x y f g) ∙ sym it
 
 pub lines_one : {A : Type 0} (IsLine : A → List ℕ → Type 0) → ((x : A) (s t : List ℕ) → IsLine x s → IsLine x t → s ≡ t)
     → (xs : List A) (s t : List ℕ) → AreLinesOf IsLine xs s → AreLinesOf IsLine xs t → s ≡ t

@@ -1,5 +1,5 @@
 -- Trusted. What a report says of a list, whatever its items are: how many have a property, whether one has it not, and a line for each.
-use Rattle.std.specs.Prelude.{◌≡◌, ◌+◌, ◌++◌, ◌⊎◌, ℕ, Bool, true, false, List, [], ◌∷◌, Contains}
+use Rattle.std.specs.Prelude.{◌≡◌, ◌+◌, ◌++◌, ◌⊎◌, ℕ, Bool, true, false, List, [], ◌∷◌, Contains, codes}
 use Rattle.std.specs.List.{AllByRecursion}
 
 -- so many of these have the property, repeats included
@@ -16,3 +16,15 @@ SomeLacks {A} P xs false = AllByRecursion P xs
 abbrev pub AreLinesOf : {A : Type 0} → (A → List ℕ → Type 0) → List A → List ℕ → Type 0
 AreLinesOf {A} IsLine [] text = text ≡ []
 AreLinesOf {A} IsLine (x ∷ xs) text = (line : List ℕ) × (rest : List ℕ) × IsLine x line × AreLinesOf IsLine xs rest × (text ≡ line ++ rest)
+
+-- the line of an item that is covered, and of one that escapes
+abbrev pub covered_line : List ℕ → List ℕ
+covered_line item = codes "covered " ++ item ++ codes "\n"
+
+abbrev pub escape_line : List ℕ → List ℕ → List ℕ
+escape_line item escape = codes "escape " ++ item ++ escape ++ codes "\n"
+
+-- the line of an item with this text: covered exactly where it is detected, and else with its escape
+abbrev pub IsVerdictLine : List ℕ → Type 0 → (List ℕ → Type 0) → List ℕ → Type 0
+IsVerdictLine item Detected IsEscape line =
+    (Detected × (line ≡ covered_line item)) ⊎ ((Detected → ⊥) × (escape : List ℕ) × IsEscape escape × (line ≡ escape_line item escape))

@@ -2,6 +2,7 @@
 use Rattle.bist_app.proofs.Common.{List, None, [], ap, sym, ◌∙◌, ◌∷◌, ◌≡◌, leaves_conclude, then_concludes, Done, Written, list_settles, march_settles, InputList, InputMarch, Item, MarchElement, text_one}
 use Rattle.bist_app.proofs.Facts.{Facts, files_facts}
 use Rattle.bist_app.proofs.OneReported.{reports_one}
+use Rattle.report.specs.Items.{DetectsItem}
 use Rattle.bist_app.specs.Judge.{DecidesJudge, IsJudged, LeavesJudge, judge_form, judge_row}
 
 files_one : (march : List MarchElement) (items : List Item) (d e : Done) → IsJudged march items d → IsJudged march items e → d.outputs ≡ e.outputs
@@ -13,5 +14,5 @@ unfolding LeavesJudge
 judge_facts = files_facts judge_form DecidesJudge (λ outputs. outputs) (λ files words.
     then_concludes (InputMarch files words 1) _ (march_settles files words 1) (λ march _.
     then_concludes (InputList files words 2) _ (list_settles files words 2) (λ items _.
-    leaves_conclude (IsJudged march items) (λ told tells d e f g. reports_one march _ items d.found e.found f.bytes g.bytes d.line e.line f.reports g.reports)
+    leaves_conclude (IsJudged march items) (λ told tells d e f g. reports_one _ (DetectsItem march) items d.found e.found f.bytes g.bytes d.line e.line f.reports g.reports)
     (λ told. files_one march items))))

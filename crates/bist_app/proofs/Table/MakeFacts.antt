@@ -2,7 +2,8 @@
 use Rattle.bist_app.proofs.Common.{take, drop, ℕ, List, Ok, Some, [], ap, ap₂, arith, length, subst, sym, ◌*◌, ◌++◌, ◌+◌, ◌-◌, ◌∙◌, ◌∷◌, ◌≡◌, Concludes, leaves_conclude, own_said, own_settles, then_concludes, Done, Written, found_status, Answer, answer_of, SaysOwn, word, Item, MarchElement, all_ops, Description, detects_one, text_one, IsMixedReport, command_count}
 use Rattle.backgrounds.specs.Backgrounds.{IsLogSet, IsLogarithm}
 use Rattle.bist_app.proofs.Facts.{Facts, with_left}
-use Rattle.bist_app.proofs.OneReported.{found_one}
+use Rattle.report_lines.proofs.Listed.{lacks_one}
+use Rattle.report.specs.Items.{DetectsItem}
 use Rattle.bist_app.proofs.OwnWords.{number_one}
 use Rattle.bist_app.specs.Make.{DecidesMake, IsMade, IsMadeOf, IsMakeShape, LeavesMake, made_line, make_row}
 use Rattle.made_inputs.specs.MadeList.{made_items, made_text}
@@ -34,7 +35,7 @@ summary_one : (march : List MarchElement) (a b : Description) (items : List Item
     → IsMadeOf march a items listed d → IsMadeOf march b items listed e
     → (let x : Answer = record { status = found_status d.found; line = d.line } in x) ≡ record { status = found_status e.found; line = e.line }
 summary_one march a b items listed d e count p q =
-    let status = ap found_status (found_one march items d.found e.found p.reports.found q.reports.found) in
+    let status = ap found_status (lacks_one (DetectsItem march) items d.found e.found p.reports.found q.reports.found) in
     let covered = detects_one march items p.covered q.covered p.detects q.detects in
     let lines : d.line ≡ e.line =
     p.line ∙ ap₂ (λ (n k : ℕ). made_line (length march) (length (all_ops march)) n k (length items)) count covered ∙ sym q.line in

@@ -23,8 +23,8 @@ loop-item-preserved c =
     let one : from_bool c.is_of_class.result ≤ 1 = one_at_most c.is_of_class.result in
     let other : from_bool c.is_covered_there.result ≤ 1 = one_at_most c.is_covered_there.result in
     record {
-      count = rw c.from-count.ensures (counted_more (λ j. is_in_class class (item_of j)) js i x c.loop-item.count c.is_of_class.result c.loop-item-test.true c.item-item.is (sym c.is_of_class.ensures) c.loop-item.invariant.count);
-      covered = rw c.from-covered.ensures (counted_more (is_covered_in class) js i x c.loop-item.covered c.is_covered_there.result c.loop-item-test.true c.item-item.is (sym c.is_covered_there.ensures) c.loop-item.invariant.covered);
+      count = rw c.from-count.ensures (counted_more (λ j. is_in_class class (item_of j)) js i x x c.loop-item.count c.is_of_class.result c.loop-item-test.true c.item-item.is (sym c.is_of_class.ensures) c.loop-item.invariant.count);
+      covered = rw c.from-covered.ensures (counted_more (is_covered_in class) js i x x c.loop-item.covered c.is_covered_there.result c.loop-item-test.true c.item-item.is (sym c.is_covered_there.ensures) c.loop-item.invariant.covered);
       few = rw c.from-count.ensures (omega arith);
       fewer = rw c.from-covered.ensures (omega arith);
     }

@@ -12,7 +12,7 @@ pub loop-item-preserved : goal.loop-item-preserved
 loop-item-preserved c =
     let one : from_bool c.is_item_covered.result ≤ 1 = one_at_most c.is_item_covered.result in
     record {
-      count = rw c.from-count.ensures (counted_more is_covered c.args.judged.now c.loop-item.item-index c.item-item.result c.loop-item.count c.is_item_covered.result c.loop-item-test.true c.item-item.is (sym c.is_item_covered.ensures) c.loop-item.invariant.count);
+      count = rw c.from-count.ensures (counted_more is_covered c.args.judged.now c.loop-item.item-index c.item-item.result c.item-item.result c.loop-item.count c.is_item_covered.result c.loop-item-test.true c.item-item.is (sym c.is_item_covered.ensures) c.loop-item.invariant.count);
       few = rw c.from-count.ensures (omega arith);
     }
 
