@@ -1,0 +1,12 @@
+pub mod Runs
+pub mod Seen
+pub mod Passing
+pub mod Words
+pub mod EverySize
+pub mod Least
+pub mod Elements
+pub mod Meeting
+pub mod Classic
+pub mod Among
+pub mod Lines
+pub mod TakenCells

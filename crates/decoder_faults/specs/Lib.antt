@@ -1,0 +1,7 @@
+pub mod Decoding
+pub mod Detection
+pub mod Escapes
+pub mod Conditions
+pub mod Lines
+pub mod TakenCells
+pub mod inner
