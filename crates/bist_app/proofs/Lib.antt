@@ -7,6 +7,7 @@ pub mod Conformance
 pub mod Complete
 pub mod DirectionWord
 pub mod Judging
+pub mod Decoding
 pub mod Listing
 pub mod OneCommand
 pub mod PlaceWords

@@ -1,6 +1,7 @@
 -- What is known of each row of the table of commands.
 pub mod SimFacts
 pub mod JudgeFacts
+pub mod DecoderFacts
 pub mod LinkedFacts
 pub mod VectorsFacts
 pub mod CompileFacts
@@ -18,6 +19,7 @@ use Rattle.bist_app.proofs.Table.BenchFileFacts.{bench_file_facts}
 use Rattle.bist_app.proofs.Table.CheckFacts.{check_facts}
 use Rattle.bist_app.proofs.Table.ChipFacts.{chip_facts}
 use Rattle.bist_app.proofs.Table.CompileFacts.{compile_facts}
+use Rattle.bist_app.proofs.Table.DecoderFacts.{decoder_facts}
 use Rattle.bist_app.proofs.Facts.{Facts}
 use Rattle.bist_app.proofs.Table.JudgeFacts.{judge_facts}
 use Rattle.bist_app.proofs.Table.LinkedFacts.{linked_facts}
@@ -29,6 +31,7 @@ use Rattle.bist_app.proofs.Common.{row_of, Command}
 pub facts_of : (command : Command) → Facts (row_of command)
 facts_of Command.Sim = sim_facts
 facts_of Command.Judge = judge_facts
+facts_of Command.Decoder = decoder_facts
 facts_of Command.Linked = linked_facts
 facts_of Command.Vectors = vectors_facts
 facts_of Command.Compile = compile_facts

@@ -3,6 +3,7 @@ pub mod Forms
 pub mod Sim
 pub mod Reported
 pub mod Judge
+pub mod Decoder
 pub mod Linked
 pub mod Vectors
 pub mod Bench

@@ -11,6 +11,7 @@ use Rattle.bist_app.specs.Shared.{Boxes}
 use Rattle.bist_app.specs.Forms.{HasForm, Row}
 use Rattle.bist_app.specs.Sim.{sim_row}
 use Rattle.bist_app.specs.Judge.{judge_row}
+use Rattle.bist_app.specs.Decoder.{decoder_row}
 use Rattle.bist_app.specs.Linked.{linked_row}
 use Rattle.bist_app.specs.Vectors.{vectors_row}
 use Rattle.bist_app.specs.Compile.{compile_row}
@@ -26,6 +27,7 @@ use Rattle.bist_app.specs.Chip.{chip_row}
 abbrev pub row_of : Command → Row
 row_of Command.Sim = sim_row
 row_of Command.Judge = judge_row
+row_of Command.Decoder = decoder_row
 row_of Command.Linked = linked_row
 row_of Command.Vectors = vectors_row
 row_of Command.Compile = compile_row
@@ -42,6 +44,7 @@ abbrev pub command_named : List ℕ → Option Command
 command_named text =
     if bytes_eq text (codes "sim") then Some Command.Sim else
     if bytes_eq text (codes "judge") then Some Command.Judge else
+    if bytes_eq text (codes "decoder") then Some Command.Decoder else
     if bytes_eq text (codes "linked") then Some Command.Linked else
     if bytes_eq text (codes "vectors") then Some Command.Vectors else
     if bytes_eq text (codes "compile") then Some Command.Compile else

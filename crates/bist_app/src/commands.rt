@@ -15,6 +15,7 @@ use crate::benchfile_command::decide_benchfile;
 use crate::check_command::decide_check;
 use crate::chip::decide_chip;
 use crate::compile::decide_compile;
+use crate::decoder_command::decide_decoder;
 use crate::forms::has_form;
 use crate::judge::decide_judge;
 use crate::linked_command::decide_linked;
@@ -31,6 +32,7 @@ use word_device::Device;
 pub enum Command {
     Sim,
     Judge,
+    Decoder,
     Linked,
     Vectors,
     Compile,
@@ -50,6 +52,7 @@ fn command_named(name: &str) -> Option<Command>
     match name {
         "sim" => Some(Command::Sim),
         "judge" => Some(Command::Judge),
+        "decoder" => Some(Command::Decoder),
         "linked" => Some(Command::Linked),
         "vectors" => Some(Command::Vectors),
         "compile" => Some(Command::Compile),
@@ -71,6 +74,7 @@ fn is_formed(words: &[&str], command: Command) -> bool
     match command {
         Command::Sim => has_form(words, "sim", 8, 1, 2),
         Command::Judge => has_form(words, "judge", 4, 1, 4),
+        Command::Decoder => has_form(words, "decoder", 3, 1, 3),
         Command::Linked => has_form(words, "linked", 3, 1, 3),
         Command::Vectors => has_form(words, "vectors", 4, 1, 4),
         Command::Compile => has_form(words, "compile", 6, 1, 6),
@@ -115,6 +119,7 @@ pub fn decide<H: Host>(
         None => Err(Refusal::Usage),
         Some(Command::Sim) => decide_sim(alloc, words, host),
         Some(Command::Judge) => decide_judge(alloc, words, host),
+        Some(Command::Decoder) => decide_decoder(alloc, words, host),
         Some(Command::Linked) => decide_linked(alloc, words, host),
         Some(Command::Vectors) => decide_vectors(alloc, words, host),
         Some(Command::Compile) => decide_compile(alloc, words, host),

@@ -25,6 +25,7 @@ mod check_command;
 mod chip;
 mod commands;
 mod compile;
+mod decoder_command;
 mod directions;
 mod forms;
 mod judge;

@@ -25,6 +25,8 @@ mod compile_rows;
 #[cfg(test)]
 mod controller_rows;
 #[cfg(test)]
+mod decoder_rows;
+#[cfg(test)]
 mod dynamic_rows;
 #[cfg(test)]
 mod fault_texts;

@@ -1,4 +1,4 @@
--- Public. When a march detects a linked fault: at one size, and at every size.
+-- Trusted. When a march detects a linked fault: at one size, and at every size.
 use Rattle.std.specs.Prelude.{◌≡◌, ◌≤◌, ℕ, Bool, IsTrue, List, length}
 use Rattle.march_core.specs.March.{MarchElement}
 use Rattle.march_core.specs.Operation.{is_wrong_of}

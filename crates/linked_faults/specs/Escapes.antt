@@ -1,4 +1,4 @@
--- Public. Arrays of three cells that pass a march with a linked fault, the least of them, and what a verdict says.
+-- Trusted. Arrays of three cells that pass a march with a linked fault, the least of them, and what a verdict says.
 use Rattle.std.specs.Prelude.{◌≡◌, ◌<◌, ◌≤◌, ◌+◌, ◌*◌, ◌^◌, ◌⊎◌, ℕ, Bool, true, false, not, ◌&&◌, if◌then◌else◌, Option, Some, None, List, [], ◌∷◌, length}
 use Rattle.fault_core.specs.Primitive.{has_aggressor}
 use Rattle.march_core.specs.March.{MarchElement}

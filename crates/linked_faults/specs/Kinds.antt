@@ -1,4 +1,4 @@
--- Public. The linked faults that the static primitives make, in the order of a report: kind by kind, and in a kind by the first and then the
+-- Trusted. The linked faults that the static primitives make, in the order of a report: kind by kind, and in a kind by the first and then the
 -- second primitive.
 use Rattle.std.specs.Prelude.{◌≡◌, ◌++◌, ◌⊎◌, Bool, true, false, if◌then◌else◌, List, [], ◌∷◌, map, flat_map}
 use Rattle.fault_core.specs.Primitive.{Primitive, has_aggressor}

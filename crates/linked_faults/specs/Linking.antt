@@ -1,4 +1,4 @@
--- Public. Linked faults: two primitives with the same victim, of which the second can hide what the first did.
+-- Trusted. Linked faults: two primitives with the same victim, of which the second can hide what the first did.
 use Rattle.std.specs.Prelude.{◌≡◌, ◌≢◌, ◌<◌, ◌≤◌, ◌↔◌, ◌&&◌, ◌⊎◌, ℕ, Bool, true, if◌then◌else◌, Option, Some, None, List, slice_set}
 use Rattle.fault_core.specs.declared.primitive.Act.{Act}
 use Rattle.fault_core.specs.declared.primitive.Act.TheVariants.{Write}

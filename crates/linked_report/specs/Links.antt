@@ -1,4 +1,4 @@
--- Public. A linked fault with its verdict under a march.
+-- Inner. A linked fault with its verdict under a march.
 use Rattle.std.specs.Prelude.{◌≡◌, Bool, true, false, List, Option, Some, None, map}
 use Rattle.std.specs.List.{AllByRecursion}
 use Rattle.march_core.specs.March.{MarchElement}

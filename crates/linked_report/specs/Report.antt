@@ -1,4 +1,4 @@
--- Public. The report on linked faults: the march, a line for each link in the order of the table, one for each kind, and the total.
+-- Trusted. The report on linked faults: the march, a line for each link in the order of the table, one for each kind, and the total.
 use Rattle.std.specs.Prelude.{◌≡◌, ◌++◌, ◌⊎◌, ℕ, Bool, List, [], ◌∷◌, length, filter, count_by, codes, decimal}
 use Rattle.std.specs.Str.{bytes_eq}
 use Rattle.fault_syntax.specs.Printed.{printed as printed_prim}

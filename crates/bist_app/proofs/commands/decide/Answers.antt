@@ -24,6 +24,15 @@ returns-in-Some-Judge g c = record {
   make = no_make _ Command.Judge tt c.in-Some-Judge.field-0-is c.in-Some-Judge.ensures;
 }
 
+pub returns-in-Some-Decoder : goal.returns-in-Some-Decoder
+returns-in-Some-Decoder g c = record {
+  kept = c.decide_decoder.ensures.kept;
+  outputs = c.decide_decoder.ensures.outputs;
+  answer = decided _ Command.Decoder c.in-Some-Decoder.field-0-is c.in-Some-Decoder.ensures (c.decide_decoder.ensures.answer, refl);
+  cause = c.decide_decoder.ensures.cause;
+  make = no_make _ Command.Decoder tt c.in-Some-Decoder.field-0-is c.in-Some-Decoder.ensures;
+}
+
 pub returns-in-Some-Linked : goal.returns-in-Some-Linked
 returns-in-Some-Linked g c = record {
   kept = c.decide_linked.ensures.kept;
