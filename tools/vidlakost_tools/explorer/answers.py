@@ -13,7 +13,8 @@ import re
 import tempfile
 from typing import Any, Callable, Dict, Iterable
 
-from vidlakost_tools import cycles_picture, diagnose, reasons
+from vidlakost_tools import cycles_picture, decoder, diagnose, reasons
+from vidlakost_tools.decoder import DecoderReport, DecoderVerdict, decoded
 from vidlakost_tools.faults import Step
 from vidlakost_tools.finding import CLASSES, SHOWN, Trier, word_start
 from vidlakost_tools.march import Element, length_of, march_of
@@ -157,6 +158,11 @@ def classes() -> list[Object]:
     ]
 
 
+def decoder_class() -> Object:
+    """The faults of the address decoder, as a class of which no list speaks."""
+    return {"name": decoder.CLASS, "means": decoder.MEANS, "primitives": list(decoder.NAMES)}
+
+
 class Beginning:
     """What does not change while a page is open: which program answers, the gallery and the classes; and the texts that
     the page begins with."""
@@ -173,6 +179,7 @@ class Beginning:
             "version": version()[0],
             "gallery": gallery(),
             "classes": classes(),
+            "decoder": decoder_class(),
             "march": FIRST_MARCH if march is None else march,
             "list": faults,
             "memory": FIRST_MEMORY if memory is None else memory,
@@ -185,10 +192,13 @@ class Beginning:
 # ---- verdicts
 
 
-def shown_report(report: Report) -> Object:
-    """A report in the schema of `report --json`, with the elements of its march."""
-    elements = [dataclasses.asdict(element) for element in report.elements]
-    return {**report.as_object(), "elements": elements}
+def shown_report(report: Report, of_decoder: DecoderReport | None = None) -> Object:
+    """A report in the schema of `report --json`, with the elements of its march; behind its verdicts stand those on the
+    address decoder, which its total doesn't count."""
+    made = report.as_object()
+    verdicts = [verdict.as_object() for verdict in report.verdicts]
+    verdicts += [verdict.as_object() for verdict in of_decoder.verdicts] if of_decoder else []
+    return {**made, "verdicts": verdicts, "elements": [dataclasses.asdict(element) for element in report.elements]}
 
 
 @refusable
@@ -196,7 +206,7 @@ def judge(folder: Folder, question: Object) -> Object:
     """The verdicts of a list on a march."""
     march = folder.put("march", text_in(question, "march"))
     faults = folder.put("list", text_in(question, "list"))
-    return {"report": shown_report(judged(march, faults))}
+    return {"report": shown_report(judged(march, faults), decoded(march))}
 
 
 def complete(question: Object) -> Object:
@@ -221,8 +231,9 @@ def complete(question: Object) -> Object:
 # ---- an escape, step by step
 
 
-def shown_steps(steps: list[Step]) -> list[Object]:
-    """The steps of a run; `place` is that of the operation in its element."""
+def shown_steps(steps: list[Step], of: DecoderVerdict | None = None) -> list[Object]:
+    """The steps of a run; `place` is that of the operation in its element, and `reaches` are the cells that an address of a
+    wrong decoder reaches."""
     made: list[Object] = []
     for before, step in zip([None, *steps], steps):
         visit = None if before is None or before.cell is None else (before.element, before.cell)
@@ -238,6 +249,8 @@ def shown_steps(steps: list[Step]) -> list[Object]:
                 "differs": step.differs,
             }
         )
+        if of is not None and step.cell is not None:
+            made[-1]["reaches"] = of.reached(step.cell)
     return made
 
 
@@ -252,11 +265,28 @@ def replayed(verdict: Verdict, elements: list[Element], march: pathlib.Path) -> 
     return made
 
 
+def replayed_decoder(verdict: DecoderVerdict, elements: list[Element]) -> Object:
+    """The same of an escape of the address decoder."""
+    why, steps = decoder.reason(verdict, elements)
+    return {"why": why, "steps": shown_steps(steps, verdict)}
+
+
+def traced_decoder(march: pathlib.Path, name: str) -> Object:
+    """The verdict on one fault of the address decoder, and of an escape what it does."""
+    report = decoded(march)
+    verdict = next(it for it in report.verdicts if it.name == name)
+    elements = [dataclasses.asdict(element) for element in report.elements]
+    found: Object = {"report": {"march": report.march, "verdicts": [verdict.as_object()], "elements": elements}}
+    return found if verdict.covered else {**found, **replayed_decoder(verdict, report.elements)}
+
+
 @refusable
 def trace(folder: Folder, question: Object) -> Object:
-    """The verdict on one primitive, and of an escape what it does."""
+    """The verdict on one primitive or fault, and of an escape what it does."""
     march = folder.put("march", text_in(question, "march"))
     primitive = text_in(question, "primitive")
+    if primitive in decoder.NAMES:
+        return traced_decoder(march, primitive)
     if not re.fullmatch(r"<[01wrt;]{1,24}/[01]/[-01]>", primitive):
         raise Wrong("primitive is none of a report's")
     report = judged(march, folder.put("list", primitive + "\n"))

@@ -8,6 +8,7 @@ import json
 import pathlib
 import re
 
+from vidlakost_tools.decoder import DecoderReport, decoded
 from vidlakost_tools.explorer import answers
 from vidlakost_tools.explorer.answers import Object
 from vidlakost_tools.explorer.server import Page
@@ -50,14 +51,16 @@ def whole(kept: Object) -> str:
     return page.replace("</body>", parts)
 
 
-def traces(report: Report, march: pathlib.Path, left: int) -> tuple[Object, int]:
-    """The escapes of a report by their primitives, and how many steps may still be kept."""
-    found: Object = {}
+def traces(report: Report, of_decoder: DecoderReport, march: pathlib.Path, left: int) -> tuple[Object, int]:
+    """The escapes of both reports by their primitives and faults, and how many steps may still be kept."""
+    traced = {it.name: answers.replayed_decoder(it, report.elements) for it in of_decoder.escapes}
     for verdict in report.escapes:
-        if verdict.primitive not in found:
-            traced = answers.replayed(verdict, report.elements, march)
-            left -= len(traced["steps"])
-            found[verdict.primitive] = traced if left >= 0 else {**traced, "steps": []}
+        if verdict.primitive not in traced:
+            traced[verdict.primitive] = answers.replayed(verdict, report.elements, march)
+    found: Object = {}
+    for name, told in traced.items():
+        left -= len(told["steps"])
+        found[name] = told if left >= 0 else {**told, "steps": []}
     return found, left
 
 
@@ -96,11 +99,11 @@ class Keeper:
             with answers.Folder() as folder:
                 path = folder.put("march", march)
                 try:
-                    report = judged(path, folder.put("list", faults))
+                    report, of_decoder = judged(path, folder.put("list", faults)), decoded(path)
                 except Refused as error:
                     return {"refused": folder.refusal(error)}
-                found, left = traces(report, path, left)
-            kept["judged"].append({"report": answers.shown_report(report)})
+                found, left = traces(report, of_decoder, path, left)
+            kept["judged"].append({"report": answers.shown_report(report, of_decoder)})
             kept["traced"].append(found)
         kept["memory"] = answers.memory({"march": marches[place], "memory": memory})
         kept["files"] = answers.files({"march": marches[place], "memory": memory, "list": faults})

@@ -172,8 +172,13 @@ function isChosen(card, verdict) {
   return state.chosen !== null && state.chosen.card === card && state.chosen.primitive === verdict.primitive;
 }
 
+/** The classes of the squares: those of a list, and the faults of the address decoder. */
+function allClasses() {
+  return [...state.begin.classes, state.begin.decoder];
+}
+
 function show() {
-  showCoverage(state.cards, state.begin.classes, choose, isChosen);
+  showCoverage(state.cards, allClasses(), choose, isChosen);
 }
 
 function choose(card, verdict, square) {
@@ -194,7 +199,7 @@ const askWhy = settled(0, async (signal) => {
     into.replaceChildren(make("p", { class: "soft" }, `${primitive} is not in the list any more.`));
     return;
   }
-  const { name, means } = state.begin.classes.find((it) => it.name === verdict.class);
+  const { name, means } = allClasses().find((it) => it.name === verdict.class);
   const title = `${primitive} ${name}`;
   if (verdict.covered) showCovered(into, title, means, card);
   else {

@@ -30,15 +30,38 @@ function marchAt(elements, step) {
   return make("div", { class: "march", "aria-hidden": "true" }, ...parts);
 }
 
+/** What a cell is in an escape: of a fault of the address decoder, the cell of which address. */
+function roleOf(escape, cell) {
+  const roles = escape.x === undefined
+    ? [[escape.victim, "victim"], [escape.aggressor, "aggressor"]]
+    : [[escape.x, "x"], [escape.y, "y"]];
+  const found = roles.find(([at]) => at === cell);
+  return found === undefined ? "" : found[1];
+}
+
+/** Whether a step does something to a cell that it would not do without the fault. */
+function isStruck(escape, step, cell) {
+  if (!step.acts) return false;
+  return step.reaches === undefined ? cell === escape.victim : step.reaches.includes(cell) !== (step.cell === cell);
+}
+
 /** The cells behind a step. */
 function cellsAt(escape, step) {
   const cells = [...step.cells].map((held, cell) => {
-    const role = cell === escape.victim ? "victim" : cell === escape.aggressor ? "aggressor" : "";
-    const classes = ["cell", step.cell === cell ? "visited" : "", step.acts && cell === escape.victim ? "struck" : ""];
+    const role = roleOf(escape, cell);
+    const classes = ["cell", step.cell === cell ? "visited" : "", isStruck(escape, step, cell) ? "struck" : ""];
     return make("div", { class: classes.filter(Boolean).join(" ") },
       make("div", { class: "held" }, held), `cell ${cell}`, make("b", {}, role || "\u00a0"));
   });
   return make("div", { class: "cells", "aria-hidden": "true" }, ...cells);
+}
+
+/** What a fault does in a step. */
+function actOf(step, escape) {
+  if (!step.acts) return "";
+  if (step.reaches === undefined) return ` The fault acts on cell ${escape.victim}.`;
+  const reached = step.reaches.length === 0 ? "no cell" : `cell ${step.reaches.join(" and ")}`;
+  return ` Address x reaches ${reached}.`;
 }
 
 /** A step in words. */
@@ -48,10 +71,11 @@ function wordsOf(step, escape) {
   let done = "Before the march";
   if (step.operation === "del") done = `Element ${step.element}: a pause`;
   else if (step.element !== null) {
-    done = `Element ${step.element}, going ${direction}: ${step.operation} on cell ${step.cell}`;
+    const place = step.reaches === undefined ? `on cell ${step.cell}` : `at address ${roleOf(escape, step.cell)}, ${step.cell},`;
+    done = `Element ${step.element}, going ${direction}: ${step.operation} ${place}`;
     if (step.answer !== null) done += ` reads ${step.answer}, ${step.differs ? "which differs" : "as expected"}`;
   }
-  return { done: `${done}; ${cells}.`, acts: step.acts ? ` The fault acts on cell ${escape.victim}.` : "" };
+  return { done: `${done}; ${cells}.`, acts: actOf(step, escape) };
 }
 
 /** All steps as a table of text. */
@@ -127,8 +151,8 @@ function showEscape(into, title, means, card, verdict, told) {
     into.append(make("p", { class: "small" }, "The program says ", make("b", {}, told.sim.said), " of ",
       make("code", {}, told.sim.words.join(" "))));
   } else {
-    into.append(make("p", { class: "soft small" },
-      "Replayed by the definition: the program has no call for two operations."));
+    const what = escape.x === undefined ? "two operations" : "a wrong decoder";
+    into.append(make("p", { class: "soft small" }, `Replayed by the definition: the program has no call for ${what}.`));
   }
   into.append(make("details", {}, make("summary", {}, "All steps"),
     make("pre", { tabindex: "0" }, tableOf(told.steps))));
