@@ -16,4 +16,4 @@
 
 mod pair;
 
-pub use pair::{Pair, Side, act, close, pause};
+pub use pair::{Pair, Side, act, close, do_states_hold, own_act, pause};

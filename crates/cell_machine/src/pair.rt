@@ -34,7 +34,7 @@ fn does_side_hold(agg: Option<Sense>, bit: bool) -> bool
 }
 
 /// Whether every state of the primitive holds.
-fn do_states_hold(prim: &Prim, pair: Pair) -> bool
+pub fn do_states_hold(prim: &Prim, pair: Pair) -> bool
     ensures { result ≡ pair_holds prim.now pair }
 {
     pair.v == prim.vic().state && does_side_hold(prim.agg(), pair.a)
@@ -50,7 +50,7 @@ fn agg_act(agg: Option<Sense>) -> Option<Act>
 }
 
 /// The act of the primitive on this side, if it has one there.
-fn own_act(prim: &Prim, on: Side) -> Option<Act>
+pub fn own_act(prim: &Prim, on: Side) -> Option<Act>
     ensures { result ≡ act_on prim.now on }
 {
     match on {

@@ -7,11 +7,11 @@ use Rattle.march_core.specs.March.{MarchElement, IsMarch}
 use Rattle.memory_desc.specs.Descriptions.{Description, IsMemory}
 use Rattle.word_march.specs.declared.operations.PortOp.{PortOp}
 use Rattle.word_march.specs.Commands.{port_ops, command_count, span}
-use Rattle.word_march.specs.PortRule.{SomeReadDiffers}
+use Rattle.word_march.specs.PortRule.{PortValues, SomeReadDiffers}
 use Rattle.word_march.proofs.Words.{commands_fit}
 use Rattle.word_device.specs.Ports.{Chip}
 use Rattle.word_device.specs.Runs.{answer_to, run_answers, run_word, IsRight, IsWrong, SomeWrong, IsFirstWrong, PassesAlone}
-use Rattle.word_device.specs.Joint.{returned_word, JointEnds, JointFails, JointPasses, SameFirst}
+use Rattle.word_device.specs.Joint.{Joined, EndsPassing, returned_word, JointEnds, JointFails, JointPasses, SameFirst}
 use Rattle.word_device.proofs.Cycles.{at_within}
 use Rattle.word_device.proofs.Marching.{run_fails, run_passes}
 use Rattle.word_device.proofs.Joining.{same_words}
@@ -125,10 +125,11 @@ low_right march d chip m j right c at read =
 pub passes_alone : (march : List MarchElement) (d : Description) → IsMarch march → IsMemory d → PassesAlone march d
 passes_alone march d is m chip plain j = low_right march d chip m j (run_passes march d chip is m plain j)
 
-pub joint_passes : (march : List MarchElement) (d : Description) → IsMarch march → IsMemory d → JointPasses march d
-joint_passes march d is m chip q returned last plain joined =
+-- beside a chip that alone answers each read right a test ends without `fail`
+pub joint_rights : (march : List MarchElement) (d : Description) (chip : Chip) (q : ℕ → PortValues) (returned : ℕ → ℕ) (last : ℕ)
+    → ((j : ℕ) → IsRight march d (run_word march d chip) j) → Joined march d chip q returned last → EndsPassing march d returned (q last)
+joint_rights march d chip q returned last right joined =
     let ends = joint_ends march d chip q returned last joined in
-    let right = passes_alone march d is m chip plain in
     let there : (k : ℕ) → k < command_count march d → run_word march d chip k ≡ returned_word march d returned k =
     λ k l. sym (same_words march d chip q returned last k joined l) in
     record {
@@ -139,3 +140,7 @@ joint_passes march d is m chip q returned last plain joined =
           wrong.differs (right some.0 wrong.command wrong.is_command wrong.is_read));
       right = λ j. right_too march d (run_word march d chip) (returned_word march d returned) there j (right j);
     }
+
+pub joint_passes : (march : List MarchElement) (d : Description) → IsMarch march → IsMemory d → JointPasses march d
+joint_passes march d is m chip q returned last plain joined =
+    joint_rights march d chip q returned last (passes_alone march d is m chip plain) joined

@@ -37,7 +37,7 @@ command_of_operation d (x ∷ os) zero o e = let same : x ≡ o = cc in ap (λ y
 command_of_operation d (x ∷ os) (suc j) o e = command_of_operation d os j o e
 
 -- the words behind the idle cycle at the start
-abbrev begun : Description → Chip → List ℕ
+abbrev pub begun : Description → Chip → List ℕ
 begun d chip = rested (shape_of d) chip.planted chip.words chip.idle
 
 length-begun : (d : Description) (chip : Chip) → length (begun d chip) ≡ length chip.words
@@ -47,7 +47,7 @@ length-begun d chip = go (idle_more (shape_of d) chip.idle == d.pause)
     go true = length-paused chip.planted chip.words
     go false = refl
 
-begun_ready : (d : Description) (i : Planted) (ws : List ℕ) (idle : ℕ) → IsPrimitive i.prim → i.vic.word < d.words → Ready i d.words ws
+pub begun_ready : (d : Description) (i : Planted) (ws : List ℕ) (idle : ℕ) → IsPrimitive i.prim → i.vic.word < d.words → Ready i d.words ws
     → Ready i d.words (rested (shape_of d) (Some i) ws idle)
 begun_ready d i ws idle is inside ready = go (idle_more (shape_of d) idle == d.pause)
   where
@@ -96,12 +96,13 @@ detected_differs march d i chip m has =
     (catches march d i start m has.primitive has.places has.detected
     (begun_ready d i chip.words chip.idle has.primitive has.places.word ready))
 
-pub run_fails : (march : List MarchElement) (d : Description) (i : Planted) (chip : Chip) → IsMemory d → HasDetected march d i chip
+-- where some reply differs, some word that is shown is wrong
+pub differs_shown : (march : List MarchElement) (d : Description) (chip : Chip) → IsMemory d → Settles chip.planted d.words → length chip.words ≡ d.words
+    → SomeReplyDiffers d.bits (word_steps march d) (replies chip.planted (begun d chip) (word_steps march d))
     → SomeWrong march d (λ j. answer_to march d (run_answers march d chip) j % 2 ^ d.bits)
-run_fails march d i chip m has =
-    let found = detected_differs march d i chip m has in
+differs_shown march d chip m settles size found =
     let shows : answer_to march d (run_answers march d chip) found.number ≡ bit_xor found.reply d.polarity =
-    reply_shown march d chip m (detected_settles march d i chip has) has.words found.number found.op found.reply found.is_op found.is_read found.is_reply in (
+    reply_shown march d chip m settles size found.number found.op found.reply found.is_op found.is_read found.is_reply in (
       found.number,
       record {
         command = port_op d found.op;
@@ -110,6 +111,27 @@ run_fails march d i chip m has =
         differs = λ same. found.differs (low_shown d.bits d.polarity found.reply found.op.word m.polarity (ap (λ (n : ℕ). n % 2 ^ d.bits) (sym shows) ∙ same));
       },
     )
+
+-- where the low bits of each reply of a read are its expected word, so is each word that is shown
+pub right_shown : (march : List MarchElement) (d : Description) (chip : Chip) → IsMemory d → Settles chip.planted d.words → length chip.words ≡ d.words
+    → ((j : ℕ) (o : WordOp) → slice_get (word_ops march d) j ≡ Some o → o.write ≡ false
+    → (r : ℕ) × (slice_get (replies chip.planted (begun d chip) (word_steps march d)) j ≡ Some r) × (r % 2 ^ d.bits ≡ o.word))
+    → (j : ℕ) → IsRight march d (λ k. answer_to march d (run_answers march d chip) k % 2 ^ d.bits) j
+right_shown march d chip m settles size replied j command is_command is_read =
+    let from = operation_at d (word_ops march d) j command is_command in
+    let read : from.0.write ≡ false = ap (λ (c : PortOp). c.write) from.2 ∙ is_read in
+    let found = replied j from.0 from.1 read in
+    let low : d.polarity % 2 ^ d.bits ≡ d.polarity = mod-eq_of_lt m.polarity in
+    ap (λ (n : ℕ). n % 2 ^ d.bits) (reply_shown march d chip m settles size j from.0 found.0 from.1 read found.1)
+    ∙ xor_mod found.0 d.polarity d.bits
+    ∙ ap (λ (n : ℕ). bit_xor n (d.polarity % 2 ^ d.bits)) found.2
+    ∙ ap (bit_xor from.0.word) low
+    ∙ ap (λ (c : PortOp). c.word) from.2
+
+pub run_fails : (march : List MarchElement) (d : Description) (i : Planted) (chip : Chip) → IsMemory d → HasDetected march d i chip
+    → SomeWrong march d (λ j. answer_to march d (run_answers march d chip) j % 2 ^ d.bits)
+run_fails march d i chip m has =
+    differs_shown march d chip m (detected_settles march d i chip has) has.words (detected_differs march d i chip m has)
 
 -- ---- nothing planted
 

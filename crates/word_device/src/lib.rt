@@ -33,6 +33,7 @@ mod shape;
 mod way_back;
 
 pub use array::ArrayDevice;
+pub use bits::has_bit;
 pub use constant::ConstDevice;
 pub use counting::CountDevice;
 pub use device::{Device, DeviceFault, Place, Planted, PortCmd};
