@@ -1,0 +1,10 @@
+pub mod Bits
+pub mod Stored
+pub mod Elements
+pub mod Steps
+pub mod Runs
+pub mod Whole
+pub mod Contents
+pub mod Verdicts
+pub mod Failing
+pub mod Passing

@@ -1,0 +1,8 @@
+use Rattle.std.proofs.Common.{◌≡◌, ◌<◌}
+use Rattle.word_coupling.specs.declared.judging.WordEscape.{WordEscape}
+use Rattle.word_coupling.specs.inner.Searching.{end_in, PassesBy}
+use Rattle.word_coupling.proofs.judging.least_beside.Given as goal
+
+abbrev pub invariant-loop-agg : goal.invariant-loop-agg
+invariant-loop-agg l =
+    (f : WordEscape) → PassesBy (end_in l.table) l.prim l.memory.bits l.memory.backgrounds f → f.vic ≡ l.vic → f.agg < l.agg → ⊥

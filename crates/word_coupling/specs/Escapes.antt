@@ -1,0 +1,41 @@
+-- Public. Two bits of a word at which an instance passes the test of a memory, and the least of them.
+use Rattle.std.specs.Prelude.{◌≡◌, ◌≢◌, ◌<◌, ◌≤◌, ◌+◌, ◌⊎◌, ℕ, if◌then◌else◌, Option, Some, None, List, length, slice_index}
+use Rattle.fault_core.specs.Primitive.{Primitive}
+use Rattle.cell_machine.specs.declared.pair.Pair.{Pair}
+use Rattle.march_core.specs.March.{MarchElement}
+use Rattle.memory_desc.specs.Descriptions.{Description}
+use Rattle.word_device.specs.Chips.{has_bit}
+use Rattle.word_coupling.specs.declared.judging.WordEscape.{WordEscape}
+use Rattle.word_coupling.specs.Words.{in_word, IsCaughtInWord, DetectsInWord}
+
+-- the two bits of a word hold the escape's content
+pub record Holds (content : List ℕ) (word : ℕ) (e : WordEscape) : Type 0 where
+  pub agg : has_bit (slice_index content word) e.agg ≡ e.content.a
+  pub vic : has_bit (slice_index content word) e.vic ≡ e.content.v
+
+-- no read differs, whichever word it is, and whatever its other bits and the other words hold
+pub record IsWordEscape (march : List MarchElement) (d : Description) (p : Primitive) (e : WordEscape) : Type 0 where
+  pub agg_within : e.agg < d.bits
+  pub vic_within : e.vic < d.bits
+  pub apart : e.agg ≢ e.vic
+  pub passes : (word : ℕ) (content : List ℕ) → word < d.words → length content ≡ d.words → Holds content word e
+      → IsCaughtInWord march d (in_word p word e.agg e.vic) content → ⊥
+
+-- contents in their order: 00, 01, 10, 11, the aggressor's digit first
+abbrev pub content_number : Pair → ℕ
+content_number content = (if content.a then 2 else 0) + (if content.v then 1 else 0)
+
+-- the order of escapes: by the victim's bit, then by the aggressor's, then by content
+abbrev pub IsNoGreater : WordEscape → WordEscape → Type 0
+IsNoGreater e f =
+    (e.vic < f.vic)
+    ⊎ ((e.vic ≡ f.vic) × ((e.agg < f.agg) ⊎ ((e.agg ≡ f.agg) × (content_number e.content ≤ content_number f.content))))
+
+pub record IsLeastWordEscape (march : List MarchElement) (d : Description) (p : Primitive) (e : WordEscape) : Type 0 where
+  pub escape : IsWordEscape march d p e
+  pub least : (f : WordEscape) → IsWordEscape march d p f → IsNoGreater e f
+
+-- nothing exactly where the test catches the primitive at every two bits of every word; else the least escape
+abbrev pub IsWordVerdict : List MarchElement → Description → Primitive → Option WordEscape → Type 0
+IsWordVerdict march d p None = DetectsInWord march d p
+IsWordVerdict march d p (Some e) = IsLeastWordEscape march d p e × (DetectsInWord march d p → ⊥)

@@ -1,0 +1,2 @@
+pub mod Couples
+pub mod Searching
