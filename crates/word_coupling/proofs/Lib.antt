@@ -8,3 +8,4 @@ pub mod Contents
 pub mod Verdicts
 pub mod Failing
 pub mod Passing
+pub mod Reports

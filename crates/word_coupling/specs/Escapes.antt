@@ -1,4 +1,4 @@
--- Public. Two bits of a word at which an instance passes the test of a memory, and the least of them.
+-- Trusted. Two bits of a word at which an instance passes the test of a memory, and the least of them.
 use Rattle.std.specs.Prelude.{◌≡◌, ◌≢◌, ◌<◌, ◌≤◌, ◌+◌, ◌⊎◌, ℕ, if◌then◌else◌, Option, Some, None, List, length, slice_index}
 use Rattle.fault_core.specs.Primitive.{Primitive}
 use Rattle.cell_machine.specs.declared.pair.Pair.{Pair}

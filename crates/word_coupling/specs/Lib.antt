@@ -1,4 +1,5 @@
 pub mod Words
 pub mod Escapes
 pub mod Joint
+pub mod Report
 pub mod inner

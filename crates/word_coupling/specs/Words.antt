@@ -1,4 +1,4 @@
--- Public. An instance whose aggressor and victim are two bits of one word, and when the test of a memory catches it.
+-- Trusted. An instance whose aggressor and victim are two bits of one word, and when the test of a memory catches it.
 use Rattle.std.specs.Prelude.{◌≡◌, ◌≢◌, ◌<◌, ◌==◌, ◌^◌, ◌%◌, ℕ, Bool, false, not, ◌&&◌, ◌||◌, IsTrue, Option, Some, None, List, [], ◌∷◌, length}
 use Rattle.fault_core.specs.Primitive.{Primitive}
 use Rattle.march_core.specs.March.{MarchElement}

@@ -1,2 +1,3 @@
 pub mod Couples
 pub mod Searching
+pub mod Judged

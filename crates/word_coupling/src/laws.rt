@@ -1,4 +1,5 @@
 ghost use Rattle.word_coupling.specs.Joint.{FailsInWord, JointFailsInWord, JointPassesInWord};
+ghost use Rattle.word_coupling.specs.Report.{OneInWordText};
 
 use march_core::March;
 use memory_desc::Memory;
@@ -18,3 +19,8 @@ pub fn escape_in_word_passes(march: &March, memory: &Memory)
 {
     let _ = memory.words();
 }
+
+/// The bytes of a report are determined by the march, the memory and the items.
+pub fn in_word_report_is_one()
+    ensures { OneInWordText }
+{}

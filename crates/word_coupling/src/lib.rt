@@ -1,8 +1,8 @@
-//! Verdicts on primitives whose aggressor and victim are two bits of one word, for the whole test of a memory.
+//! Verdicts on primitives whose aggressor and victim are two bits of one word, for the whole test of a memory, and their report.
 //!
 //! A write of a word writes all its bits at once; so such an instance escapes where one whose cells stand in two words is caught, unless the
-//! backgrounds tell the two bits apart. In `specs/`: when a test catches an instance in a word, two bits of a word as a machine, and the least
-//! two bits that pass. No call of this crate takes memory.
+//! backgrounds tell the two bits apart. In `specs/`: when a test catches an instance in a word, the least two bits that pass, what the report
+//! of a list says, and two bits of a word as a machine. Only `report_in_word` takes memory.
 //!
 //! ```
 //! use fault_syntax::read_prim;
@@ -21,8 +21,11 @@
 
 mod couple;
 mod ends;
+mod judged;
 mod judging;
 mod laws;
+mod report;
 
 pub use judging::{WordEscape, judge_in_word};
-pub use laws::{escape_in_word_passes, planted_in_word_fails};
+pub use laws::{escape_in_word_passes, in_word_report_is_one, planted_in_word_fails};
+pub use report::{InWordReport, report_in_word};

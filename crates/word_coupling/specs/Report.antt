@@ -1,0 +1,67 @@
+-- Trusted. The report of `inword`: the march, the memory, one line for each coupling of the list, how many other primitives the list has,
+-- and the total. Every line ends with a line feed.
+use Rattle.std.specs.Prelude.{◌≡◌, ◌-◌, ◌++◌, ◌⊎◌, ℕ, Bool, if◌then◌else◌, Some, List, [], ◌∷◌, length, codes, decimal}
+use Rattle.std.specs.List.{flat_map}
+use Rattle.fault_core.specs.Primitive.{Primitive, has_aggressor}
+use Rattle.march_core.specs.March.{MarchElement}
+use Rattle.memory_desc.specs.Descriptions.{Description}
+use Rattle.dynamic_core.specs.declared.item.Item.{Item}
+use Rattle.dynamic_core.specs.declared.item.Item.TheVariants.{Plain, Dyn}
+use Rattle.report_lines.specs.Lines.{march_line, memory_line, total_line, prim_text, places_text, content_text}
+use Rattle.report_lines.specs.Listed.{CountsOf, SomeLacks, AreLinesOf}
+use Rattle.word_coupling.specs.declared.judging.WordEscape.{WordEscape}
+use Rattle.word_coupling.specs.Words.{DetectsInWord}
+use Rattle.word_coupling.specs.Escapes.{IsLeastWordEscape}
+
+-- the couplings of a list are its static primitives of two cells, in their order, repeats included
+abbrev pub coupling_of : Item → List Primitive
+coupling_of (Plain p) = if has_aggressor p then p ∷ [] else []
+coupling_of (Dyn p) = []
+
+abbrev pub couplings : List Item → List Primitive
+couplings items = flat_map coupling_of items
+
+-- the two bits of an escape, and what they hold before closing, the aggressor's digit first
+abbrev pub word_escape_text : WordEscape → List ℕ
+word_escape_text e = places_text (Some e.agg) e.vic ++ (codes " content " ++ content_text (e.content.a ∷ e.content.v ∷ []))
+
+-- the line of a coupling that is covered, and of one that escapes
+abbrev pub covered_line : Primitive → List ℕ
+covered_line p = codes "covered " ++ prim_text p ++ codes "\n"
+
+abbrev pub escape_line : Primitive → WordEscape → List ℕ
+escape_line p e = codes "escape " ++ prim_text p ++ word_escape_text e ++ codes "\n"
+
+-- covered exactly where the test detects it at every two bits of every word, and else with its least escape
+abbrev pub IsCouplingLine : List MarchElement → Description → Primitive → List ℕ → Type 0
+IsCouplingLine march d p line =
+    (DetectsInWord march d p × (line ≡ covered_line p))
+    ⊎ ((DetectsInWord march d p → ⊥) × (e : WordEscape) × IsLeastWordEscape march d p e × (line ≡ escape_line p e))
+
+-- how many primitives of the list are no couplings
+abbrev pub apart_line : ℕ → List ℕ
+apart_line count = codes "apart " ++ decimal count ++ codes "\n"
+
+-- the bytes are the report of these items
+pub record IsInWordReport (text : List ℕ) (march : List MarchElement) (d : Description) (items : List Item) : Type 0 where
+  pub lines : List ℕ
+  pub covered : ℕ
+  pub are_lines : AreLinesOf (IsCouplingLine march d) (couplings items) lines
+  pub detects : CountsOf (DetectsInWord march d) (couplings items) covered
+  pub is :
+      text
+      ≡ march_line march ++ memory_line march (Some d) ++ lines ++ apart_line (length items - length (couplings items))
+      ++ total_line (length (couplings items)) covered
+
+-- the bytes are the report, the line is its last one, and it is told whether some coupling escapes
+pub record ReportsInWord (march : List MarchElement) (d : Description) (items : List Item) (escapes : Bool) (bytes line : List ℕ) : Type 0 where
+  pub found : SomeLacks (DetectsInWord march d) (couplings items) escapes
+  pub report : IsInWordReport bytes march d items
+  pub covered : ℕ
+  pub detects : CountsOf (DetectsInWord march d) (couplings items) covered
+  pub last : line ≡ total_line (length (couplings items)) covered
+
+-- two texts that are the report of the same items are the same
+abbrev pub OneInWordText : Type 0
+OneInWordText = (march : List MarchElement) (d : Description) (items : List Item) (text other : List ℕ)
+    → IsInWordReport text march d items → IsInWordReport other march d items → text ≡ other
