@@ -5,6 +5,7 @@ pub mod DecoderFacts
 pub mod LinkedFacts
 pub mod VectorsFacts
 pub mod CompileFacts
+pub mod InWordFacts
 pub mod MakeFacts
 pub mod BenchFacts
 pub mod BenchFileFacts
@@ -21,6 +22,7 @@ use Rattle.bist_app.proofs.Table.ChipFacts.{chip_facts}
 use Rattle.bist_app.proofs.Table.CompileFacts.{compile_facts}
 use Rattle.bist_app.proofs.Table.DecoderFacts.{decoder_facts}
 use Rattle.bist_app.proofs.Facts.{Facts}
+use Rattle.bist_app.proofs.Table.InWordFacts.{in_word_facts}
 use Rattle.bist_app.proofs.Table.JudgeFacts.{judge_facts}
 use Rattle.bist_app.proofs.Table.LinkedFacts.{linked_facts}
 use Rattle.bist_app.proofs.Table.MakeFacts.{make_facts}
@@ -35,6 +37,7 @@ facts_of Command.Decoder = decoder_facts
 facts_of Command.Linked = linked_facts
 facts_of Command.Vectors = vectors_facts
 facts_of Command.Compile = compile_facts
+facts_of Command.InWord = in_word_facts
 facts_of Command.Make = make_facts
 facts_of Command.Bench = bench_facts
 facts_of Command.BenchFile = bench_file_facts

@@ -14,6 +14,7 @@ pub mod Check
 pub mod Chip
 pub mod TestedChip
 pub mod Compile
+pub mod InWord
 pub mod Headline
 pub mod Conformance
 pub mod Make

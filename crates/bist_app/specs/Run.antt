@@ -15,6 +15,7 @@ use Rattle.bist_app.specs.Decoder.{decoder_row}
 use Rattle.bist_app.specs.Linked.{linked_row}
 use Rattle.bist_app.specs.Vectors.{vectors_row}
 use Rattle.bist_app.specs.Compile.{compile_row}
+use Rattle.bist_app.specs.InWord.{in_word_row}
 use Rattle.bist_app.specs.Make.{make_row}
 use Rattle.bist_app.specs.Bench.{bench_row}
 use Rattle.bist_app.specs.BenchFile.{bench_file_row}
@@ -31,6 +32,7 @@ row_of Command.Decoder = decoder_row
 row_of Command.Linked = linked_row
 row_of Command.Vectors = vectors_row
 row_of Command.Compile = compile_row
+row_of Command.InWord = in_word_row
 row_of Command.Make = make_row
 row_of Command.Bench = bench_row
 row_of Command.BenchFile = bench_file_row
@@ -48,6 +50,7 @@ command_named text =
     if bytes_eq text (codes "linked") then Some Command.Linked else
     if bytes_eq text (codes "vectors") then Some Command.Vectors else
     if bytes_eq text (codes "compile") then Some Command.Compile else
+    if bytes_eq text (codes "inword") then Some Command.InWord else
     if bytes_eq text (codes "make") then Some Command.Make else
     if bytes_eq text (codes "bench") then Some Command.Bench else
     if bytes_eq text (codes "benchfile") then Some Command.BenchFile else

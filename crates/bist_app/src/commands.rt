@@ -17,6 +17,7 @@ use crate::chip::decide_chip;
 use crate::compile::decide_compile;
 use crate::decoder_command::decide_decoder;
 use crate::forms::has_form;
+use crate::inword_command::decide_in_word;
 use crate::judge::decide_judge;
 use crate::linked_command::decide_linked;
 use crate::make::decide_make;
@@ -36,6 +37,7 @@ pub enum Command {
     Linked,
     Vectors,
     Compile,
+    InWord,
     Make,
     Bench,
     BenchFile,
@@ -56,6 +58,7 @@ fn command_named(name: &str) -> Option<Command>
         "linked" => Some(Command::Linked),
         "vectors" => Some(Command::Vectors),
         "compile" => Some(Command::Compile),
+        "inword" => Some(Command::InWord),
         "make" => Some(Command::Make),
         "bench" => Some(Command::Bench),
         "benchfile" => Some(Command::BenchFile),
@@ -78,6 +81,7 @@ fn is_formed(words: &[&str], command: Command) -> bool
         Command::Linked => has_form(words, "linked", 3, 1, 3),
         Command::Vectors => has_form(words, "vectors", 4, 1, 4),
         Command::Compile => has_form(words, "compile", 6, 1, 6),
+        Command::InWord => has_form(words, "inword", 5, 1, 5),
         Command::Make => has_form(words, "make", 7, 2, 7),
         Command::Bench => has_form(words, "bench", 3, 1, 3),
         Command::BenchFile => has_form(words, "benchfile", 4, 1, 4),
@@ -123,6 +127,7 @@ pub fn decide<H: Host>(
         Some(Command::Linked) => decide_linked(alloc, words, host),
         Some(Command::Vectors) => decide_vectors(alloc, words, host),
         Some(Command::Compile) => decide_compile(alloc, words, host),
+        Some(Command::InWord) => decide_in_word(alloc, words, host),
         Some(Command::Make) => decide_make(alloc, words),
         Some(Command::Bench) => decide_bench(alloc, words, host, devices),
         Some(Command::BenchFile) => decide_benchfile(alloc, words, host, devices),

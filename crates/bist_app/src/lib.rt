@@ -28,6 +28,7 @@ mod compile;
 mod decoder_command;
 mod directions;
 mod forms;
+mod inword_command;
 mod judge;
 pub mod laws;
 mod linked_command;

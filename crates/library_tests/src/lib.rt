@@ -35,6 +35,7 @@ mod host_rows;
 #[cfg(test)]
 mod hosts;
 #[cfg(test)]
+mod inword_rows;
 mod judge_rows;
 #[cfg(test)]
 mod linked_rows;

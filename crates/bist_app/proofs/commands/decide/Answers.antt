@@ -60,6 +60,15 @@ returns-in-Some-Compile g c = record {
   make = no_make _ Command.Compile tt c.in-Some-Compile.field-0-is c.in-Some-Compile.ensures;
 }
 
+pub returns-in-Some-InWord : goal.returns-in-Some-InWord
+returns-in-Some-InWord g c = record {
+  kept = c.decide_in_word.ensures.kept;
+  outputs = c.decide_in_word.ensures.outputs;
+  answer = decided _ Command.InWord c.in-Some-InWord.field-0-is c.in-Some-InWord.ensures (c.decide_in_word.ensures.answer, refl);
+  cause = c.decide_in_word.ensures.cause;
+  make = no_make _ Command.InWord tt c.in-Some-InWord.field-0-is c.in-Some-InWord.ensures;
+}
+
 pub returns-in-Some-Bench : goal.returns-in-Some-Bench
 returns-in-Some-Bench g c = record {
   kept = c.decide_bench.ensures.kept;
