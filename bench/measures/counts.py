@@ -27,6 +27,11 @@ def brute(folder: pathlib.Path) -> list[Figure]:
     return counted("bench/brute")
 
 
+def inword(folder: pathlib.Path) -> list[Figure]:
+    """Verdicts inside a word beside a plain model of whole words."""
+    return counted("bench/inword")
+
+
 def memories(folder: pathlib.Path) -> list[Figure]:
     """Refusals of random descriptions, and commands, beside a plain model."""
     return counted("bench/memories")
