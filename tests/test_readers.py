@@ -5,7 +5,7 @@ import pathlib
 import tempfile
 import unittest
 
-from vidlakost_tools import chip, report, text, verilog
+from vidlakost_tools import chip, otherwise, report, text, verilog
 from vidlakost_tools.diagnose import another_kind
 from vidlakost_tools.faults import place_of, read_primitive
 from vidlakost_tools.march import elements_of, length_of, read_elements
@@ -223,6 +223,31 @@ class Modules(unittest.TestCase):
 
     def test_comments_are_no_tokens(self) -> None:
         self.assertEqual(self.expression("a /* b\n; */ & // c\n d").token.text, "&")
+
+
+class Warnings(unittest.TestCase):
+    """What other tools read otherwise in a module that is read."""
+
+    def told(self, value: str, names: str = "input [31:0] n, input [3:0] b") -> list[str]:
+        text = f"module m(input clk, {names}, output [3:0] y);\n  assign y = {value};\nendmodule\n"
+        return [line.split(": ", 2)[2] for line in otherwise.of_module("m.v", text.encode())[:-1]]
+
+    def test_far_shifts(self) -> None:
+        for value in ("(b << 32'hffffffff)", "(b >> n)", "(b << {b, 28'h0})", "(b << (b[0] ? n : 32'h0))", "(b << 33'h100000000)"):
+            self.assertEqual(self.told(value), [otherwise.FAR_SHIFT], value)
+        for value in ("(b << 32'h7fffffff)", "(b >> n[30:0])", "(b << {1'h0, n[30:0]})", "(b << (n == 32'h0))", "(b << b) /* << n */"):
+            self.assertEqual(self.told(value), [], value)
+
+    def test_shifts_within_amounts_take_no_time(self) -> None:
+        deep = "b"
+        for _ in range(60):
+            deep = f"(b << {deep})"
+        self.assertEqual(self.told(deep), [])
+
+    def test_a_question_mark_behind_a_decimal_literal(self) -> None:
+        self.assertEqual(len(self.told("4'd1?b:b")), 1)
+        for value in ("4'd1 ?b:b", "(4'd1)?b:b", "b[0]?4'd1:4'd2", "b /* 4'd1?b:b */"):
+            self.assertEqual(self.told(value), [], value)
 
 
 if __name__ == "__main__":
