@@ -24,6 +24,16 @@ m = $mats
 1 caught element 1 address 1 operation 0
 > sim m <0w1;0/1/-> 3 000 2 0 uud
 0 passes
+# the first digit is cell 0's
+m = {up(w0);up(r0)}
+> sim m <1w0;0/1/-> 2 01 1 0 uu
+1 caught element 1 address 0 operation 0
+> sim m <1w0;0/1/-> 2 10 1 0 uu
+0 passes
+m = {any(w0);up(r0,w1,r1)}
+> sim m <0w1/0/-> 2 00 none 0 uu
+1 caught element 1 address 0 operation 2
+m = $mats
 > sim m <1w1/0/-> 2 00 0 0 uud
 2 usage
 > sim m <1w1/0/-> 1 0 none 0 uud
@@ -58,6 +68,14 @@ m = $mats
 1 caught element 2 address 0 operation 0
 > sim m <0w1/0/-> 4097 \4097{0\} none 0 uud
 2 usage
+# which of two comes first
+> sim m <0w1/1/-> 2 00 1 0 uu
+5 fault F3 line 1
+> sim m <1w1/0/-> 2 00 1 0 uuu
+13 misfit aggressor
+no m
+> sim m <0w1/1/-> 2 00 1 0 uu
+10 absent 1
 # as many blanks as an input may have, and one more
 m = \1048576{\s\}
 > sim m <0w1/0/-> 2 00 none 0 uud

@@ -21,7 +21,40 @@ memories 2 1 t2
 0 chip units 1 groups 1 done 4
 v begins module t2_bist(\n
 v ends endmodule\n
-no t2
+# two groups: the second is held in reset until the first is done, in cycle 4, and has 32 commands
+s = chip 1\nname soc\nbudget 2\nunit 2 w t2\nunit 1 w m8\n
+memories 8 8 m8
+0 chip units 2 groups 2 done 37
+v ends
+| endmodule
+| module soc(
+|   input clk,
+|   input reset,
+|   input rdata_0,
+|   output en_0,
+|   output we_0,
+|   output addr_0,
+|   output wdata_0,
+|   input [7:0] rdata_1,
+|   output en_1,
+|   output we_1,
+|   output [2:0] addr_1,
+|   output [7:0] wdata_1,
+|   output done,
+|   output [1:0] fail
+| );
+|   wire over_0;
+|   wire bad_0;
+|   wire over_1;
+|   wire bad_1;
+|   wire hold_1;
+|   assign hold_1 = (!over_0);
+|   assign done = over_1;
+|   assign fail = {bad_1, bad_0};
+|   t2_bist unit_0(.clk(clk), .reset(reset), .rdata(rdata_0), .en(en_0), .we(we_0), .addr(addr_0), .wdata(wdata_0), .done(over_0), .fail(bad_0));
+|   m8_bist unit_1(.clk(clk), .reset(hold_1), .rdata(rdata_1), .en(en_1), .we(we_1), .addr(addr_1), .wdata(wdata_1), .done(over_1), .fail(bad_1));
+| endmodule
+no t2 m8
 s = chip 1\nname unit_0\nbudget 2\nunit 1 w a\nunit 1 w b\nunit 1 w c\n
 a = memory 1\nname hold_1\nwords 2\nbits 1\n
 b = memory 1\nname en_0\nwords 2\nbits 1\n

@@ -28,6 +28,11 @@ r ==
 | class WDF 1 covered 0
 | total 1 covered 0 escapes 1
 v begins
+# eight bits have four logarithmic backgrounds
+memories 16 8 d
+l = SF
+0 total 2 covered 2 escapes 0
+r begins march {any(w0);up(r0,w1);up(r1,w0);down(r0,w1);down(r1,w0);any(r0)}\nmemory d words 16 bits 8 backgrounds 4 commands 640\n
 d = $16
 l = <1w0r0/1/1>\n<r0w1/0/->\n
 1 total 2 covered 1 escapes 1
@@ -38,17 +43,35 @@ r ==
 | covered <0r0w1/0/-> DYN1
 | class DYN1 2 covered 1
 | total 2 covered 1 escapes 1
+
+# WHICH OF TWO COMES FIRST
+anew
+> compile m d l v r
+10 absent 1
+m = $mats
+10 absent 2
+d = $two
+10 absent 3
+d =
+4 memory D2
+m = {del}
+3 march M3
+d = $two
+l = <0w1/1/->
+3 march M3
+m = $mats
+5 fault F3 line 1
 ";
 
 static MAKE: &str = r"# MADE
 > make 1 a b c v r
 1 made elements 6 operations 10 commands 210 covered 672 of 1008
+a == $c
 > make 0 a b c v r
 0 made elements 64 operations 254 commands 3556 covered 1008 of 1008
 > make 1000 a b c v r
 0 made elements 64 operations 254 commands 1781556 covered 1008 of 1008
-a begins {any(w0);up(r0,r0,w0,r0,w1);up(r1,r1,w1,r1,w0);down(r0,r0,w0,r0,w1);down(r1,r1,w1,r1,w0);any(r0);down(r0,w0,r0,w1);
-a ends )}\n
+a == {any(w0);up(r0,r0,w0,r0,w1);up(r1,r1,w1,r1,w0);down(r0,r0,w0,r0,w1);down(r1,r1,w1,r1,w0);any(r0);down(r0,w0,r0,w1);down(r1,w1,r1,w0);up(r0,w1,r1,w1);down(r1,w0,r0,w1);down(r1,w1,r1,w1);up(r1,w1,r1,w0);up(r0,w0,r0,w1);any(r1,w0,r0,w0);down(r0,w1,r1,w0);down(r0,w1,r1,w1);up(r1,w0,r0,w1);down(r1,w1,r1,w0);any(r0,w0,r0,w0);any(r0,w1,r1,w1);down(r1,w1,r1,w0);up(r0,w1,r1,w0);up(r0,w0,r0,w1);down(r1,w1,r1,w1);any(r1,w0,r0,w1);any(r1,w1,r1,w0);down(r0,w1,r1,w0);up(r0,w1,r1,w0);any(r0,w0,r0,w1);up(r1,w0,r0,w0);any(r0,w0,r0,w0);up(r0,w0,r0,w0);any(r0,w0,r0,w0);up(r0,w0,r0,w1);down(r1,w1,r1,w1);down(r1,w0,r0,w0);any(r0,w1,r1,w1);any(r1,w1,r1,w1);down(r1,w1,r1,w1);up(r1,w1,r1,w0);any(r0,w0,r0,w1);any(r1,w0,r0,w0);any(r0,w1,r1,w1);any(r1,w0,r0,w0);up(r0,w0,r0,w1);any(r1,w0,r0,w0);up(r0,w1,r1,w1);down(r1,w0,r0,w0);down(r0,w1,r1,w0);down(r0,w1,r1,w1);any(r1,w1,r1,w1);any(r1,w1,r1,w0);down(r0,w0,r0,w1);down(r1,w1,r1,w0);any(r0,w0,r0,w0);down(r0,w0,r0,w0);any(r0,w1,r1,w0);any(r0,w1,r1,w1);up(r1,w0,r0,w0);up(r0,w0,r0,w0);any(r0,w0,r0,w1);up(r1,w0,r0,w0);down(r0,w0,r0,w1);up(r1,w1,r1,w0)}\n
 b ==
 | memory 1
 | name made

@@ -90,6 +90,8 @@ l = all\nDRF\ndyn1\ndyn2\n
 1 total 176 covered 42 escapes 134
 
 # REFUSED
+m = {del;any(r0)}
+3 march M7 element 1 operation 0
 m = {del}
 l = DRF
 3 march M3
@@ -112,6 +114,14 @@ no l
 2 usage
 > judge -x l r
 2 usage
+> vectors m l o
+10 absent 2
+no m
+10 absent 1
+> judge m l r
+10 absent 1
+m = $mats
+10 absent 2
 > vectors m l o
 10 absent 2
 > vectors m l m

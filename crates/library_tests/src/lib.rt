@@ -46,6 +46,8 @@ mod memory_texts;
 #[cfg(test)]
 mod module_answers;
 #[cfg(test)]
+mod order_rows;
+#[cfg(test)]
 mod pauses;
 #[cfg(test)]
 mod port_checks;
@@ -57,6 +59,8 @@ mod questions;
 mod refusals;
 #[cfg(test)]
 mod reports;
+#[cfg(test)]
+mod reserved_rows;
 #[cfg(test)]
 mod retention_rows;
 #[cfg(test)]
