@@ -12,7 +12,7 @@ TOOLS = ROOT / "tools"
 INNER = ["selftest", "guide", "gallery", "pictures", "interop", "manual", "trusted", "unproved"]
 TASKS = {
     "To begin with": ["judge", "compile", "bench", "explain"],
-    "Marches and their escapes": ["explore", "decoder", "sim", "replay", "trace", "report", "compare"],
+    "Marches and their escapes": ["explore", "decoder", "linked", "sim", "replay", "trace", "report", "compare"],
     "A module beside its memory": [
         "vectors", "benchfault", "benchall", "testbench", "locate", "turn", "liberty", "collar", "hold", "summary",
     ],
@@ -26,6 +26,7 @@ TASKS = {
 SHORT = {
     "judge": "which primitives of a list a march covers, with an escape for each that it doesn't",
     "decoder": "which faults of the address decoder a march covers, with an escape for each that it doesn't",
+    "linked": "which linked faults a march covers, with an escape for each that it doesn't",
     "compile": "the self-test module of a march and a memory, and that verdict",
     "bench": "that module, clocked beside a sound memory",
     "sim": "a march on one array with one instance of a primitive",
