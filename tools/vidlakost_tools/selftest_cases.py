@@ -45,6 +45,10 @@ REPORT = (
     "march {any(w0);up(r0,w1);down(r1,w0)}\ncovered <0w1/0/-> TF\nescape <1w0/1/-> TF aggressor none victim 0 content 00 directions uud\n"
     "class TF 2 covered 1\ntotal 2 covered 1 escapes 1\n"
 )
+DECODER = (
+    "march {any(w0);any(r0,w1);any(r1)}\ncovered none 0\ncovered none 1\ncovered other\n"
+    "escape both and x 0 y 1 content 00 directions udu\ncovered both or\ntotal 5 covered 4 escapes 1\n"
+)
 PINS = "macro ram\nclk ck\nen ~ce\nwe ~wen\naddr a\nwdata d\nrdata q\nregisters out 1\n"
 
 # a lone byte that is no text is one of \udc80 to \udcff
@@ -111,6 +115,11 @@ FILES: Dict[str, str] = {
     "kept.report": REPORT,
     "kept.report.m": "{any(w0)}\n",
     "empty.report": "",
+    "decoder.report": DECODER,
+    "caught.report": DECODER.replace("directions udu", "directions uuu"),
+    "place.report": DECODER.replace("x 0 y 1", "x 1 y 1"),
+    "order.report": DECODER.replace("covered other\n", "").replace("covered both or\n", "covered both or\ncovered other\n"),
+    "sum5.report": DECODER.replace("covered 4 escapes 1", "covered 3 escapes 2"),
     "ram.pins": PINS,
     "bad.pins": PINS + "foo x\n",
     "few.pins": "macro ram\nclk ck\n",
@@ -246,6 +255,11 @@ REFUSALS: List[Tuple[List[str], int, str, str]] = [
         "vidlakost: error: CONTENT has 3 digits, and SIZE is 2",
     ),
     (["cmpile", "c.m"], 2, "usage", "vidlakost: error: 'cmpile' is no command; did you mean 'compile'?"),
+    (["decoder", "c.m", "out"], 0, "total 5 covered 5 escapes 0", ""),
+    (["decoder", "stray.m", "out"], 3, "march M1 byte 12", "stray.m:1:11: error: 'upp' can't stand here; did you mean 'up'?"),
+    (["decoder", "missing.m", "out"], 10, "absent 1", "missing.m: error: there is no such file"),
+    (["decoder", "c.m"], 2, "usage", "vidlakost: error: decoder takes 2 words, and there are 1: REPORT is missing"),
+    (["decoder", "c.m", "./c.m"], 2, "", "vidlakost: "),
     (["judge", "c.m", "tf.list"], 2, "usage", "vidlakost: error: judge takes 3 words, and there are 2: REPORT is missing"),
     (["judge", "c.m", "c.m", "out"], 2, "usage", "vidlakost: error: MARCH and FAULTS are both 'c.m'"),
     (["make", "65535", "a", "b", "c", "d", "e"], 2, "usage", "vidlakost: error: NUMBER is 0 to 65,534, and not 65535"),
@@ -318,6 +332,8 @@ CALLS: List[Tuple[str, List[str], int, str, str]] = [
     ("", ["tools/explain", "march", "M8"], 0, "march M8", ""),
     ("", ["tools/explain", "CFds"], 0, "disturb coupling fault", ""),
     ("", ["tools/explain", "DYN1"], 0, "dyn1", ""),
+    ("", ["tools/explain", "AF"], 0, "other\n    address x reaches the cell of y in place of its own", ""),
+    ("", ["tools/explain", "both and"], 0, "AF3 with AF4", ""),
     ("", ["tools/explain", "escape"], 0, "escape PRIM CLASS", ""),
     ("", ["tools/explain", "caught"], 0, "caught element E", ""),
     ("", ["tools/explain", "13"], 0, "misfit", ""),
@@ -348,6 +364,14 @@ CALLS: List[Tuple[str, List[str], int, str, str]] = [
     ("", ["tools/trace", "a.report", "--steps"], 0, "  element 2   w0   cell 0", ""),
     ("", ["tools/trace", "a.report", "<0/1/->"], 2, "", "trace: a.report has no escape of <0/1/->"),
     ("", ["tools/trace", "cut.report"], 2, "", "trace: cut.report:4"),
+    ("", ["tools/trace", "decoder.report"], 0, "both and AF: in element 1 y comes first, and the and of both cells is", ""),
+    ("", ["tools/trace", "decoder.report", "both and", "--steps"], 0, "  element 1   r0   x 0     01 * reads 0\n", ""),
+    ("", ["tools/trace", "decoder.report", "other"], 2, "", "trace: decoder.report has no escape of other"),
+    ("", ["tools/trace", "caught.report"], 1, "both and AF: is caught in element 1, and is no escape", ""),
+    ("", ["tools/trace", "place.report"], 2, "", "trace: place.report:5: the array of the escape does not fit the march"),
+    ("", ["tools/trace", "order.report"], 2, "", "trace: order.report:4: the line is no verdict on other"),
+    ("", ["tools/trace", "sum5.report"], 2, "", "trace: sum5.report:7: the total is not that of the lines"),
+    ("", ["tools/report", "decoder.report", "--json"], 2, "", "report: decoder.report:2: the line is none of a report's"),
     ("", ["tools/report", "a.report", "--json"], 0, '"schema": "vidlakost-report-1"', ""),
     ("", ["tools/report", "a.report", "--html", "a.html"], 0, "", ""),
     ("", ["tools/report", "a.report"], 2, "", "report: one of --json and --html FILE"),
@@ -356,6 +380,7 @@ CALLS: List[Tuple[str, List[str], int, str, str]] = [
     ("", ["tools/report", "tf.list", "--json"], 2, "", "report: tf.list:1"),
     ("", ["tools/compare", "tf.list", "c.m", "examples/mats_plus.m"], 0, "TF    <1w0/1/->        c\n", ""),
     ("", ["tools/compare", "tf.list", "c.m", "examples/mats_plus.m", "--json"], 0, "vidlakost-compare-1", ""),
+    ("", ["tools/compare", "tf.list", "c.m", "examples/marches/mats.m"], 0, "AF    both and         c\n", ""),
     ("", ["tools/compare", "tf.list", "c.m"], 2, "", "compare: too few words"),
     ("", ["tools/compare", "lower.list", "c.m", "wrong.m"], 5, "", "compare: fault F1 line 1 byte 1\nlower.list:1:1: error:"),
     ("", ["tools/compare", "tf.list", "c.m", "wrong.m"], 3, "", "compare: march M8"),

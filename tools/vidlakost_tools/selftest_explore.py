@@ -18,6 +18,7 @@ from vidlakost_tools.program import ROOT
 from vidlakost_tools.selftest_bench import Bench
 
 MARCH = "{any(w0);up(r0,w1);up(r1,w0);down(r0,w1);down(r1,w0);any(r0)}"
+MATS = "{any(w0);any(r0,w1);any(r1)}"
 MEMORY = "memory 1\nname s\nwords 4\nbits 1\n"
 MARKUP = '{any(w0)}<img src=x onerror="document.title=1"><script>document.title=2</script>'
 JSON = "application/json"
@@ -108,6 +109,13 @@ def questions(bench: Bench, served: Served) -> None:
     bench.is_so(traced["sim"]["said"] == "passes" and len(traced["steps"]) == 21, f"an escape is traced as {traced}")
     traced = served.ask("trace", {"march": MARCH, "primitive": "<0w1/0/->"})
     bench.is_so("steps" not in traced, f"a covered primitive has steps: {traced}")
+    verdicts = served.ask("judge", {"march": MATS, "list": "TF\n"})["report"]["verdicts"]
+    found = {row["primitive"]: row["covered"] for row in verdicts if row["class"] == "AF"}
+    bench.is_so(len(found) == 5 and [it for it in found if not found[it]] == ["both and"], f"of the decoder is told {found}")
+    traced = served.ask("trace", {"march": MATS, "primitive": "both and"})
+    bench.is_so(traced["steps"][-1]["reaches"] == [1] and "sim" not in traced, f"a wrong decoder is traced as {traced}")
+    traced = served.ask("trace", {"march": MATS, "primitive": "other"})
+    bench.is_so("steps" not in traced, f"a covered fault has steps: {traced}")
     told = served.ask("memory", {"march": MARCH, "memory": MEMORY})
     bench.is_so((told["cycles"], told["commands"]) == (43, 40), f"a memory is told as {told}")
     refused = served.ask("memory", {"march": MARCH, "memory": "memory 1\nname s\nwords 1\nbits 1\n"})["refused"]

@@ -60,7 +60,7 @@ function cellsAt(escape, step) {
 function actOf(step, escape) {
   if (!step.acts) return "";
   if (step.reaches === undefined) return ` The fault acts on cell ${escape.victim}.`;
-  const reached = step.reaches.length === 0 ? "no cell" : `cell ${step.reaches.join(" and ")}`;
+  const reached = ["no cell", `cell ${step.reaches[0]}`, `cells ${step.reaches.join(" and ")}`][step.reaches.length];
   return ` Address x reaches ${reached}.`;
 }
 
