@@ -6,7 +6,7 @@ import dataclasses
 import pathlib
 import re
 import tempfile
-from typing import NoReturn
+from typing import NoReturn, Protocol, Sequence
 
 from vidlakost_tools.faults import Array, read_primitive
 from vidlakost_tools.march import Element, elements_of, length_of
@@ -28,6 +28,15 @@ SHAPE = re.compile(
     rf"memory (?P<name>[A-Za-z_][A-Za-z0-9_$]{{0,63}}) words (?P<words>{COUNT}) bits (?P<bits>{COUNT}) "
     rf"backgrounds (?P<backgrounds>{COUNT}) commands (?P<commands>{COUNT})"
 )
+
+
+class Judged(Protocol):
+    """What is said of a primitive, wherever its cells are."""
+
+    kind: str
+
+    @property
+    def covered(self) -> bool: ...
 
 
 @dataclasses.dataclass
@@ -130,7 +139,7 @@ def check_escape(verdict: Verdict, elements: list[Element]) -> str | None:
     return None
 
 
-def classes_of(verdicts: list[Verdict]) -> dict[str, tuple[int, int]]:
+def classes_of(verdicts: Sequence[Judged]) -> dict[str, tuple[int, int]]:
     """Of each class how many primitives there are, and how many of them are covered."""
     count = collections.Counter(verdict.kind for verdict in verdicts)
     covered = collections.Counter(verdict.kind for verdict in verdicts if verdict.covered)

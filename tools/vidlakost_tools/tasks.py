@@ -12,7 +12,7 @@ TOOLS = ROOT / "tools"
 INNER = ["selftest", "guide", "gallery", "pictures", "interop", "manual", "trusted", "unproved"]
 TASKS = {
     "To begin with": ["judge", "compile", "bench", "explain"],
-    "Marches and their escapes": ["explore", "decoder", "linked", "sim", "replay", "trace", "report", "compare"],
+    "Marches and their escapes": ["explore", "decoder", "linked", "inword", "sim", "replay", "trace", "report", "compare"],
     "A module beside its memory": [
         "vectors", "benchfault", "benchall", "testbench", "locate", "turn", "liberty", "collar", "hold", "summary",
     ],
@@ -28,6 +28,7 @@ SHORT = {
     "decoder": "which faults of the address decoder a march covers, with an escape for each that it doesn't",
     "linked": "which linked faults a march covers, with an escape for each that it doesn't",
     "compile": "the self-test module of a march and a memory, and that verdict",
+    "inword": "which primitives a test detects between two bits of one word, with an escape for each that it doesn't",
     "bench": "that module, clocked beside a sound memory",
     "sim": "a march on one array with one instance of a primitive",
     "vectors": "what a self-test does at the memory's port, command by command",
