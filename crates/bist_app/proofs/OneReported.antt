@@ -1,7 +1,7 @@
 -- What is said of judged items is one line and one status alone.
 use Rattle.bist_app.proofs.Common.{ℕ, Bool, List, ap, length, sym, ◌∙◌, ◌≡◌, found_status, Answer, total_line}
 use Rattle.report_lines.proofs.Listed.{counts_one, lacks_one}
-use Rattle.bist_app.specs.Reported.{ReportsOf}
+use Rattle.report_lines.specs.Listed.{ReportsOf}
 
 pub reports_one : {X : Type 0} (IsReport : List ℕ → Type 0) (IsDetected : X → Type 0) (items : List X) (b c : Bool) (bytes other line said : List ℕ)
     → ReportsOf IsReport IsDetected items b bytes line → ReportsOf IsReport IsDetected items c other said

@@ -9,7 +9,7 @@ use Rattle.bist_endings.specs.Ending.{Done}
 use Rattle.bist_endings.specs.Then.{Then, OrNoMemory}
 use Rattle.bist_endings.specs.Words.{Words}
 use Rattle.bist_inputs.specs.Inputs.{InputMarch}
-use Rattle.bist_app.specs.Reported.{ReportsOf}
+use Rattle.report_lines.specs.Listed.{ReportsOf}
 use Rattle.bist_app.specs.Forms.{Form, Row, without_boxes}
 
 -- the report in the file that the second word names, and its last line

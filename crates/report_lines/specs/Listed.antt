@@ -1,6 +1,8 @@
--- Trusted. What a report says of a list, whatever its items are: how many have a property, whether one has it not, and a line for each.
-use Rattle.std.specs.Prelude.{◌≡◌, ◌+◌, ◌++◌, ◌⊎◌, ℕ, Bool, true, false, List, [], ◌∷◌, Contains, codes}
+-- Trusted. What a report says of a list, whatever its items are: how many have a property, whether one has it not, a line for each; and
+-- what is said of the report.
+use Rattle.std.specs.Prelude.{◌≡◌, ◌+◌, ◌++◌, ◌⊎◌, ℕ, Bool, true, false, List, [], ◌∷◌, Contains, codes, length}
 use Rattle.std.specs.List.{AllByRecursion}
+use Rattle.report_lines.specs.Lines.{total_line}
 
 -- so many of these have the property, repeats included
 abbrev pub CountsOf : {A : Type 0} → (A → Type 0) → List A → ℕ → Type 0
@@ -28,3 +30,11 @@ escape_line item escape = codes "escape " ++ item ++ escape ++ codes "\n"
 abbrev pub IsVerdictLine : List ℕ → Type 0 → (List ℕ → Type 0) → List ℕ → Type 0
 IsVerdictLine item Detected IsEscape line =
     (Detected × (line ≡ covered_line item)) ⊎ ((Detected → ⊥) × (escape : List ℕ) × IsEscape escape × (line ≡ escape_line item escape))
+
+-- the bytes are the report of these items, and the line is its last one: how many there are, and how many are detected
+pub record ReportsOf {X : Type 0} (IsReport : List ℕ → Type 0) (IsDetected : X → Type 0) (items : List X) (escapes : Bool) (bytes line : List ℕ) : Type 0 where
+  pub found : SomeLacks IsDetected items escapes
+  pub report : IsReport bytes
+  pub covered : ℕ
+  pub detects : CountsOf IsDetected items covered
+  pub last : line ≡ total_line (length items) covered

@@ -8,7 +8,7 @@ use Rattle.memory_desc.specs.Descriptions.{Description}
 use Rattle.dynamic_core.specs.declared.item.Item.{Item}
 use Rattle.dynamic_core.specs.declared.item.Item.TheVariants.{Plain, Dyn}
 use Rattle.report_lines.specs.Lines.{march_line, memory_line, total_line, prim_text, places_text, content_text}
-use Rattle.report_lines.specs.Listed.{CountsOf, SomeLacks, AreLinesOf}
+use Rattle.report_lines.specs.Listed.{CountsOf, AreLinesOf, ReportsOf}
 use Rattle.word_coupling.specs.declared.judging.WordEscape.{WordEscape}
 use Rattle.word_coupling.specs.Words.{DetectsInWord}
 use Rattle.word_coupling.specs.Escapes.{IsLeastWordEscape}
@@ -53,13 +53,9 @@ pub record IsInWordReport (text : List ℕ) (march : List MarchElement) (d : Des
       ≡ march_line march ++ memory_line march (Some d) ++ lines ++ apart_line (length items - length (couplings items))
       ++ total_line (length (couplings items)) covered
 
--- the bytes are the report, the line is its last one, and it is told whether some coupling escapes
-pub record ReportsInWord (march : List MarchElement) (d : Description) (items : List Item) (escapes : Bool) (bytes line : List ℕ) : Type 0 where
-  pub found : SomeLacks (DetectsInWord march d) (couplings items) escapes
-  pub report : IsInWordReport bytes march d items
-  pub covered : ℕ
-  pub detects : CountsOf (DetectsInWord march d) (couplings items) covered
-  pub last : line ≡ total_line (length (couplings items)) covered
+-- the report, its last line, and whether some coupling escapes
+abbrev pub ReportsInWord : List MarchElement → Description → List Item → Bool → List ℕ → List ℕ → Type 0
+ReportsInWord march d items = ReportsOf (λ bytes. IsInWordReport bytes march d items) (DetectsInWord march d) (couplings items)
 
 -- two texts that are the report of the same items are the same
 abbrev pub OneInWordText : Type 0

@@ -1,8 +1,9 @@
 //! Verdicts on primitives whose aggressor and victim are two bits of one word, for the whole test of a memory, and their report.
 //!
-//! A write of a word writes all its bits at once; so such an instance escapes where one whose cells stand in two words is caught, unless the
-//! backgrounds tell the two bits apart. In `specs/`: when a test catches an instance in a word, the least two bits that pass, what the report
-//! of a list says, and two bits of a word as a machine. Only `report_in_word` takes memory.
+//! A write of a word writes all its bits at once, which can hide what such an instance does; and two bits hold different data only in a
+//! background that tells them apart. So the verdict is another one than for cells in two words. In `specs/`: when a test catches an
+//! instance in a word, the least two bits that pass, what the report of a list says, and two bits of a word as a machine. Only
+//! `report_in_word` takes memory.
 //!
 //! ```
 //! use fault_syntax::read_prim;

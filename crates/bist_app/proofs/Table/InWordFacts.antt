@@ -1,20 +1,11 @@
 -- What is known of `inword`.
-use Rattle.bist_app.proofs.Common.{Bool, List, [], ap, length, sym, ◌∙◌, ◌∷◌, ◌≡◌, ℕ, Answer, found_status, leaves_conclude, then_concludes, Done, Written, list_settles, march_settles, memory_settles, InputList, InputMarch, InputMemory, Item, MarchElement, Description, total_line}
-use Rattle.report_lines.proofs.Listed.{counts_one, lacks_one}
+use Rattle.bist_app.proofs.Common.{List, [], ap, sym, ◌∙◌, ◌∷◌, ◌≡◌, leaves_conclude, then_concludes, Done, Written, list_settles, march_settles, memory_settles, InputList, InputMarch, InputMemory, Item, MarchElement, Description}
 use Rattle.word_coupling.specs.Words.{DetectsInWord}
-use Rattle.word_coupling.specs.Report.{couplings, ReportsInWord}
+use Rattle.word_coupling.specs.Report.{couplings, IsInWordReport}
 use Rattle.word_coupling.proofs.Reports.{one_in_word_text}
 use Rattle.bist_app.proofs.Facts.{Facts, files_facts}
+use Rattle.bist_app.proofs.OneReported.{reports_one}
 use Rattle.bist_app.specs.InWord.{DecidesInWord, IsJudgedInWord, LeavesInWord, in_word_form, in_word_row}
-
-answer_one : (march : List MarchElement) (m : Description) (items : List Item) (b c : Bool) (bytes other line said : List ℕ)
-    → ReportsInWord march m items b bytes line → ReportsInWord march m items c other said
-    → (let a : Answer = record { status = found_status b; line = line } in a) ≡ record { status = found_status c; line = said }
-answer_one march m items b c bytes other line said h i =
-    let status = ap found_status (lacks_one (DetectsInWord march m) (couplings items) b c h.found i.found) in
-    let covered = counts_one (DetectsInWord march m) (couplings items) h.covered i.covered h.detects i.detects in
-    let lines : line ≡ said = h.last ∙ ap (total_line (length (couplings items))) covered ∙ sym i.last in
-    λ j. record { status = status j; line = lines j }
 
 files_one : (march : List MarchElement) (m : Description) (items : List Item) (d e : Done) → IsJudgedInWord march m items d → IsJudgedInWord march m items e → d.outputs ≡ e.outputs
 files_one march m items d e f g =
@@ -26,5 +17,5 @@ in_word_facts = files_facts in_word_form DecidesInWord (λ outputs. outputs) (λ
     then_concludes (InputMarch files words 1) _ (march_settles files words 1) (λ march _.
     then_concludes (InputMemory files words 2) _ (memory_settles files words 2) (λ m _.
     then_concludes (InputList files words 3) _ (list_settles files words 3) (λ items _.
-    leaves_conclude (IsJudgedInWord march m items) (λ told tells d e f g. answer_one march m items d.found e.found f.bytes g.bytes d.line e.line f.reports g.reports)
+    leaves_conclude (IsJudgedInWord march m items) (λ told tells d e f g. reports_one (λ text. IsInWordReport text march m items) (DetectsInWord march m) (couplings items) d.found e.found f.bytes g.bytes d.line e.line f.reports g.reports)
     (λ told. files_one march m items)))))
