@@ -5,13 +5,13 @@ use Rattle.linked_faults.specs.declared.link.Link.{Link}
 use Rattle.linked_faults.specs.declared.table.LinkKind.{LinkKind}
 use Rattle.linked_faults.specs.declared.escape.LinkEscape.{LinkEscape}
 use Rattle.linked_faults.specs.Detection.{Detects}
-use Rattle.linked_faults.specs.Escapes.{IsNoGreater, IsLeastEscape, array_number}
+use Rattle.linked_faults.specs.Escapes.{IsNoGreater, array_number}
 use Rattle.linked_faults.proofs.Choosing.{links_one}
 use Rattle.linked_faults.proofs.Numbers.{same_array}
 use Rattle.report_lines.specs.Lines.{march_line, total_line}
 use Rattle.report_lines.specs.Listed.{CountsOf, AreLinesOf}
-use Rattle.report_lines.proofs.Listed.{counts_one, lines_one}
-use Rattle.linked_report.specs.Report.{escape_line, kind_line, kind_size, kind_order, IsLinkLine, IsKindLine, IsLinkedReport}
+use Rattle.report_lines.proofs.Listed.{counts_one, line_one as verdict_line_one, lines_one}
+use Rattle.linked_report.specs.Report.{link_text, escape_text, IsEscapeText, kind_line, kind_size, kind_order, IsLinkLine, IsKindLine, IsLinkedReport}
 use Rattle.linked_report.specs.OneText.{OneLinkedText}
 
 -- neither of two is greater
@@ -21,18 +21,15 @@ both_least e f (inl h) (inr (i, k)) = absurd (omega (arith, h, i))
 both_least e f (inr (h, k)) (inl i) = absurd (omega (arith, h, i))
 both_least e f (inr (h, k)) (inr (i, l)) = (h, omega (arith, k, l))
 
-escape_one : (march : List MarchElement) (size : ℕ) (e f : LinkEscape) → e.link ≡ f.link → IsLeastEscape march e → IsLeastEscape march f
-    → escape_line size e ≡ escape_line size f
-escape_one march size e f same x y =
+escape_one : (march : List MarchElement) (link : Link) (s t : List ℕ) → IsEscapeText march link s → IsEscapeText march link t → s ≡ t
+escape_one march link s t (e, a, x, is) (f, b, y, it) =
+    let same : e.link ≡ f.link = a ∙ sym b in
     let both = both_least e f (x.least f (sym same) y.escape) (y.least e same x.escape) in
     let array = same_array e f same x.escape.array.spots y.escape.array.spots both.0 in
-    λ i. escape_line size (record { link = same i; spots = array.0 i; content = array.1 i; directions = both.1 i })
+    is ∙ (λ i. escape_text (length march) (record { link = same i; spots = array.0 i; content = array.1 i; directions = both.1 i })) ∙ sym it
 
 line_one : (march : List MarchElement) (link : Link) (s t : List ℕ) → IsLinkLine march link s → IsLinkLine march link t → s ≡ t
-line_one march link s t (inl (d, is)) (inl (e, it)) = is ∙ sym it
-line_one march link s t (inl (d, is)) (inr (never, f, b, y, it)) = absurd (never d)
-line_one march link s t (inr (never, e, a, x, is)) (inl (d, it)) = absurd (never d)
-line_one march link s t (inr (never, e, a, x, is)) (inr (nor, f, b, y, it)) = is ∙ escape_one march (length march) e f (a ∙ sym b) x y ∙ sym it
+line_one march link s t f g = verdict_line_one (link_text link) (Detects march link) (IsEscapeText march link) (escape_one march link) s t f g
 
 kind_one : (march : List MarchElement) (links : List Link) (kind : LinkKind) (s t : List ℕ) → IsKindLine march links kind s → IsKindLine march links kind t → s ≡ t
 kind_one march links kind s t (m, f, is) (n, g, it) = is ∙ ap (kind_line kind (kind_size kind links)) (counts_one (Detects march) _ m n f g) ∙ sym it

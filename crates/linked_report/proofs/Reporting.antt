@@ -30,7 +30,7 @@ tells march j h = tells_of march j.link j.escape h
 
 line_of : (march : List MarchElement) (link : Link) (escape : Option LinkEscape) → IsVerdict march link escape → IsLinkLine march link (line_by (length march) link escape)
 line_of march link None h = inl (h, refl)
-line_of march link (Some e) h = inr (h.2, e, h.0, h.1, refl)
+line_of march link (Some e) h = inr (h.2, _, (e, h.0, h.1, refl), refl)
 
 kind_is : (march : List MarchElement) (js : List JudgedLink) → AllByRecursion (IsJudgedLink march) js → (kind : LinkKind)
     → IsKindLine march (map link_of js) kind (counted_line js kind)
@@ -62,10 +62,12 @@ reports_of march links js found bytes line are judged is_found is_bytes is_line 
     record {
       links = map link_of js;
       are_links = these;
-      found = subst (λ b. SomeLacks (Detects march) (map link_of js) b) (sym is_found)
-          (some_lacks (Detects march) link_of is_link_covered (IsJudgedLink march) (tells march) js judged.each);
-      report = subst (λ text. IsLinkedReport text march) (sym is_bytes) (report_is march js judged.each these);
-      covered = count_by is_link_covered js;
-      detects = counted (Detects march) link_of is_link_covered (IsJudgedLink march) (tells march) js judged.each;
-      last = is_line ∙ ap (λ n. total_line n (count_by is_link_covered js)) (sym (length-map js link_of));
+      reports = record {
+        found = subst (λ b. SomeLacks (Detects march) (map link_of js) b) (sym is_found)
+            (some_lacks (Detects march) link_of is_link_covered (IsJudgedLink march) (tells march) js judged.each);
+        report = subst (λ text. IsLinkedReport text march) (sym is_bytes) (report_is march js judged.each these);
+        covered = count_by is_link_covered js;
+        detects = counted (Detects march) link_of is_link_covered (IsJudgedLink march) (tells march) js judged.each;
+        last = is_line ∙ ap (λ n. total_line n (count_by is_link_covered js)) (sym (length-map js link_of));
+      };
     }

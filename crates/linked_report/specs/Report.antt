@@ -1,10 +1,10 @@
 -- Trusted. The report on linked faults: the march, a line for each link in the order of the table, one for each kind, and the total.
-use Rattle.std.specs.Prelude.{◌≡◌, ◌++◌, ◌⊎◌, ℕ, Bool, List, [], ◌∷◌, length, filter, count_by, codes, decimal}
+use Rattle.std.specs.Prelude.{◌≡◌, ◌++◌, ℕ, Bool, List, [], ◌∷◌, length, filter, count_by, codes, decimal}
 use Rattle.std.specs.Str.{bytes_eq}
 use Rattle.fault_syntax.specs.Printed.{printed as printed_prim}
 use Rattle.march_core.specs.March.{MarchElement}
 use Rattle.report_lines.specs.Lines.{march_line, total_line, aggressor_text, passing_text}
-use Rattle.report_lines.specs.Listed.{CountsOf, SomeLacks, AreLinesOf}
+use Rattle.report_lines.specs.Listed.{CountsOf, AreLinesOf, IsVerdictLine, ReportsOf}
 use Rattle.linked_faults.specs.declared.link.Link.{Link}
 use Rattle.linked_faults.specs.declared.table.LinkKind.{LinkKind}
 use Rattle.linked_faults.specs.declared.table.LinkKind.TheVariants.{LF1, LF2aa, LF2av, LF2va, LF3}
@@ -35,18 +35,17 @@ spots_text e =
     codes " a " ++ aggressor_text (first_places e.link e.spots).agg ++ codes " b " ++ aggressor_text (second_places e.link e.spots).agg
     ++ codes " v " ++ decimal e.spots.v
 
--- the line of a link that is covered, and of one that escapes a march with so many elements
-abbrev pub covered_line : Link → List ℕ
-covered_line link = codes "covered " ++ link_text link ++ codes "\n"
+-- the cells of an escape of a march with so many elements, what they hold, and the directions
+abbrev pub escape_text : ℕ → LinkEscape → List ℕ
+escape_text size e = spots_text e ++ passing_text size (cells_of e.content) e.directions
 
-abbrev pub escape_line : ℕ → LinkEscape → List ℕ
-escape_line size e = codes "escape " ++ link_text e.link ++ spots_text e ++ passing_text size (cells_of e.content) e.directions ++ codes "\n"
+-- the text is that of the least escape of a link
+abbrev pub IsEscapeText : List MarchElement → Link → List ℕ → Type 0
+IsEscapeText march link text = (e : LinkEscape) × (e.link ≡ link) × IsLeastEscape march e × (text ≡ escape_text (length march) e)
 
--- covered exactly where the march detects the link at every size, and else its least escape
+-- the line of a link: covered exactly where the march detects it at every size, and else its least escape
 abbrev pub IsLinkLine : List MarchElement → Link → List ℕ → Type 0
-IsLinkLine march link line =
-    (Detects march link × (line ≡ covered_line link))
-    ⊎ ((Detects march link → ⊥) × (e : LinkEscape) × (e.link ≡ link) × IsLeastEscape march e × (line ≡ escape_line (length march) e))
+IsLinkLine march link line = IsVerdictLine (link_text link) (Detects march link) (IsEscapeText march link) line
 
 -- whether a link is of this kind: its own has the same name
 abbrev pub is_of_kind : LinkKind → Link → Bool
@@ -81,8 +80,4 @@ pub record IsLinkedReport (text : List ℕ) (march : List MarchElement) : Type 0
 pub record ReportsLinks (march : List MarchElement) (escapes : Bool) (bytes line : List ℕ) : Type 0 where
   pub links : List Link
   pub are_links : AreLinks links
-  pub found : SomeLacks (Detects march) links escapes
-  pub report : IsLinkedReport bytes march
-  pub covered : ℕ
-  pub detects : CountsOf (Detects march) links covered
-  pub last : line ≡ total_line (length links) covered
+  pub reports : ReportsOf (λ text. IsLinkedReport text march) (Detects march) links escapes bytes line

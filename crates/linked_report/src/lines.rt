@@ -3,7 +3,8 @@
 ghost use Rattle.std.specs.Prelude.{◌≡◌, ◌≤◌, ◌++◌, OnOk, codes};
 ghost use Rattle.std.specs.List.{flat_map};
 ghost use Rattle.report_lines.specs.Lines.{aggressor_text};
-ghost use Rattle.linked_report.specs.Report.{link_text, spots_text, escape_line};
+ghost use Rattle.report_lines.specs.Listed.{escape_line};
+ghost use Rattle.linked_report.specs.Report.{link_text, spots_text, escape_text};
 ghost use Rattle.linked_report.specs.inner.Counted.{judged_link_line};
 
 use crate::judged::JudgedLink;
@@ -44,15 +45,28 @@ fn write_spots(out: &mut Vec<u8>, escape: &LinkEscape) -> Result<(), NoMemory>
     put_decimal(out, escape.spots.v as u64)
 }
 
-/// Appends the line of an escape, without its end.
+/// Appends the cells of an escape, what they hold, and the directions of a march with so many elements.
 fn write_escape(out: &mut Vec<u8>, escape: &LinkEscape, size: usize) -> Result<(), NoMemory>
     requires { size ≤ 64 }
-    ensures { OnOk result (out.new.items ++ codes "\n" ≡ out.old.items ++ escape_line size escape.now) }
+    ensures { OnOk result (out.new.items ≡ out.old.items ++ escape_text size escape.now) }
 {
     let cells = escape.content;
-    write_link(out, b"escape ", &escape.link)?;
     write_spots(out, escape)?;
     write_passing(out, &[cells.x, cells.y, cells.z], escape.directions, size)
+}
+
+/// Appends the line of a link that escapes, without its end.
+fn write_escaping(
+    out: &mut Vec<u8>,
+    link: &Link,
+    escape: &LinkEscape,
+    size: usize,
+) -> Result<(), NoMemory>
+    requires { size ≤ 64 }
+    ensures { OnOk result (out.new.items ++ codes "\n" ≡ out.old.items ++ escape_line (link_text link.now) (escape_text size escape.now)) }
+{
+    write_link(out, b"escape ", link)?;
+    write_escape(out, escape, size)
 }
 
 /// Appends the line of a judged link, without its end.
@@ -62,7 +76,7 @@ fn write_line(out: &mut Vec<u8>, judged: &JudgedLink, size: usize) -> Result<(),
 {
     match &judged.escape {
         None => write_link(out, b"covered ", &judged.link),
-        Some(escape) => write_escape(out, escape, size),
+        Some(escape) => write_escaping(out, &judged.link, escape, size),
     }
 }
 

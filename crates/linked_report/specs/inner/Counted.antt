@@ -6,9 +6,10 @@ use Rattle.linked_faults.specs.declared.table.LinkKind.{LinkKind}
 use Rattle.linked_faults.specs.declared.link.Link.{Link}
 use Rattle.linked_faults.specs.declared.escape.LinkEscape.{LinkEscape}
 use Rattle.report_lines.specs.Lines.{march_line, total_line}
+use Rattle.report_lines.specs.Listed.{covered_line, escape_line}
 use Rattle.linked_report.specs.declared.judged.JudgedLink.{JudgedLink}
 use Rattle.linked_report.specs.Links.{is_link_covered}
-use Rattle.linked_report.specs.Report.{kind_order, is_of_kind, kind_line, covered_line, escape_line}
+use Rattle.linked_report.specs.Report.{kind_order, is_of_kind, kind_line, link_text, escape_text}
 
 -- whether a judged link is of this kind, and covered
 abbrev pub is_covered_in : LinkKind → JudgedLink → Bool
@@ -23,8 +24,8 @@ counted_line judged kind = kind_line kind (count_by (λ j. is_of_kind kind j.lin
 
 -- the line of a link by its escape, where there is one
 abbrev pub line_by : ℕ → Link → Option LinkEscape → List ℕ
-line_by size link None = covered_line link
-line_by size link (Some e) = escape_line size e
+line_by size link None = covered_line (link_text link)
+line_by size link (Some e) = escape_line (link_text link) (escape_text size e)
 
 -- the line of a judged link under a march with so many elements
 abbrev pub judged_link_line : ℕ → JudgedLink → List ℕ
