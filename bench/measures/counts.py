@@ -32,6 +32,11 @@ def inword(folder: pathlib.Path) -> list[Figure]:
     return counted("bench/inword")
 
 
+def decoder(folder: pathlib.Path) -> list[Figure]:
+    """Verdicts on the address decoder beside a plain model of arrays of two to four cells."""
+    return counted("bench/decoder")
+
+
 def memories(folder: pathlib.Path) -> list[Figure]:
     """Refusals of random descriptions, and commands, beside a plain model."""
     return counted("bench/memories")
