@@ -239,6 +239,17 @@ def steps_of(verdict: WordVerdict, elements: list[Element], memory: Memory) -> I
                     return
 
 
+def shown(step: WordStep, memory: Memory) -> str:
+    """A line of the table of steps."""
+    place = "start"
+    if step.background is not None:
+        place = f"background {memory.digits(memory.backgrounds[step.background])} element {step.element}"
+    word = step.due if step.operation[:1] in ("r", "w") else ""
+    answer = "" if step.answer is None else f"reads {step.answer}"
+    width = len("background  element 00") + len(memory.digits(0))
+    return f"  {place:{width}} {step.operation:4} {word:2}  {step.held} {'*' if step.acts else ' '} {answer}".rstrip()
+
+
 # ---- why it escapes
 
 

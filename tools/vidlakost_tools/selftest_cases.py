@@ -49,6 +49,10 @@ DECODER = (
     "march {any(w0);any(r0,w1);any(r1)}\ncovered none 0\ncovered none 1\ncovered other\n"
     "escape both and x 0 y 1 content 00 directions udu\ncovered both or\ntotal 5 covered 4 escapes 1\n"
 )
+IN_WORD = (
+    "march {any(w0);up(r0,w1);any(r1)}\nmemory t words 4 bits 2 backgrounds 2 commands 32\n"
+    "escape <0w1;0/1/-> CFds aggressor 0 victim 1 content 00\napart 1\ntotal 1 covered 0 escapes 1\n"
+)
 PINS = "macro ram\nclk ck\nen ~ce\nwe ~wen\naddr a\nwdata d\nrdata q\nregisters out 1\n"
 
 # a lone byte that is no text is one of \udc80 to \udcff
@@ -120,6 +124,9 @@ FILES: Dict[str, str] = {
     "place.report": DECODER.replace("x 0 y 1", "x 1 y 1"),
     "order.report": DECODER.replace("covered other\n", "").replace("covered both or\n", "covered both or\ncovered other\n"),
     "sum5.report": DECODER.replace("covered 4 escapes 1", "covered 3 escapes 2"),
+    "inside.report": IN_WORD,
+    "outside.report": IN_WORD.replace("victim 1", "victim 2"),
+    "shown.report": IN_WORD.replace("<0w1;0/1/-> CFds", "<0;0/1/-> CFst"),
     "ram.pins": PINS,
     "bad.pins": PINS + "foo x\n",
     "few.pins": "macro ram\nclk ck\n",
@@ -371,6 +378,23 @@ CALLS: List[Tuple[str, List[str], int, str, str]] = [
     ("", ["tools/trace", "place.report"], 2, "", "trace: place.report:5: the array of the escape does not fit the march"),
     ("", ["tools/trace", "order.report"], 2, "", "trace: order.report:4: the line is no verdict on other"),
     ("", ["tools/trace", "sum5.report"], 2, "", "trace: sum5.report:7: the total is not that of the lines"),
+    ("", ["tools/trace", "inside.report"], 2, "", "trace: this report is of `inword`: --memory MEMORY has its backgrounds"),
+    (
+        "",
+        ["tools/trace", "inside.report", "--memory", "t.mem"],
+        0,
+        "<0w1;0/1/-> CFds aggressor 0 victim 1: acts in background 0, element 1, and the same operation",
+        "",
+    ),
+    ("", ["tools/trace", "inside.report", "--memory", "t.mem", "--steps"], 0, "  background 2 element 0  w0   01  01\n", ""),
+    ("", ["tools/trace", "inside.report", "--memory", "s.mem"], 2, "", "trace: s.mem is another memory than the report's, which is t"),
+    ("", ["tools/trace", "a.report", "--memory", "t.mem"], 2, "", "trace: --memory is for a report of `inword`"),
+    ("", ["tools/trace", "outside.report", "--memory", "t.mem"], 2, "", "trace: outside.report:3: the line is none of a report's"),
+    ("", ["tools/trace", "shown.report", "--memory", "t.mem"], 1, "is caught in background 0, element 1, and is no escape", ""),
+    ("", ["tools/report", "inside.report", "--json"], 0, '"schema": "vidlakost-inword-1"', ""),
+    ("", ["tools/report", "inside.report", "--html", "inside.html"], 0, "", ""),
+    ("", ["tools/report", "a.report", "--inword", "inside.report", "--json"], 2, "", "report: inside.report has to be a report of `inword`"),
+    ("", ["tools/report", "a.report", "--inword", "a.report", "--json"], 2, "", "report: a.report:2: the second line is no memory's"),
     ("", ["tools/report", "decoder.report", "--json"], 2, "", "report: decoder.report:2: the line is none of a report's"),
     ("", ["tools/report", "a.report", "--json"], 0, '"schema": "vidlakost-report-1"', ""),
     ("", ["tools/report", "a.report", "--html", "a.html"], 0, "", ""),
@@ -381,6 +405,14 @@ CALLS: List[Tuple[str, List[str], int, str, str]] = [
     ("", ["tools/compare", "tf.list", "c.m", "examples/mats_plus.m"], 0, "TF    <1w0/1/->        c\n", ""),
     ("", ["tools/compare", "tf.list", "c.m", "examples/mats_plus.m", "--json"], 0, "vidlakost-compare-1", ""),
     ("", ["tools/compare", "tf.list", "c.m", "examples/marches/mats.m"], 0, "AF    both and         c\n", ""),
+    (
+        "",
+        ["tools/compare", "tf.list", "c.m", "examples/mats_plus.m", "--memory", "t.mem"],
+        0,
+        "\ninside a word of t: 2 bits, 2 backgrounds\n",
+        "",
+    ),
+    ("", ["tools/compare", "tf.list", "c.m", "examples/mats_plus.m", "--memory", "rows.mem"], 4, "", "compare: memory D6"),
     ("", ["tools/compare", "tf.list", "c.m"], 2, "", "compare: too few words"),
     ("", ["tools/compare", "lower.list", "c.m", "wrong.m"], 5, "", "compare: fault F1 line 1 byte 1\nlower.list:1:1: error:"),
     ("", ["tools/compare", "tf.list", "c.m", "wrong.m"], 3, "", "compare: march M8"),

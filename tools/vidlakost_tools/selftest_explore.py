@@ -116,6 +116,10 @@ def questions(bench: Bench, served: Served) -> None:
     bench.is_so(traced["steps"][-1]["reaches"] == [1] and "sim" not in traced, f"a wrong decoder is traced as {traced}")
     traced = served.ask("trace", {"march": MATS, "primitive": "other"})
     bench.is_so("steps" not in traced, f"a covered fault has steps: {traced}")
+    inside = served.ask("judge", {"march": MARCH, "list": "all\n", "memory": "memory 1\nname s\nwords 4\nbits 2\n"})["inWord"]
+    bench.is_so((len(inside), sum(inside.values())) == (36, 16), f"inside a word the page is told {inside}")
+    inside = served.ask("inside", {"march": MARCH, "primitive": "<0w1;0/1/->", "memory": "memory 1\nname s\nwords 4\nbits 2\n"})
+    bench.is_so(inside["verdict"]["escape"]["victim"] == 1 and len(inside["steps"]) == 21, f"inside a word it is {inside}")
     told = served.ask("memory", {"march": MARCH, "memory": MEMORY})
     bench.is_so((told["cycles"], told["commands"]) == (43, 40), f"a memory is told as {told}")
     refused = served.ask("memory", {"march": MARCH, "memory": "memory 1\nname s\nwords 1\nbits 1\n"})["refused"]

@@ -13,12 +13,12 @@ import re
 import tempfile
 from typing import Any, Callable, Dict, Iterable
 
-from vidlakost_tools import cycles_picture, decoder, diagnose, reasons
+from vidlakost_tools import cycles_picture, decoder, diagnose, in_word, reasons
 from vidlakost_tools.decoder import DecoderReport, DecoderVerdict, decoded
 from vidlakost_tools.faults import Step
 from vidlakost_tools.finding import CLASSES, SHOWN, Trier, word_start
 from vidlakost_tools.march import Element, length_of, march_of
-from vidlakost_tools.memory import read_memory
+from vidlakost_tools.memory import Memory, read_memory
 from vidlakost_tools.program import FORMATS, ROOT, ask, is_proved, run, settle, version, with_text
 from vidlakost_tools.report import Report, Verdict, judged, read_report
 from vidlakost_tools.text import lines_of, read_text
@@ -35,6 +35,8 @@ DYNAMIC = ["DYN1", "DYN2"]
 WORDS = {"DYN1": "dyn1", "DYN2": "dyn2"}
 EVERY = "all\nDRF\ndyn1\ndyn2\n"
 MARCHES = ROOT / "examples" / "marches"
+# a primitive as a report prints it
+PRIMITIVE = re.compile("<[01wrt;]{1,24}/[01]/[-01]>")
 FIRST_MARCH = "{any(w0);up(r0,w1);down(r1,w0)}"
 FIRST_MEMORY = "memory 2\nname buffer\nwords 16\nbits 8\nlatency 1\nbackgrounds log\n"
 
@@ -206,7 +208,23 @@ def judge(folder: Folder, question: Object) -> Object:
     """The verdicts of a list on a march."""
     march = folder.put("march", text_in(question, "march"))
     faults = folder.put("list", text_in(question, "list"))
-    return {"report": shown_report(judged(march, faults), decoded(march))}
+    made = {"report": shown_report(judged(march, faults), decoded(march))}
+    return {**made, "inWord": covered_inside(inside_report(folder, march, faults, question))}
+
+
+def inside_report(folder: Folder, march: pathlib.Path, faults: pathlib.Path, question: Object) -> in_word.InWordReport | None:
+    """What `inword` reports; nothing where a question has no memory, or one that is refused."""
+    if "memory" not in question:
+        return None
+    try:
+        return in_word.judged_in_word(march, folder.put("memory", text_in(question, "memory")), faults)
+    except Refused:
+        return None
+
+
+def covered_inside(report: in_word.InWordReport | None) -> Object | None:
+    """Of each coupling whether it is covered inside a word."""
+    return None if report is None else {verdict.primitive: verdict.covered for verdict in report.verdicts}
 
 
 def complete(question: Object) -> Object:
@@ -287,11 +305,34 @@ def trace(folder: Folder, question: Object) -> Object:
     primitive = text_in(question, "primitive")
     if primitive in decoder.NAMES:
         return traced_decoder(march, primitive)
-    if not re.fullmatch(r"<[01wrt;]{1,24}/[01]/[-01]>", primitive):
+    if not PRIMITIVE.fullmatch(primitive):
         raise Wrong("primitive is none of a report's")
     report = judged(march, folder.put("list", primitive + "\n"))
     found = {"report": shown_report(report)}
     return {**found, **replayed(report.escapes[0], report.elements, march)} if report.escapes else found
+
+
+@refusable
+def inside(folder: Folder, question: Object) -> Object:
+    """The verdict on a coupling inside a word of a memory, and of an escape why it is one, and its steps as lines."""
+    march = folder.put("march", text_in(question, "march"))
+    memory_path = folder.put("memory", text_in(question, "memory"))
+    primitive = text_in(question, "primitive")
+    if not PRIMITIVE.fullmatch(primitive):
+        raise Wrong("primitive is none of a report's")
+    report = in_word.judged_in_word(march, memory_path, folder.put("list", primitive + "\n"))
+    if not report.verdicts:
+        raise Wrong("the primitive is no coupling")
+    return told_inside(report.verdicts[0], report, read_memory(memory_path))
+
+
+def told_inside(verdict: in_word.WordVerdict, report: in_word.InWordReport, held: Memory) -> Object:
+    """A verdict inside a word, and of an escape why it is one, and its steps as lines."""
+    found: Object = {"memory": report.memory, "verdict": verdict.as_object()}
+    if verdict.covered:
+        return {**found, "steps": []}
+    why, steps = in_word.reason(verdict, report.elements, held)
+    return {**found, "why": why, "steps": [in_word.shown(step, held) for step in steps]}
 
 
 # ---- a memory

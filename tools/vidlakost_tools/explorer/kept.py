@@ -12,6 +12,8 @@ from vidlakost_tools.decoder import DecoderReport, decoded
 from vidlakost_tools.explorer import answers
 from vidlakost_tools.explorer.answers import Object
 from vidlakost_tools.explorer.server import Page
+from vidlakost_tools.in_word import InWordReport
+from vidlakost_tools.memory import parse_memory
 from vidlakost_tools.report import Report, judged
 from vidlakost_tools.text import read_text
 from vidlakost_tools.tool import Refused
@@ -64,6 +66,17 @@ def traces(report: Report, of_decoder: DecoderReport, march: pathlib.Path, left:
     return found, left
 
 
+def insides(report: InWordReport | None, memory: str, left: int) -> tuple[Object, int]:
+    """The verdicts inside a word by their primitives, and how many steps may still be kept."""
+    found: Object = {}
+    for verdict in report.verdicts if report else []:
+        if report and verdict.primitive not in found:
+            told = answers.told_inside(verdict, report, parse_memory(memory))
+            left -= len(told["steps"])
+            found[verdict.primitive] = told if left >= 0 else {**told, "steps": []}
+    return found, left
+
+
 def texts_in(question: Object, name: str) -> list[str]:
     """The texts of the marches of a question."""
     found = question.get(name)
@@ -92,19 +105,25 @@ class Keeper:
             "marches": marches,
             "judged": [],
             "traced": [],
+            "inside": [],
             "place": place,
         }
         left = MOST_STEPS
         for march in marches:
             with answers.Folder() as folder:
-                path = folder.put("march", march)
+                path, listed = folder.put("march", march), folder.put("list", faults)
                 try:
-                    report, of_decoder = judged(path, folder.put("list", faults)), decoded(path)
+                    report, of_decoder = judged(path, listed), decoded(path)
                 except Refused as error:
                     return {"refused": folder.refusal(error)}
+                inside = answers.inside_report(folder, path, listed, question)
                 found, left = traces(report, of_decoder, path, left)
-            kept["judged"].append({"report": answers.shown_report(report, of_decoder)})
+                within, left = insides(inside, memory, left)
+            kept["judged"].append(
+                {"report": answers.shown_report(report, of_decoder), "inWord": answers.covered_inside(inside)}
+            )
             kept["traced"].append(found)
+            kept["inside"].append(within)
         kept["memory"] = answers.memory({"march": marches[place], "memory": memory})
         kept["files"] = answers.files({"march": marches[place], "memory": memory, "list": faults})
         return {"page": whole(kept)}

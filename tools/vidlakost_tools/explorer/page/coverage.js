@@ -17,14 +17,22 @@ function statesOf(card) {
   return { classes, gained, lost };
 }
 
+/** Whether a coupling is covered inside a word of the memory; undefined of any other primitive. */
+function insideOf(card, verdict) {
+  return card.inside === null ? undefined : card.inside[verdict.primitive];
+}
+
 /** A square, as a button that chooses it. */
 function squareOf(card, state, choose, isChosen) {
   const { verdict, mark } = state;
-  const told = `${verdict.primitive} ${verdict.covered ? "covered" : "escapes"}`;
+  const inside = insideOf(card, verdict);
+  const within = inside === undefined ? "" : `, inside a word ${inside ? "covered" : "escapes"}`;
+  const told = `${verdict.primitive} ${verdict.covered ? "covered" : "escapes"}${within}`;
+  const dot = inside === undefined ? "" : inside ? "in-covered" : "in-escape";
   const changed = mark === "" ? "" : mark === "gained" ? ", newly covered" : ", no longer covered";
   return make("button", {
     type: "button",
-    class: ["square", verdict.covered ? "covered" : "", mark].filter(Boolean).join(" "),
+    class: ["square", verdict.covered ? "covered" : "", mark, dot].filter(Boolean).join(" "),
     title: told + changed,
     "aria-label": `${card.letter}: ${told}${changed}`,
     "aria-current": isChosen(card, verdict) ? "true" : undefined,
@@ -39,11 +47,14 @@ function squareOf(card, state, choose, isChosen) {
 function rowOf(card, states, isAlone, choose, isChosen) {
   const squares = states.map((state) => squareOf(card, state, choose, isChosen));
   const count = `${states.filter((state) => state.verdict.covered).length}/${states.length}`;
-  const label = `march ${card.letter}, ${count}`;
+  const judged = states.filter((state) => insideOf(card, state.verdict) !== undefined);
+  const within = `${judged.filter((state) => insideOf(card, state.verdict)).length}/${judged.length} in a word`;
+  const label = `march ${card.letter}, ${count}${judged.length === 0 ? "" : `, ${within}`}`;
   return make("div", { class: card.isStale ? "row stale" : "row", role: "group", "aria-label": label },
     ...(isAlone ? [] : [make("span", { class: "letter" }, card.letter)]),
     make("div", { class: "squares" }, ...squares),
-    make("span", { class: "count" }, count));
+    make("span", { class: "count" }, count),
+    ...(judged.length === 0 ? [] : [make("span", { class: "count inside" }, within)]));
 }
 
 /** All squares of the marches that have a verdict. */

@@ -65,6 +65,7 @@ function keptAnswer(name, question) {
   if (name === "files") return kept.files;
   const place = kept.marches.indexOf(question.march);
   if (name === "judge") return kept.judged[place];
+  if (name === "inside") return kept.inside[place][question.primitive];
   if (name === "trace") {
     const found = kept.traced[place][question.primitive];
     return { report: kept.judged[place].report, steps: [], ...found };

@@ -52,7 +52,7 @@ function showMode() {
 /** A march with its field; it has no verdict yet. */
 function addCard(text) {
   const letter = LETTERS.find((it) => !state.cards.some((card) => card.letter === it));
-  const card = { letter, report: null, before: null, key: "", isStale: false };
+  const card = { letter, report: null, before: null, inside: null, memory: null, key: "", isStale: false };
   card.field = make("textarea", { id: `march-${letter}`, rows: "3", spellcheck: "false", autocomplete: "off",
     autocapitalize: "off", "aria-label": `march ${letter}`, "aria-describedby": `said-${letter}` });
   card.field.value = text;
@@ -135,13 +135,19 @@ function judgeAll() {
 /** Asks for the verdicts of a march, and shows them or its refusal. */
 async function judgeCard(card, signal) {
   const list = listText();
-  const told = await ask("judge", { march: card.field.value, list }, signal);
+  const memory = byId("memory-text").value;
+  const told = await ask("judge", { march: card.field.value, list, memory }, signal);
   const refused = told.refused || null;
   const ofList = refused !== null && refused.what === "list";
   showRefusal(card.said, card.field, ofList ? null : refused);
   if (ofList || refused === null) showRefusal(byId("list-said"), byId("list"), refused);
   card.isStale = refused !== null;
-  if (refused === null) take(card, told.report, list);
+  if (refused === null) {
+    const isOther = card.memory !== memory;
+    [card.inside, card.memory] = [told.inWord, memory];
+    take(card, told.report, list);
+    if (isOther && state.chosen !== null && state.chosen.card === card) askWhy();
+  }
   showCardFigures(card);
   show();
 }
@@ -206,6 +212,11 @@ const askWhy = settled(0, async (signal) => {
     const told = await ask("trace", { march: card.report.march, primitive }, signal);
     showEscape(into, title, means, card, told.report.verdicts.find((it) => it.primitive === primitive), told);
   }
+  if (insideOf(card, verdict) !== undefined) {
+    const question = { march: card.report.march, memory: byId("memory-text").value, primitive };
+    const inside = await ask("inside", question, signal);
+    if (inside.refused === undefined) showInside(into, inside);
+  }
   if (state.leads) (byId("player") || into.querySelector("h3")).focus({ preventScroll: innerWidth > 1000 });
   state.leads = false;
 });
@@ -262,10 +273,16 @@ async function savePage() {
   }
 }
 
+/** What depends on the memory: its test, and what the marches cover inside a word of it. */
+function memoryChanged() {
+  askMemory();
+  judgeAll();
+}
+
 function listenToMemory() {
-  buildMemoryForm(askMemory);
+  buildMemoryForm(memoryChanged);
   byId("memory-text").value = state.begin.memory;
-  byId("memory-text").addEventListener("input", () => askMemory());
+  byId("memory-text").addEventListener("input", memoryChanged);
   completion(byId("memory-text"), byId("memory-words-offered"), "memory");
   byId("memory-march").addEventListener("change", () => askMemory());
   byId("clock").addEventListener("input", () => state.memoryTold && showFigures(state.memoryTold));

@@ -133,6 +133,26 @@ function playerOf(told, verdict) {
   return player;
 }
 
+/** What is shown of a coupling inside a word of the memory. */
+function showInside(into, told) {
+  const { memory, verdict, why, steps } = told;
+  const { covered, escape } = verdict;
+  const said = covered ? "covered" : `escapes: ${why}`;
+  into.append(make("h4", {}, `Inside a word of ${memory.name}`),
+    make("p", { class: `verdict ${covered ? "is-covered" : "is-escape"}` }, `${said[0].toUpperCase()}${said.slice(1)}.`));
+  if (covered) {
+    into.append(make("p", { class: "small" }, "At every two bits of every word, from every content, some read of the test differs."));
+    return;
+  }
+  const [aggressor, victim] = escape.content;
+  into.append(make("p", { class: "small" }, `The least two bits with which the test passes: the aggressor's is bit ${escape.aggressor} `
+    + `and holds ${aggressor} at first, the victim's is bit ${escape.victim} and holds ${victim}.`));
+  if (steps.length > 0) {
+    into.append(make("details", {}, make("summary", {}, "All steps, the aggressor's bit first"),
+      make("pre", { tabindex: "0" }, steps.join("\n"))));
+  }
+}
+
 /** What is shown of an escape. */
 function showEscape(into, title, means, card, verdict, told) {
   const { escape } = verdict;
