@@ -37,6 +37,11 @@ def decoder(folder: pathlib.Path) -> list[Figure]:
     return counted("bench/decoder")
 
 
+def linked(folder: pathlib.Path) -> list[Figure]:
+    """Verdicts on linked faults beside a plain model of arrays of three and four cells."""
+    return counted("bench/linked")
+
+
 def memories(folder: pathlib.Path) -> list[Figure]:
     """Refusals of random descriptions, and commands, beside a plain model."""
     return counted("bench/memories")

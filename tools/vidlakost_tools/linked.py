@@ -207,11 +207,18 @@ def linked(march: Path) -> LinkedReport:
 # ---- why an escape escapes
 
 
+def good_bit(verdict: LinkVerdict, steps: list[LinkedStep]) -> str:
+    """What a good victim holds behind these steps."""
+    written = [step.operation[1] for step in steps if step.cell == verdict.v and step.operation[0] == "w"]
+    return written[-1] if written else verdict.content[verdict.v]
+
+
 def fate(verdict: LinkVerdict, steps: list[LinkedStep], place: int) -> str:
     """What hides the wrong bit that the first primitive leaves in a step."""
-    for step in steps[place + 1 :]:
+    for count, step in enumerate(steps[place + 1 :], place + 2):
         if step.acting == 2:
-            return f"{verdict.second} hides it in element {step.element}"
+            is_hidden = step.cells[verdict.v] == good_bit(verdict, steps[:count])
+            return f"{verdict.second} {'hides it' if is_hidden else 'acts on it'} in element {step.element}"
         if step.cell == verdict.v and step.operation[0] == "w":
             return f"{step.operation} in element {step.element} writes over it before a read"
         if step.cell == verdict.v:

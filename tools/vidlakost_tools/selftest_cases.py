@@ -53,6 +53,21 @@ IN_WORD = (
     "march {any(w0);up(r0,w1);any(r1)}\nmemory t words 4 bits 2 backgrounds 2 commands 32\n"
     "escape <0w1;0/1/-> CFds aggressor 0 victim 1 content 00\napart 1\ntotal 1 covered 0 escapes 1\n"
 )
+# of each kind one line again and again, since a reader asks for as many as there are; a cell that holds 1 is never disturbed
+LINKED = "".join(
+    [
+        "march {any(w0);any(r0)}\n",
+        "covered LF1 <0w1/0/-> <0w0/1/->\n" * 11,
+        "escape LF1 <0w0/1/-> <1w1/0/-> a none b none v 0 content 100 directions uu\n",
+        "covered LF2aa <0w1;0/1/-> <0w1;1/0/->\n" * 240,
+        "covered LF2av <0w1;0/1/-> <1w1/0/->\n" * 48,
+        "covered LF2va <0w0/1/-> <0w1;1/0/->\n" * 60,
+        "covered LF3 <0w1;0/1/-> <0w1;1/0/->\n" * 240,
+        "kind LF1 total 12 covered 11 escapes 1\nkind LF2aa total 240 covered 240 escapes 0\n",
+        "kind LF2av total 48 covered 48 escapes 0\nkind LF2va total 60 covered 60 escapes 0\n",
+        "kind LF3 total 240 covered 240 escapes 0\ntotal 600 covered 599 escapes 1\n",
+    ]
+)
 PINS = "macro ram\nclk ck\nen ~ce\nwe ~wen\naddr a\nwdata d\nrdata q\nregisters out 1\n"
 
 # a lone byte that is no text is one of \udc80 to \udcff
@@ -127,6 +142,10 @@ FILES: Dict[str, str] = {
     "inside.report": IN_WORD,
     "outside.report": IN_WORD.replace("victim 1", "victim 2"),
     "shown.report": IN_WORD.replace("<0w1;0/1/-> CFds", "<0;0/1/-> CFst"),
+    "linked.report": LINKED,
+    "linkcount.report": LINKED.replace("total 600 covered 599", "total 600 covered 600"),
+    "linkcell.report": LINKED.replace("v 0 content", "v 3 content"),
+    "linkhit.report": LINKED.replace("content 100 directions uu", "content 000 directions uu"),
     "ram.pins": PINS,
     "bad.pins": PINS + "foo x\n",
     "few.pins": "macro ram\nclk ck\n",
@@ -267,6 +286,10 @@ REFUSALS: List[Tuple[List[str], int, str, str]] = [
     (["decoder", "missing.m", "out"], 10, "absent 1", "missing.m: error: there is no such file"),
     (["decoder", "c.m"], 2, "usage", "vidlakost: error: decoder takes 2 words, and there are 1: REPORT is missing"),
     (["decoder", "c.m", "./c.m"], 2, "", "vidlakost: "),
+    (["linked", "c.m", "out"], 1, "total 600 covered 466 escapes 134", ""),
+    (["linked", "stray.m", "out"], 3, "march M1 byte 12", "stray.m:1:11: error: 'upp' can't stand here; did you mean 'up'?"),
+    (["linked", "c.m"], 2, "usage", "vidlakost: error: linked takes 2 words, and there are 1: REPORT is missing"),
+    (["linked", "c.m", "./c.m"], 2, "", "vidlakost: "),
     (["judge", "c.m", "tf.list"], 2, "usage", "vidlakost: error: judge takes 3 words, and there are 2: REPORT is missing"),
     (["judge", "c.m", "c.m", "out"], 2, "usage", "vidlakost: error: MARCH and FAULTS are both 'c.m'"),
     (["make", "65535", "a", "b", "c", "d", "e"], 2, "usage", "vidlakost: error: NUMBER is 0 to 65,534, and not 65535"),
@@ -341,6 +364,8 @@ CALLS: List[Tuple[str, List[str], int, str, str]] = [
     ("", ["tools/explain", "DYN1"], 0, "dyn1", ""),
     ("", ["tools/explain", "AF"], 0, "other\n    address x reaches the cell of y in place of its own", ""),
     ("", ["tools/explain", "both and"], 0, "AF3 with AF4", ""),
+    ("", ["tools/explain", "LF2av"], 0, "the first primitive alone has an aggressor", ""),
+    ("", ["tools/explain", "LF"], 0, "LF3\n", ""),
     ("", ["tools/explain", "escape"], 0, "escape PRIM CLASS", ""),
     ("", ["tools/explain", "caught"], 0, "caught element E", ""),
     ("", ["tools/explain", "13"], 0, "misfit", ""),
@@ -378,6 +403,12 @@ CALLS: List[Tuple[str, List[str], int, str, str]] = [
     ("", ["tools/trace", "place.report"], 2, "", "trace: place.report:5: the array of the escape does not fit the march"),
     ("", ["tools/trace", "order.report"], 2, "", "trace: order.report:4: the line is no verdict on other"),
     ("", ["tools/trace", "sum5.report"], 2, "", "trace: sum5.report:7: the total is not that of the lines"),
+    ("", ["tools/trace", "linked.report"], 0, "LF1 <0w0/1/-> <1w1/0/->: neither primitive acts\n", ""),
+    ("", ["tools/trace", "linked.report", "LF1 <0w0/1/-> <1w1/0/->", "--steps"], 0, "  element 0   w0   cell 1  000\n", ""),
+    ("", ["tools/trace", "linked.report", "LF1"], 2, "", "trace: linked.report has no escape of LF1"),
+    ("", ["tools/trace", "linkhit.report"], 1, "is caught in element 1, and is no escape", ""),
+    ("", ["tools/trace", "linkcount.report"], 2, "", "trace: linkcount.report:607: the count is not that of the lines"),
+    ("", ["tools/trace", "linkcell.report"], 2, "", "trace: linkcell.report:13: the line is no verdict on a link"),
     ("", ["tools/trace", "inside.report"], 2, "", "trace: this report is of `inword`: --memory MEMORY has its backgrounds"),
     (
         "",
