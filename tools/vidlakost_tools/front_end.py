@@ -36,7 +36,7 @@ TRIES = (WORDS, f"{WORDS}{RARE}{OPEN_X}{SIMPLER}", *ALL_GATES)
 @dataclasses.dataclass
 class Plain:
     """A module of the subset: its ports, and what drives each name; of a name the signal of the sources with its place;
-    the pin that is its clock."""
+    the pin that is its clock; the files that were opened to read it."""
 
     name: str
     ports: list[tuple[str, str, int]]
@@ -47,6 +47,7 @@ class Plain:
     places: dict[str, str]
     clock: str | None
     warnings: list[str] = dataclasses.field(default_factory=list)
+    opened: list[str] = dataclasses.field(default_factory=list)
 
     def text(self) -> str:
         """The module, in the subset that `check` and `benchfile` read."""
@@ -88,6 +89,7 @@ def plain_of(files: list[str], options: dict[str, Any], pins: Pins | None = None
         else:
             raise ToolError(told, 1)
         plain.warnings = [*sources.warnings, *clock.warnings]
+        plain.opened = sources.opened
         return plain
 
 

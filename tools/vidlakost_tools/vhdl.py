@@ -5,10 +5,16 @@ import pathlib
 import re
 import shutil
 import subprocess
+import tempfile
 from typing import Any
 
+from vidlakost_tools import confined
 from vidlakost_tools.text import lines_of, read_described
 from vidlakost_tools.tool import ToolError, identifier
+from vidlakost_tools.vhdl_source import refuse_reaching
+
+# how long GHDL may take
+SECONDS = 600
 
 
 def is_vhdl(file: str) -> bool:
@@ -23,6 +29,8 @@ def verilog_of(files: list[str], options: dict[str, Any], folder: pathlib.Path) 
     if shutil.which("ghdl") is None:
         raise ToolError(f"{vhdl[0]} is VHDL, and ghdl, which makes Verilog of it, is not on the PATH")
     texts = [read_described(file) for file in vhdl]
+    for file, text in zip(vhdl, texts):
+        refuse_reaching(file, text)
     entities = [name for text in texts for name in re.findall(r"^\s*entity\s+(\w+)\s+is", text, re.MULTILINE | re.IGNORECASE)]
     if not entities:
         raise ToolError(f"{vhdl[-1]} has no entity")
@@ -42,11 +50,14 @@ def verilog_of(files: list[str], options: dict[str, Any], folder: pathlib.Path) 
 
 
 def synthesized(form: str, names: list[str], top: str, folder: pathlib.Path) -> str:
-    """What GHDL makes of an entity, as a text of one of its forms."""
-    words = ["ghdl", "--synth", "--std=08", f"--workdir={folder}", f"--out={form}", *names, "-e", top]
-    done = subprocess.run(
-        words, stdin=subprocess.DEVNULL, stdout=subprocess.PIPE, stderr=subprocess.PIPE, cwd=folder, check=False
-    )
+    """What GHDL makes of an entity, as a text of one of its forms. It may change nothing but what it leaves in a folder of its
+    own, since it opens the files that sources name."""
+    with tempfile.TemporaryDirectory(dir=folder) as own:
+        words = ["ghdl", "--synth", "--std=08", f"--workdir={own}", f"--out={form}", *names, "-e", top]
+        try:
+            done = confined.run(words, pathlib.Path(own), SECONDS)
+        except subprocess.TimeoutExpired as error:
+            raise ToolError(f"ghdl took longer than {SECONDS} seconds, and was ended", 1) from error
     if done.returncode:
         said = lines_of(done.stderr.decode("utf-8", "replace"))
         raise ToolError("\n".join([f"ghdl refuses it: {said[0] if said else 'no reason is given'}", *said[1:8]]), 1)

@@ -3,6 +3,7 @@ from __future__ import annotations
 
 import dataclasses
 import json
+import os
 import pathlib
 import re
 import shutil
@@ -12,6 +13,10 @@ from typing import Any, Mapping
 from vidlakost_tools.text import Path, lines_of, shown
 from vidlakost_tools.tool import ToolError, identifier
 from vidlakost_tools.vhdl import is_vhdl
+
+
+# where Yosys lists what it opened
+OPENED = "opened"
 
 
 def want() -> None:
@@ -292,12 +297,13 @@ endmodule
 @dataclasses.dataclass
 class Sources:
     """What is read: the script that reads it without initial values and opens what nothing drives, the top's name and its
-    parts before anything is made simpler, and what there is to warn of."""
+    parts before anything is made simpler, what there is to warn of, and the files that Yosys opened."""
 
     script: str
     top: str
     module: dict[str, Any]
     warnings: list[str]
+    opened: list[str]
 
 
 # a text or a comment, in which a word means nothing to the preprocessor: as it is read without escaped names, and as Yosys
@@ -361,10 +367,27 @@ def with_included(files: list[str]) -> list[tuple[str, str]]:
     return list(found.items())
 
 
+QUOTED = re.compile(r'"([^"\n]+)"')
+
+
 def included(files: list[str]) -> list[str]:
-    """The sources, and what those in Verilog include."""
-    verilog = [file for file in files if not is_vhdl(file)]
-    return list(dict.fromkeys([*files, *(file for file, _ in with_included(verilog))]))
+    """The sources, what those in Verilog include, and each file that a text in quotes names in one of them, as what a memory
+    holds at first."""
+    texts = with_included([file for file in files if not is_vhdl(file)])
+    texts += [(file, plain_text(file)) for file in files if is_vhdl(file)]
+    found = dict.fromkeys([*files, *(file for file, _ in texts)])
+    for file, text in texts:
+        names = dict.fromkeys(match[1] for match in QUOTED.finditer(text))
+        places = [place for name in names for place in (pathlib.Path(name), pathlib.Path(file).parent / name)]
+        found.update(dict.fromkeys(str(place) for place in places if os.path.lexists(place)))
+    return list(found)
+
+
+def opened(folder: pathlib.Path) -> list[str]:
+    """The files that Yosys opened, as it lists them behind those that it wrote: sources, what they include, and what they read
+    into memories by names of any kind."""
+    listed = (folder / OPENED).read_bytes().decode("utf-8", "surrogateescape").rstrip("\n")
+    return [re.sub(r"\\ ", " ", name) for name in re.split(r"(?<!\\) ", listed.partition(": ")[2]) if name]
 
 
 def refuse_found(pattern: re.Pattern[str], sources: list[tuple[str, str]], why: str) -> None:
@@ -426,7 +449,7 @@ def read(files: list[str], options: Mapping[str, Any], folder: pathlib.Path) -> 
     # of its cells would take the place of each such cell
     reading = f"read_verilog -sv -icells -nodpi {sources_of(files)}\nwrite_rtlil {quoted(given)}\n{libraries_of(options)}"
     reading += f"select -assert-none $*\nhierarchy -check {top_of(options)}\n"
-    said = run(f"{reading}write_rtlil {quoted(raw)}\n", folder, "-q")
+    said = run(f"{reading}write_rtlil {quoted(raw)}\n", folder, "-q", "-E", str(folder / OPENED))
     refuse_rounded(said)
     text, had = without_initial(raw.read_bytes().decode("utf-8", "surrogateescape"))
     plain.write_bytes(text.encode("utf-8", "surrogateescape"))
@@ -447,7 +470,7 @@ def read(files: list[str], options: Mapping[str, Any], folder: pathlib.Path) -> 
     far.write_text(FAR)
     script = f"{begin}{dropped}setattr -unset init w:*\n{OPEN}techmap -map {quoted(beyond)} t:$shiftx t:$shift\n"
     script += f"techmap -map {quoted(far)} t:$shl t:$shr t:$sshl t:$sshr\ncheck -assert\n"
-    return Sources(script, name, module, warnings)
+    return Sources(script, name, module, warnings, opened(folder))
 
 
 def refuse_rounded(said: list[str]) -> None:

@@ -1,0 +1,62 @@
+"""What holds a program that may do harm, by itself: `PYTHONPATH=tools python3 -m unittest discover tests`."""
+from __future__ import annotations
+
+import pathlib
+import tempfile
+import unittest
+from unittest import mock
+
+from vidlakost_tools import confined
+from vidlakost_tools.vhdl_source import reaching
+
+HARM = "echo in >inside; (echo out >../outside); (: >../kept); rm -f ../gone; mkdir ../made; : >/dev/null; exit 0"
+
+
+def may_mount() -> bool:
+    """Whether this system gives the caller mounts of its own."""
+    with tempfile.TemporaryDirectory() as name:
+        folder = pathlib.Path(name) / "own"
+        folder.mkdir()
+        with mock.patch.object(confined, "ruleset_of", return_value=None):
+            confined.run(["sh", "-c", "echo >../outside"], folder, 20)
+        return not (folder.parent / "outside").exists()
+
+
+class Confined(unittest.TestCase):
+    def harmed(self) -> list[str]:
+        """What stands beside the folder of a program that tries to change it, and what one file holds."""
+        with tempfile.TemporaryDirectory() as name:
+            folder = pathlib.Path(name) / "own"
+            folder.mkdir()
+            for kept in ("kept", "gone"):
+                (folder.parent / kept).write_text(kept)
+            confined.run(["sh", "-c", HARM], folder, 20)
+            left = sorted(path.name for path in folder.parent.iterdir())
+            return [*left, (folder.parent / "kept").read_text(), *(path.name for path in folder.iterdir())]
+
+    def test_only_the_folder_is_changed(self) -> None:
+        with tempfile.TemporaryDirectory() as name:
+            if confined.ruleset_of(pathlib.Path(name)) is None and not may_mount():
+                self.skipTest("this system holds no program")
+        self.assertEqual(self.harmed(), ["gone", "kept", "own", "kept", "inside"])
+
+    def test_by_mounts(self) -> None:
+        if not may_mount():
+            self.skipTest("this system gives no mounts")
+        with mock.patch.object(confined, "ruleset_of", return_value=None):
+            self.assertEqual(self.harmed(), ["gone", "kept", "own", "kept", "inside"])
+
+
+class Sources(unittest.TestCase):
+    def test_words_behind_what_ends_a_line(self) -> None:
+        for end in "\n\r\v\f":
+            found = reaching(f"-- x{end}file")
+            self.assertEqual(found and found[:2], (5, "file"))
+
+    def test_what_may_be_read_twice_is_looked_at(self) -> None:
+        for text in ("'\"' file \"", "'\\' file \\", "'\"'; -- file", "\"open file", "'\"' /* \"", "\\a\"\\ file \\\"\\"):
+            self.assertIsNotNone(reaching(text), text)
+
+    def test_comments_and_texts_say_nothing(self) -> None:
+        for text in ("-- file", "/* file\n*/", '"file"', '"a""file"', "\\file\\", '"--" -- file', '"/*" -- file */', "profile"):
+            self.assertIsNone(reaching(text), text)

@@ -1,0 +1,94 @@
+"""What is handed in is neither written over nor run: the cases of `vidlakost selftest` for it."""
+from __future__ import annotations
+
+import os
+import shutil
+
+from vidlakost_tools.selftest_bench import Bench
+
+# ---- files that sources name
+
+KEPT = "1\n0\n1\n0\n"
+ENTITY = (
+    "library ieee;\nuse ieee.std_logic_1164.all;\nentity t is port (clk : in std_logic; q : out std_logic); end;\n"
+    "architecture a of t is\n{}\nbegin\n  q <= clk;\nend;\n"
+)
+OPENED = 'file f : text open {}_mode is "kept.hex";'
+IN_FUNCTION = (
+    "function f(x : integer) return integer is\n{}begin\n{}return x;\nend;\nconstant c : integer := f(3);"
+)
+# what a source in VHDL declares, the line on which it is refused, and the word
+REACHING = [
+    ("use std.textio.all;", 5, "textio"),
+    ("use ieee.std_logic_textio.all;", 5, "std_logic_textio"),
+    (OPENED.format("write"), 5, "file"),
+    (OPENED.format("append"), 5, "file"),
+    (OPENED.format("read"), 5, "file"),
+    (f"-- the file\n{OPENED.format('write').upper()}", 6, "FILE"),
+    (f"/* -- */ {OPENED.format('write')}", 5, "file"),
+    (f"-- what only a line feed would end\r{OPENED.format('write')}", 6, "file"),
+    (f"constant c : character := '\"'; -- \"\n{OPENED.format('write')} -- \"", 6, "file"),
+    (f"constant c : character := '\"'; {OPENED.format('write')} -- \"", 5, "file"),
+    (IN_FUNCTION.format(OPENED.format("write"), ""), 6, "file"),
+    (IN_FUNCTION.format("", 'file_open(f, "kept.hex", write_mode);\n'), 7, "file_open"),
+    ("type numbers is file of integer;", 5, "file"),
+    ("attribute foreign : string;", 5, "foreign"),
+]
+# what only looks like it
+LOOKS = '-- this file, by textio\nconstant c : string := "file";\n/* file_open\nforeign */\nsignal \\file\\, profile : std_logic;'
+READS = "module t(input clk, input [1:0] a, output reg [1:0] q);\n  reg [1:0] m [0:3];\n{}  always @(posedge clk) q <= m[a];\nendmodule\n"
+# how a source names what its memory holds at first
+CONTENTS = [
+    '  initial $readmemh("kept.hex", m);\n',
+    '  initial $readmemb("kept.hex", m);\n',
+    '  parameter NAME = {"kept", ".hex"};\n  initial $readmemh(NAME, m);\n',
+    "  localparam [63:0] NAME = 64'h6b6570742e686578;\n  initial $readmemh(NAME, m);\n",
+]
+OUTPUTS = ("kept.hex", "./kept.hex", "kept.link", "kept.hard")
+
+
+def is_kept(bench: Bench, what: str) -> None:
+    bench.is_so((bench.folder / "kept.hex").read_text() == KEPT, f"{what}: the file that it names was lost")
+
+
+def named_by_vhdl(bench: Bench) -> None:
+    """A source in VHDL that opens files is refused with its place, and what it names stays."""
+    for declared, line, word in REACHING:
+        (bench.folder / "reaching.vhd").write_bytes(ENTITY.format(declared).encode())
+        told = f"'reaching.vhd':{line}: '{word}': "
+        for words in (["tools/plain", "made.v", "reaching.vhd"], ["tools/audit", "reaching.vhd", "c.m", "s.mem"]):
+            done = bench.run(words)
+            bench.is_so(done.returncode == 1 and told in done.stderr, f"{declared!r}: {words[0]} says {done.stderr!r}")
+        is_kept(bench, declared)
+    (bench.folder / "looks.vhd").write_text(ENTITY.format(LOOKS))
+    bench.look(["tools/plain", "made.v", "looks.vhd"], 0, "", "plain: made.v is what Yosys makes")
+
+
+def named_by_verilog(bench: Bench) -> None:
+    """An output that a source reads by a name of any kind is refused, and stays."""
+    for content in CONTENTS:
+        (bench.folder / "reads.v").write_text(READS.format(content))
+        for out in OUTPUTS:
+            bench.look(["tools/plain", out, "reads.v"], 2, "", f"plain: '{out}' is what is read")
+            is_kept(bench, content)
+        (bench.folder / "made.v").unlink(missing_ok=True)
+        bench.look(["tools/plain", "made.v", "reads.v"], 0, "", "plain: made.v is what Yosys makes")
+        bench.look(["tools/audit", "reads.v", "c.m", "s.mem", "--vcd", "kept.hex"], 2, "", "audit: 'kept.hex' is what is read")
+        is_kept(bench, content)
+
+
+def named_files(bench: Bench) -> None:
+    if not shutil.which("yosys"):
+        print("yosys is not installed, so no source names a file")
+        return
+    (bench.folder / "kept.hex").write_text(KEPT)
+    (bench.folder / "kept.link").symlink_to("kept.hex")
+    os.link(bench.folder / "kept.hex", bench.folder / "kept.hard")
+    named_by_verilog(bench)
+    if shutil.which("ghdl"):
+        named_by_vhdl(bench)
+    else:
+        print("ghdl is not installed, so no source in VHDL names a file")
+
+
+PARTS = (named_files,)
