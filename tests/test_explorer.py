@@ -11,7 +11,7 @@ from vidlakost_tools.explorer import answers, kept, server
 from vidlakost_tools.faults import Array, read_primitive
 from vidlakost_tools.march import elements_of
 from vidlakost_tools.memory import parse_memory
-from vidlakost_tools.program import is_proved
+from vidlakost_tools.program import is_proved, sum_of_sources
 
 
 class Words(unittest.TestCase):
@@ -81,7 +81,11 @@ class Proved(unittest.TestCase):
             program, kit = pathlib.Path(name) / "program", pathlib.Path(name) / "kit"
             program.write_bytes(b"abc")
             self.assertFalse(is_proved(str(program), True))
-            kit.write_text("ba7816bf8f01cfea414140de5dae2223b00361a396177a9cb410ff61f20015ad\na kit\n")
+            of_program = "ba7816bf8f01cfea414140de5dae2223b00361a396177a9cb410ff61f20015ad\na kit\n"
+            for told in ("", "sources 0\n", f"sources {sum_of_sources()}\nmore\n"):
+                kit.write_text(of_program + told)
+                self.assertFalse(is_proved(str(program), True))
+            kit.write_text(f"{of_program}sources {sum_of_sources()}\n")
             self.assertTrue(is_proved(str(program), True))
             program.write_bytes(b"abd")
             self.assertFalse(is_proved(str(program), True))

@@ -1,1 +1,16 @@
 """What the tools of Vidlakost share: a module for each text, the calls of the program, and what stands beside them."""
+import errno
+import os
+import sys
+
+
+def tell_memory(kind, error, trace):  # type: ignore[no-untyped-def]
+    """Tells in a line that there was no memory, also where a tool has not begun; all else is told as always."""
+    is_none = isinstance(error, MemoryError) or getattr(error, "errno", None) == errno.ENOMEM
+    if is_none or isinstance(error, ImportError) and "allocate memory" in str(error):
+        os.write(2, b"vidlakost: there was no memory\n")
+        os._exit(9)
+    sys.__excepthook__(kind, error, trace)
+
+
+sys.excepthook = tell_memory

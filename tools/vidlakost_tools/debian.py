@@ -28,15 +28,15 @@ Priority: optional
 Description: memory BIST compiler with a march coverage prover
  Compiles a march and the description of a memory to a self-test module in
  Verilog, and tells which fault primitives of a list the march covers, with
- an escape for each that it does not. The program is proved; the tools round
- it are not. It wants {processor}.
+ an escape for each that it does not. {proof}
+ It wants {processor}.
 """
 COPYRIGHT = """Vidlakost, a memory BIST compiler with a march coverage prover.
 
 Copyright 2026 the maintainers of Vidlakost. The sources of this version name no licence.
 """
 # what lintian would say, and why it is so
-OVERRIDES = """# The program is the one that was proved, byte for byte, so that its checksum is that of the proof.
+OVERRIDES = """# The program is the one that was built, byte for byte, so that its checksum is that of a proof.
 vidlakost: unstripped-binary-or-object *
 # The pages are read by the command itself, for its help and its explanations.
 vidlakost: package-contains-documentation-outside-usr-share-doc *
@@ -74,12 +74,13 @@ def paths_of(files: Mapping[str, tuple[bytes, bool]], version: str, date: str) -
     return made
 
 
-def control(version: str, needs: str, program: bytes, size: int) -> str:
+def control(version: str, needs: str, program: bytes, size: int, unproved: bool) -> str:
     library = re.search(r"version ([0-9.]+)", needs)
     processor = needs.rsplit(" and ", 1)[-1]
     wants = f"libc6 (>= {library[1]})" if library else "libc6"
     wants += ", libgcc-s1" if b"libgcc_s.so.1" in program else ""
-    return CONTROL.format(version=version, maintainer=MAINTAINER, size=size, library=wants, processor=processor)
+    proof = "The program is unproved." if unproved else "The program is proved; the\n tools round it are not."
+    return CONTROL.format(version=version, maintainer=MAINTAINER, size=size, library=wants, processor=processor, proof=proof)
 
 
 def lay_out(root: pathlib.Path, files: Mapping[str, tuple[bytes, bool]]) -> None:
@@ -93,7 +94,13 @@ def lay_out(root: pathlib.Path, files: Mapping[str, tuple[bytes, bool]]) -> None
 
 
 def package(
-    target: pathlib.Path, files: Mapping[str, tuple[bytes, bool]], version: str, needs: str, time: int, date: str
+    target: pathlib.Path,
+    files: Mapping[str, tuple[bytes, bool]],
+    version: str,
+    needs: str,
+    time: int,
+    date: str,
+    unproved: bool,
 ) -> None:
     """Writes the package: the same files, version and time give the same bytes with one `dpkg-deb`."""
     if shutil.which("dpkg-deb") is None:
@@ -104,7 +111,7 @@ def package(
         lay_out(root, placed)
         size = sum(-len(content) // 1024 * -1 for content, _ in placed.values())
         (root / "DEBIAN").mkdir()
-        (root / "DEBIAN" / "control").write_text(control(version, needs, files[PROGRAM][0], size))
+        (root / "DEBIAN" / "control").write_text(control(version, needs, files[PROGRAM][0], size, unproved))
         (root / "DEBIAN" / "prerm").write_text(PRERM)
         (root / "DEBIAN" / "prerm").chmod(0o755)
         for path in [root, *root.rglob("*")]:

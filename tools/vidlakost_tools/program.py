@@ -10,11 +10,20 @@ import subprocess
 import tempfile
 from typing import Callable, TypeVar
 
-from vidlakost_tools.text import Path, lines_of, read_text
+from vidlakost_tools.text import Path, lines_of, read_described, read_text
 from vidlakost_tools.tool import Refused, ToolError
 
 ROOT = pathlib.Path(__file__).resolve().parent.parent.parent
-PROGRAM = os.environ.get("VIDLAKOST", str(ROOT / "vidlakost"))
+# what stands in RELEASE where the program of a release is not known to be proved
+UNPROVED = "\nunproved"
+
+
+def as_file(name: str) -> str:
+    """The name of a program as a path, so that it is not looked for elsewhere."""
+    return name if "/" in name else os.path.join(os.curdir, name)
+
+
+PROGRAM = as_file(os.environ.get("VIDLAKOST") or str(ROOT / "vidlakost"))
 FORMATS = ROOT / "docs" / "FORMATS.md"
 Answer = TypeVar("Answer")
 # how long a call may take; without a bound where nothing is said
@@ -78,7 +87,7 @@ def quick_program() -> str | None:
     """A program that answers in milliseconds: the one that is named, or the proved one that the launcher takes."""
     named = os.environ.get("VIDLAKOST_PROGRAM") or os.environ.get("VIDLAKOST")
     if named:
-        return named
+        return as_file(named)
     done = subprocess.run([PROGRAM, "--program"], stdout=subprocess.PIPE, stderr=subprocess.DEVNULL, text=True, check=False)
     return done.stdout.strip() or None
 
@@ -94,17 +103,31 @@ def settle(seconds: float) -> str | None:
     return quick
 
 
-def is_proved(program: str | None, named: bool) -> bool:
-    """Whether a program is known to be proved: the launcher takes no other by itself; one that was named has beside it the
-    file `kit` that its proof left, with its checksum, or is a release's own."""
-    if program is None or not named:
-        return program is not None
+def sum_of_sources() -> str:
+    """The sum of the sources that are proved, as the launcher takes it."""
+    done = subprocess.run([ROOT / "vidlakost", "--sources"], stdout=subprocess.PIPE, stderr=subprocess.DEVNULL, text=True, check=False)
+    return done.stdout.strip()
+
+
+def proof_of(program: Path) -> str | None:
+    """The line of the kit that proved a program of the sources that are here, as the file `kit` beside it tells, which its proof
+    left; None where nothing says that it was."""
     path = pathlib.Path(program)
-    if (ROOT / "RELEASE").exists() and path.resolve() == (ROOT / "libexec" / "vidlakost").resolve():
-        return True
     kept = path.with_name("kit")
-    checksum = lines_of(read_text(kept))[:1] if kept.is_file() else []
-    return path.is_file() and checksum == [hashlib.sha256(path.read_bytes()).hexdigest()]
+    told = lines_of(read_described(kept)) if kept.is_file() and path.is_file() else []
+    if len(told) != 3 or told[0] != hashlib.sha256(path.read_bytes()).hexdigest() or told[2] != f"sources {sum_of_sources()}":
+        return None
+    return told[1]
+
+
+def is_proved(program: str | None, named: bool) -> bool:
+    """Whether a program is known to be proved: the launcher takes no other by itself; of one that was named its proof has left
+    the file `kit` beside it, or it is a release's own."""
+    release = ROOT / "RELEASE"
+    own = ROOT / "libexec" / "vidlakost"
+    if release.exists() and (not named or program is not None and pathlib.Path(program).resolve() == own.resolve()):
+        return program is not None and UNPROVED not in read_described(release)
+    return program is not None if not named else proof_of(program or "") is not None
 
 
 def run(*words: object) -> tuple[int, str]:

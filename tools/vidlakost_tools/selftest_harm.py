@@ -91,4 +91,37 @@ def named_files(bench: Bench) -> None:
         print("ghdl is not installed, so no source in VHDL names a file")
 
 
-PARTS = (named_files,)
+# ---- programs that are run, and those that are missing
+
+
+def named_programs(bench: Bench) -> None:
+    """A program that is named is a file, by the tools as by the launcher; any other is packed as unproved alone."""
+    bench.look(["./vidlakost", "bench"], 125, "", "vidlakost: VIDLAKOST_PROGRAM names ./printf", VIDLAKOST_PROGRAM="printf")
+    bench.look(["tools/summary", "c.m", "s.mem"], 125, "", "summary: the program ./printf can't", VIDLAKOST="printf")
+    options: list[list[str]] = [[], ["--deb"], ["--prefix", "prefix"]]
+    for option in options:
+        told = "release: nothing says that '/bin/true' was proved of these sources"
+        bench.look(["tools/release", *option], 125, "", told, VIDLAKOST_PROGRAM="/bin/true")
+    bench.is_so(not (bench.folder / "prefix").exists(), "a program that is not proved was installed")
+
+
+def missing_tools(bench: Bench) -> None:
+    """Without a tool that is asked, or with one that says nothing, no answer is given; and without memory a line."""
+    silent = bench.folder / "silent"
+    silent.mkdir(exist_ok=True)
+    for name in ("bash", "env", "python3", "sh"):
+        (silent / name).symlink_to(shutil.which(name) or name)
+    told = "interop: none of iverilog, verilator and yosys is on the PATH"
+    bench.look(["tools/interop"], 2, "", told, PATH=str(silent))
+    (silent / "yosys").write_text("#!/bin/sh\nexit $SILENT\n")
+    (silent / "yosys").chmod(0o755)
+    path = f"{silent}:{bench.environment['PATH']}"
+    for status in ("0", "1"):
+        call = ["tools/summary", "c.m", "s.mem", "--cells"]
+        bench.look(call, 1, "", "summary: yosys fails: no reason is given", PATH=path, SILENT=status)
+    (silent / "hungry").write_text(f"#!{shutil.which('python3')}\nimport vidlakost_tools\nraise MemoryError\n")
+    (silent / "hungry").chmod(0o755)
+    bench.look(["silent/hungry"], 9, "", "vidlakost: there was no memory", PYTHONPATH=str(bench.folder / "tools"))
+
+
+PARTS = (named_files, named_programs, missing_tools)

@@ -80,7 +80,8 @@ def gates_of(module: pathlib.Path, library: str) -> Gates:
     counted = re.search(r".*Number of cells:\s+(\d+)(.*)", done.stdout, re.DOTALL)
     depth = re.search(r"length=(\d+)", done.stdout)
     if done.returncode or counted is None or depth is None:
-        raise ToolError(f"yosys fails: {done.stdout.strip().splitlines()[-1]}", 1)
+        last = lines_of(done.stdout.strip())[-1:] or ["no reason is given"]
+        raise ToolError(f"yosys fails: {last[0]}", 1)
     flops = sum(int(count) for count in re.findall(r"\$_S?DFF\S*\s+(\d+)", counted[2]))
     return Gates(int(counted[1]), flops, int(depth[1]))
 
