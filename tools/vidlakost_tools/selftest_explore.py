@@ -262,6 +262,12 @@ def floods(bench: Bench, served: Served) -> None:
         with contextlib.suppress(OSError):
             connection.connect(("127.0.0.1", served.port))
         connection.settimeout(0)
+    for place, connection in enumerate(held[-100:]):
+        with contextlib.suppress(OSError):
+            connection.send([b"GET /", b"GET /x/ HTTP/1.1\r\n", f"GET /{served.token[:-2]}".encode(), b"\n" * 9][place % 4])
+    begun = time.monotonic()
+    is_heard = "classes" in served.ask("begin", {}) and time.monotonic() - begun < 2
+    bench.is_so(is_heard, "a thousand connections that don't know the token shut out who does")
     bench.is_so(refused_of(held) > 500, "of a thousand connections at once not five hundred are refused")
     for connection in held:
         connection.close()

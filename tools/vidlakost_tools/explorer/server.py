@@ -3,25 +3,30 @@
 Who asks has to know the token, which is a part of the address; has to say by `Host` that he means this very address,
 which a page of a name that was bound to it anew can't; and, where he asks something, by `Origin` that it is this page
 that asks. No path is looked up in the file system: the answers are those of a table. Each connection has one request,
-whose head and body are bounded in bytes and in time, and there are only so many at once."""
+whose head and body are bounded in bytes and in time. Who has named the token has one of the places in which requests are
+answered; all others wait before these, without a thread, for a short time, and where many wait the oldest goes."""
 from __future__ import annotations
 
 import hmac
+import http
 import http.server
 import io
 import json
 import secrets
+import selectors
 import socket
 import socketserver
 import sys
 import threading
 import time
-from typing import Any, Callable, Tuple
+from typing import Any, Callable, Dict, Tuple
 
 from vidlakost_tools.explorer.answers import Object, Wrong
 from vidlakost_tools.tool import ToolError, tell
 
-CONNECTIONS, CALLS = 32, 2
+CONNECTIONS, WAITING, CALLS = 32, 128, 2
+# what a request begins with is within so many bytes: its method, a blank, and the token between two slashes
+METHOD_BYTES, FIRST_BYTES = 16, 4096
 HEAD_SECONDS, BODY_SECONDS, WAIT_SECONDS = 3.0, 10.0, 20.0
 HEAD_BYTES, BODY_BYTES = 16384, 1 << 20
 CONTENT_POLICY = (
@@ -54,8 +59,8 @@ class Refusal(Exception):
 class Reader(io.RawIOBase):
     """What a connection sends, up to a number of bytes and until a moment."""
 
-    def __init__(self, connection: socket.socket):
-        self.connection = connection
+    def __init__(self, connection: socket.socket, begun: bytes = b""):
+        self.connection, self.begun = connection, begun
         self.allow(HEAD_SECONDS, HEAD_BYTES)
 
     def allow(self, seconds: float, size: int) -> None:
@@ -68,6 +73,11 @@ class Reader(io.RawIOBase):
         rest = self.until - time.monotonic()
         if rest <= 0 or self.left <= 0:
             raise socket.timeout("too slow, or too much")
+        if self.begun:
+            piece = self.begun[: min(len(buffer), self.left)]
+            buffer[: len(piece)], self.begun = piece, self.begun[len(piece) :]
+            self.left -= len(piece)
+            return len(piece)
         self.connection.settimeout(rest)
         got = self.connection.recv_into(memoryview(buffer)[: self.left])
         self.left -= got
@@ -85,6 +95,10 @@ class Explorer(socketserver.ThreadingMixIn, socketserver.TCPServer):
         self.pages, self.questions = pages, questions
         self.token = secrets.token_urlsafe(32)
         self.slots = threading.BoundedSemaphore(CONNECTIONS)
+        # of each connection that has not named the token the moment at which it goes, the oldest first, and what it sent
+        self.waiting: Dict[socket.socket, Tuple[float, bytes]] = {}
+        # what those sent that have
+        self.begun: Dict[socket.socket, bytes] = {}
         self.calls = threading.BoundedSemaphore(CALLS)
         super().__init__(("127.0.0.1", port), Handler)
         self.host = f"127.0.0.1:{self.server_address[1]}"
@@ -93,22 +107,97 @@ class Explorer(socketserver.ThreadingMixIn, socketserver.TCPServer):
     def address(self) -> str:
         return f"http://{self.host}/{self.token}/"
 
-    def process_request(self, request: Any, client_address: Any) -> None:
-        """A thread for a connection, where one is free."""
-        if self.slots.acquire(blocking=False):
-            super().process_request(request, client_address)
-            return
-        request.settimeout(0)
+    def serve_forever(self, poll_interval: float = 0.5) -> None:
+        """Takes connections, reads what they begin with, and hands on those that name the token."""
+        self.socket.setblocking(False)
+        with selectors.DefaultSelector() as selector:
+            selector.register(self.socket, selectors.EVENT_READ)
+            while True:
+                for key, _ in selector.select(poll_interval):
+                    if key.fileobj is self.socket:
+                        self.take(selector)
+                    elif isinstance(key.fileobj, socket.socket):
+                        self.hear(selector, key.fileobj)
+                now = time.monotonic()
+                for request in [request for request, (until, _) in self.waiting.items() if until < now]:
+                    self.drop(selector, request, 408)
+
+    def take(self, selector: selectors.BaseSelector) -> None:
+        """A new connection, which waits at first."""
         try:
-            request.send(b"HTTP/1.0 503 Service Unavailable\r\nContent-Length: 0\r\n\r\n")
+            request, _ = self.get_request()
+        except OSError:
+            # it is gone, or too many files are open
+            if self.waiting:
+                self.drop(selector, next(iter(self.waiting)), 503)
+            return
+        request.setblocking(False)
+        if len(self.waiting) >= WAITING:
+            self.drop(selector, next(iter(self.waiting)), 503)
+        self.waiting[request] = time.monotonic() + HEAD_SECONDS, b""
+        selector.register(request, selectors.EVENT_READ)
+        self.hear(selector, request)
+
+    def hear(self, selector: selectors.BaseSelector, request: socket.socket) -> None:
+        """What a connection that waits has sent."""
+        until, begun = self.waiting[request]
+        try:
+            piece = request.recv(FIRST_BYTES - len(begun))
+        except BlockingIOError:
+            return
+        except OSError:
+            piece = b""
+        begun += piece
+        self.waiting[request] = until, begun
+        known = self.knows(begun)
+        if known is False or not piece:
+            self.drop(selector, request, 404)
+        elif known:
+            selector.unregister(request)
+            del self.waiting[request]
+            request.setblocking(True)
+            self.answer(request, begun)
+
+    def knows(self, begun: bytes) -> bool | None:
+        """Whether a request names the token; None where that is not to be seen yet. Nothing is said of a part of it: who guesses
+        would find it letter by letter."""
+        wanted = f"/{self.token}/".encode()
+        method, blank, rest = begun.partition(b" ")
+        if len(method) > METHOD_BYTES or b"\n" in begun[: METHOD_BYTES + len(wanted)] and len(rest) < len(wanted):
+            return False
+        if not blank or len(rest) < len(wanted):
+            return None
+        return hmac.compare_digest(rest[: len(wanted)], wanted)
+
+    def drop(self, selector: selectors.BaseSelector, request: socket.socket, status: int) -> None:
+        """Ends a connection that waits."""
+        selector.unregister(request)
+        del self.waiting[request]
+        self.refuse(request, status)
+
+    def refuse(self, request: socket.socket, status: int) -> None:
+        """Says a status, if that can be said at once, and ends a connection."""
+        lines = [f"HTTP/1.0 {status} {http.HTTPStatus(status).phrase}", *(f"{name}: {value}" for name, value in HEADERS.items())]
+        try:
+            request.setblocking(False)
+            request.send("\r\n".join([*lines, "Content-Length: 0", "", ""]).encode())
         except OSError:
             pass
         self.shutdown_request(request)
+
+    def answer(self, request: socket.socket, begun: bytes) -> None:
+        """A thread for a connection that has named the token, where one is free."""
+        if self.slots.acquire(blocking=False):
+            self.begun[request] = begun
+            self.process_request(request, ("127.0.0.1", 0))
+            return
+        self.refuse(request, 503)
 
     def process_request_thread(self, request: Any, client_address: Any) -> None:
         try:
             super().process_request_thread(request, client_address)
         finally:
+            self.begun.pop(request, None)
             self.slots.release()
 
     def handle_error(self, request: Any, client_address: Any) -> None:
@@ -125,7 +214,7 @@ class Handler(http.server.BaseHTTPRequestHandler):
 
     def setup(self) -> None:
         super().setup()
-        self.reader = Reader(self.connection)
+        self.reader = Reader(self.connection, self.server.begun.pop(self.connection, b""))
         self.rfile = io.BufferedReader(self.reader, 4096)
 
     def version_string(self) -> str:
