@@ -3,7 +3,6 @@ what is wrong there, and what could stand there instead."""
 from __future__ import annotations
 
 import os
-import pathlib
 import re
 from typing import Iterator, Mapping
 
@@ -14,7 +13,7 @@ from vidlakost_tools.march import elements_of
 from vidlakost_tools.memory import Memory, parse_memory
 from vidlakost_tools.program import FORMATS, commands, form_of
 from vidlakost_tools.tasks import tools
-from vidlakost_tools.text import lines_of, read_described, read_text, visible
+from vidlakost_tools.text import lines_of, read_bytes, read_described, read_text, visible
 from vidlakost_tools.tool import ToolError
 
 # the word of a call whose text a refusal speaks of
@@ -89,7 +88,7 @@ def refused_text(words: list[str], said: str) -> list[str]:
         return diagnose_texts.fault("PRIM", named["PRIM"].encode("utf-8", "replace"), code, values, True).lines()
     if not is_there_still(named[subject]):
         return once(named[subject], said)
-    text = pathlib.Path(named[subject]).read_bytes()
+    text = read_bytes(named[subject])
     if kind == "verilog":
         Trier.reader = words[0]
         found = diagnose_verilog.verilog(named[subject], text, code, values, named.get("MEMORY"))

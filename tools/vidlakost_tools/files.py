@@ -7,7 +7,7 @@ import pathlib
 import re
 from typing import Collection, Iterable
 
-from vidlakost_tools.text import lines_of, read_described, shown
+from vidlakost_tools.text import INPUT_BYTES, LARGE_BYTES, lines_of, read_described, shown
 from vidlakost_tools.tool import ToolError, refuse_inputs, write_all
 
 # what stands in the first line of a file that may be written anew, and where the sum of the file is put
@@ -45,9 +45,9 @@ def summed(text: str) -> str:
 def is_own(path: pathlib.Path) -> bool:
     """Whether a tool wrote a file, and nobody changed it since: it has its own sum, or the list beside it tells it.
     A pipe or a device is nobody's, and is not read, which might not end."""
-    if not path.is_file():
+    if not path.is_file() or path.stat().st_size > LARGE_BYTES:
         return False
-    text = read_described(path)
+    text = read_described(path, LARGE_BYTES)
     head, line, rest = text.partition("\n")
     found = SUM.search(head)
     if found is not None:
@@ -83,15 +83,20 @@ def begins(text: str) -> str:
 def refuse_another_list(folder: pathlib.Path, text: str) -> None:
     """Refuses to write over the list of something else, whose testbench would then have none."""
     path = folder / LIST
-    first = begins(read_described(path)) if path.is_file() else ""
+    first = begins(read_described(path)) if path.is_file() and path.stat().st_size <= INPUT_BYTES else ""
     if first not in ("", begins(text)):
         raise ToolError(f"{path} is the list of {shown(first)}, so nothing is written: take a folder for each")
+
+
+def is_plain(path: pathlib.Path) -> bool:
+    """Whether this is a file of the folder itself that a tool may have written."""
+    return path.is_file() and not path.is_symlink() and path.stat().st_size <= LARGE_BYTES
 
 
 def is_unmarked(path: pathlib.Path, text: str) -> bool:
     """Whether a file holds what is to be written but for the line that says whose it is, as older versions wrote it."""
     head, _, rest = text.partition("\n")
-    return OWN.search(head) is not None and path.is_file() and not path.is_symlink() and read_described(path) == rest
+    return OWN.search(head) is not None and is_plain(path) and read_described(path, LARGE_BYTES) == rest
 
 
 def write_own(folder: pathlib.Path, texts: dict[str, str], inputs: list[str], told: list[str] | None = None) -> None:

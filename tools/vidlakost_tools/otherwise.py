@@ -3,13 +3,12 @@ comments that some obey or end a line at, a `?` that some take for a digit, shif
 names of a chip that SystemVerilog reserves."""
 from __future__ import annotations
 
-import pathlib
 import re
 from typing import Iterator
 
 from vidlakost_tools.diagnose_verilog import Events
 from vidlakost_tools.finding import place
-from vidlakost_tools.text import read_described, statements
+from vidlakost_tools.text import read_bytes, read_described, statements
 from vidlakost_tools.verilog import COMMENT, Expression, Unread
 
 # what may stand in a comment, or as a blank, and why another tool may go another way
@@ -138,7 +137,7 @@ def of_chip(name: str, text: str) -> list[str]:
 def warnings_of(words: list[str]) -> list[str]:
     """What is said of a call that is done."""
     if words[:1] in (["check"], ["benchfile"]) and len(words) == 4:
-        return of_module(words[1], pathlib.Path(words[1]).read_bytes())
+        return of_module(words[1], read_bytes(words[1]))
     if words[:1] == ["chip"] and len(words) == 3:
         return of_chip(words[1], read_described(words[1]))
     return []

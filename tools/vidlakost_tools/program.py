@@ -10,7 +10,7 @@ import subprocess
 import tempfile
 from typing import Callable, TypeVar
 
-from vidlakost_tools.text import Path, lines_of, read_described, read_text
+from vidlakost_tools.text import LARGE_BYTES, Path, lines_of, read_described, read_text
 from vidlakost_tools.tool import Refused, ToolError
 
 ROOT = pathlib.Path(__file__).resolve().parent.parent.parent
@@ -187,4 +187,4 @@ def vectors_of(march: Path, memory: Path) -> list[str]:
     with tempfile.TemporaryDirectory() as folder:
         path = pathlib.Path(folder) / "vectors"
         ask("vectors", march, memory, path)
-        return lines_of(read_text(path))
+        return lines_of(read_text(path, LARGE_BYTES))

@@ -175,7 +175,8 @@ sleep 60 &
 wait
 """
 SILENT = "#!/bin/sh\nexit 1\n"
-OLDER = ".vidlakost-1000000000000000000"
+# what calls of before may still be at work on, and what one that was killed left
+OLDER, LEFT = f".vidlakost-{int(time.time()) - 600}000000000", ".vidlakost-1000000000000000000"
 
 
 def program(bench: Bench, name: str, text: str) -> str:
@@ -197,7 +198,8 @@ def killed_launcher(bench: Bench) -> None:
     """A signal to the launcher ends the program, and what that left beside its files is removed, but for what others left."""
     folder = bench.folder / "signals"
     folder.mkdir()
-    (folder / OLDER).write_text("")
+    for name in (OLDER, LEFT):
+        (folder / name).write_text("")
     environment = {**bench.environment, "VIDLAKOST_PROGRAM": program(bench, "waiting", WAITING)}
     for number in (signal.SIGTERM, signal.SIGINT, signal.SIGHUP):
         (folder / "pid").unlink() if (folder / "pid").exists() else None

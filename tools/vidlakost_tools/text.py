@@ -1,24 +1,54 @@
 """Texts as the program reads them: bytes, lines that end with a line feed alone, and words before a comment."""
 from __future__ import annotations
 
+import errno
 import os
-import pathlib
 import re
-from typing import Union
+from typing import Iterator, Union
 
 # the name of a file
 Path = Union[str, "os.PathLike[str]"]
 
 
-def read_text(path: Path) -> str:
-    """A file's text, byte for byte: a carriage return in it stays one. A folder, a missing file and bytes that are no text
-    are told by `start`."""
-    return pathlib.Path(path).read_bytes().decode("utf-8")
+# how many bytes of an input are read: as the program of its own inputs; of sources and models; and of what Yosys or a line
+# after the other is to read, or what tools have written
+INPUT_BYTES, SOURCE_BYTES, LARGE_BYTES = 1 << 20, 1 << 24, 1 << 26
 
 
-def read_described(path: Path) -> str:
+def read_bytes(path: Path, most: int = INPUT_BYTES) -> bytes:
+    """What a file holds. One that is longer, or a device that never ends, is told by `start`, as are a folder and a missing
+    file."""
+    with open(path, "rb") as file:
+        content = file.read(most + 1)
+    if len(content) > most:
+        raise OSError(errno.EFBIG, f"it has more than {most:,} bytes, which is the most that is read", str(path))
+    return content
+
+
+def read_text(path: Path, most: int = INPUT_BYTES) -> str:
+    """A file's text, byte for byte: a carriage return in it stays one. Bytes that are no text are told by `start`."""
+    return read_bytes(path, most).decode("utf-8")
+
+
+def read_described(path: Path, most: int = INPUT_BYTES) -> str:
     """The same of a text whose comments may hold any bytes, as those of memories and chips."""
-    return pathlib.Path(path).read_bytes().decode("utf-8", "replace")
+    return read_bytes(path, most).decode("utf-8", "replace")
+
+
+def stream(path: Path, most: int) -> Iterator[str]:
+    """The lines of a long text one by one, each without its line feed but the last, which has none if the text ends without
+    it; a line is one of an input at most."""
+    left = most
+    with open(path, "rb") as file:
+        while True:
+            line = file.readline(INPUT_BYTES + 1)
+            left -= len(line)
+            if left < 0 or len(line) > INPUT_BYTES:
+                told = f"{most:,} bytes, or a line of more than {INPUT_BYTES:,}"
+                raise OSError(errno.EFBIG, f"it has more than {told}, which is the most that is read", str(path))
+            if not line:
+                return
+            yield line.decode("utf-8")
 
 
 def lines_of(text: str) -> list[str]:

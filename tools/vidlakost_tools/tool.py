@@ -10,11 +10,18 @@ import os
 import pathlib
 import re
 import signal
+import stat
 import sys
 import tempfile
+import time
 from typing import Any, Callable, Mapping
 
 from vidlakost_tools.text import Path, shown, visible
+
+
+# what is begun beside a file, by a tool or by the program, and for how long it may be somebody's who still runs
+LEFT = re.compile(r"\.vidlakost-(?:[a-z0-9_]{8}|[0-9]{19})")
+LEFT_SECONDS = 3600
 
 
 class ToolError(Exception):
@@ -185,12 +192,13 @@ def write_all(texts: Mapping[pathlib.Path, str], keeps_names: bool = True) -> No
     """Writes several files: none takes its place before the texts of all are on the disk. What is no plain file and a link are
     written as they are, and so is a file with several names, unless the other names are to keep the old text."""
     staged: dict[pathlib.Path, str] = {}
+    as_they_are = [path for path in texts if is_written_as_it_is(path, keeps_names)]
     try:
         for path, text in texts.items():
-            if path.is_symlink() or path.exists() and (not path.is_file() or keeps_names and path.stat().st_nlink > 1):
-                path.write_text(text, encoding="utf-8")
-            else:
+            if path not in as_they_are:
                 staged[path] = beside(path, text)
+        for path in as_they_are:
+            path.write_text(texts[path], encoding="utf-8")
         for path in list(staged):
             os.replace(staged[path], path)
             del staged[path]
@@ -201,8 +209,23 @@ def write_all(texts: Mapping[pathlib.Path, str], keeps_names: bool = True) -> No
                 os.unlink(name)
 
 
+def is_written_as_it_is(path: pathlib.Path, keeps_names: bool) -> bool:
+    return path.is_symlink() or path.exists() and (not path.is_file() or keeps_names and path.stat().st_nlink > 1)
+
+
+def sweep(folder: pathlib.Path) -> None:
+    """Removes what a tool or a program that was killed left in a folder: the caller's own, and more than an hour old."""
+    for path in folder.glob(".vidlakost-*"):
+        with contextlib.suppress(OSError):
+            found = path.lstat()
+            is_own = stat.S_ISREG(found.st_mode) and found.st_uid == os.geteuid() and found.st_nlink == 1
+            if is_own and LEFT.fullmatch(path.name) and time.time() - found.st_mtime > LEFT_SECONDS:
+                path.unlink()
+
+
 def beside(path: pathlib.Path, text: str) -> str:
     """The name of a new file beside another, which has the text and the other's permissions."""
+    sweep(path.parent)
     before = path.stat() if path.exists() else None
     if before is not None and not os.access(path, os.W_OK):
         raise ToolError(f"{path}: Permission denied")

@@ -9,7 +9,7 @@ import tempfile
 from typing import Any
 
 from vidlakost_tools import confined
-from vidlakost_tools.text import lines_of, read_described
+from vidlakost_tools.text import SOURCE_BYTES, lines_of, read_described
 from vidlakost_tools.tool import ToolError, identifier
 from vidlakost_tools.vhdl_source import refuse_reaching
 
@@ -28,7 +28,7 @@ def verilog_of(files: list[str], options: dict[str, Any], folder: pathlib.Path) 
         return files, options
     if shutil.which("ghdl") is None:
         raise ToolError(f"{vhdl[0]} is VHDL, and ghdl, which makes Verilog of it, is not on the PATH")
-    texts = [read_described(file) for file in vhdl]
+    texts = [read_described(file, SOURCE_BYTES) for file in vhdl]
     for file, text in zip(vhdl, texts):
         refuse_reaching(file, text)
     entities = [name for text in texts for name in re.findall(r"^\s*entity\s+(\w+)\s+is", text, re.MULTILINE | re.IGNORECASE)]

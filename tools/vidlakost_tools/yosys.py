@@ -10,7 +10,7 @@ import shutil
 import subprocess
 from typing import Any, Mapping
 
-from vidlakost_tools.text import Path, lines_of, shown
+from vidlakost_tools.text import LARGE_BYTES, SOURCE_BYTES, Path, lines_of, read_bytes, shown
 from vidlakost_tools.tool import ToolError, identifier
 from vidlakost_tools.vhdl import is_vhdl
 
@@ -42,7 +42,7 @@ def top_of(options: Mapping[str, Any]) -> str:
 def sources_of(files: list[str]) -> str:
     """The sources as a script carries them; each has to be a file that is there, and may be a text of any bytes."""
     for file in files:
-        pathlib.Path(file).read_bytes()
+        read_bytes(file, LARGE_BYTES)
     return " ".join(map(quoted, files))
 
 
@@ -344,7 +344,7 @@ def blanked(text: str, but_texts: bool = False) -> list[str]:
 def plain_text(file: str) -> str:
     """A source as Yosys' preprocessor sees it, which passes over carriage returns. It unpacks what is packed, and takes a byte
     0 for the end: such a file is refused."""
-    content = pathlib.Path(file).read_bytes()
+    content = read_bytes(file, SOURCE_BYTES)
     if content.startswith(b"\x1f\x8b") or b"\0" in content:
         raise ToolError(f"{shown(file)} is packed, or has a byte 0, and is no source", 1)
     return content.decode("utf-8", "replace").replace("\r", "")
