@@ -36,7 +36,7 @@ class Libraries(unittest.TestCase):
         self.assertEqual((address, word), (4, 8))
         lines, left = pin_names.pins("ram", pins)
         told = ["macro ram", "rdata q 8  # changes at the falling edge of ck", "wdata d 8", "addr a 4", "clk ck"]
-        self.assertEqual(lines[:6], [*told, "en ~csb  # by its name, active low"])
+        self.assertEqual(lines[:6], [*told, "#? en ~csb  # by its name, active low"])
         self.assertEqual((lines[6], left), ("power vss 0", 2))
         self.assertTrue(all(line.startswith("# ") and "\n" not in line for line in lines[7:]))
 
@@ -45,6 +45,48 @@ class Libraries(unittest.TestCase):
         lines, left = pin_names.pins("ram", memory_cell("l.lib", text, "ram")[2])
         self.assertIn("# we, an input of ? bits: tie we WIDTH'h0, or pass we WIDTH", lines)
         self.assertEqual(left, 3)
+
+    def refusal(self, old: str, new: str) -> str:
+        """What is said of the library with a part changed."""
+        self.assertIn(old, CELL)
+        with self.assertRaises(ToolError) as told:
+            memory_cell("l.lib", CELL.replace(old, new, 1), "ram")
+        return str(told.exception)
+
+    def test_widths_that_contradict_the_buses(self) -> None:
+        for width in (3, 5):
+            told = self.refusal("address_width : 4", f"address_width : {width}")
+            self.assertEqual(told, f"l.lib:5: address_width is {width}, and 'a' on line 10 has 4 bits")
+        told = self.refusal("word_width : 8", "word_width : 16")
+        self.assertEqual(told, "l.lib:5: word_width is 16, and 'q' on line 6 has 8 bits")
+        told = self.refusal("bus_type : word; direction : input", "bus_type : address; direction : input")
+        self.assertEqual(told, "l.lib:5: word_width is 8, and 'd' on line 9 has 4 bits")
+
+    def test_what_is_no_ram(self) -> None:
+        self.assertEqual(self.refusal("type : ram", "type : rom"), "l.lib:5: the memory is a 'rom', and no ram")
+
+    def test_two_of_one_name(self) -> None:
+        more = "cell(other) { ff(IQ)"
+        told = self.refusal(more, f"type(word) {{ bit_width : 9; }} {more}")
+        self.assertEqual(told, "l.lib:3: the type 'word' has 8 bits by line 2, and 9 here")
+        memory_cell("l.lib", CELL.replace(more, f"type(word) {{ bit_width : 8; }} {more}"), "ram")
+        self.assertIn("has a bit_width of 8, and bits from 6 to 0", self.refusal("bit_from : 7", "bit_from : 6"))
+        self.assertIn("'csb' stands twice; line 14 has it", self.refusal("pin(cen)", "pin(csb)"))
+        self.assertIn("word_width is 8 by line 5, and 9 here", self.refusal("word_width : 8;", "word_width : 8; word_width : 9;"))
+        self.assertIn("a second group memory(); the first stands on line 5", self.refusal("bus(q)", "memory() { type : ram; } bus(q)"))
+
+    def test_an_address_that_is_no_pin(self) -> None:
+        told = self.refusal("memory_write() { address : a;", "memory_write() { address : b;")
+        self.assertEqual(told, "l.lib:9: the address of 'd' is 'b', which is no pin")
+
+    def test_names_alone_wait(self) -> None:
+        for name in ("me", "mea", "meb", "MEA"):
+            pins = memory_cell("l.lib", CELL.replace("pin(cen)", f"pin({name})"), "ram")[2]
+            lines, _ = pin_names.pins("ram", pins)
+            self.assertFalse([line for line in lines if name in line.split()[1:] and not line.startswith("# ")], lines)
+            self.assertIn(f"en {name}", pin_names.pins("ram", pins, {name: "en"})[0])
+        pins = memory_cell("l.lib", CELL, "ram")[2]
+        self.assertIn("en ~csb", pin_names.pins("ram", pins, {"csb": "~en"})[0])
 
     def test_what_is_no_library(self) -> None:
         for text in ("", "library", "library(l){", 'library(l){ x"', "library(l){ a b }", CELL.replace("memory()", "memories()")):
@@ -120,12 +162,12 @@ class Usual(unittest.TestCase):
     def test_ports_by_their_names(self) -> None:
         lines = self.lines("A_ADDR", "A_DI", "A_DO", "B_ADDR", "B_DO", "A_CLK", "B_CLK")
         told = ["addr A_ADDR", "wdata A_DI", "rdata A_DO", "port addr B_ADDR", "port rdata B_DO", "clk A_CLK", "port clk B_CLK"]
-        self.assertEqual([line.split("  #")[0] for line in lines], told)
+        self.assertEqual([line.split("  #")[0] for line in lines], [f"#? {line}" for line in told])
 
     def test_an_address_for_each_way(self) -> None:
         lines = self.lines("WADDR", "WDATA", "RADDR", "dout", "WCLK", "RCLK")
-        self.assertEqual(lines[0].split("  #")[0], "waddr WADDR")
-        self.assertIn("clock2 RCLK", lines)
+        self.assertEqual(lines[0].split("  #")[0], "#? waddr WADDR")
+        self.assertIn("#? clock2 RCLK", lines)
 
     def test_names_that_mean_either(self) -> None:
         self.assertIn("en ~CEN where it is active low, or en CEN", self.lines("A", "CEN")[1])

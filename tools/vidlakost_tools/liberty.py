@@ -6,6 +6,7 @@ import re
 from typing import Iterator
 
 from vidlakost_tools.macro_pins import WIDEST
+from vidlakost_tools.text import shown
 from vidlakost_tools.tool import ToolError
 
 # the lookahead keeps a name from taking a comment along
@@ -14,16 +15,21 @@ TOKEN = re.compile(
 )
 # the groups in which something stands that a description needs; the others are passed over
 READ = {"library", "type", "cell", "bus", "bundle", "pin", "memory", "memory_read", "memory_write", "timing", "pg_pin"}
-DEEPEST = 64
+DEEPEST, MOST = 64, 1 << 22
+# groups in which an attribute stands once
+SAID_ONCE = {"type", "bus", "memory", "memory_read", "memory_write"}
 
 
 @dataclasses.dataclass
 class Group:
-    """A group: its kind, its words in parentheses, its attributes, and the groups in it."""
+    """A group: its kind, its words in parentheses, its attributes with the lines on which they stand, its own line, and the groups
+    in it."""
 
     kind: str
     words: list[str]
+    line: int = 0
     said: dict[str, str] = dataclasses.field(default_factory=dict)
+    lines: dict[str, int] = dataclasses.field(default_factory=dict)
     groups: list[Group] = dataclasses.field(default_factory=list)
 
     def of(self, *kinds: str) -> Iterator[Group]:
@@ -41,7 +47,9 @@ class Reader:
         self.path, self.cell, self.text = path, cell, text
         self.tokens: list[str] = []
         self.places: list[int] = []
-        at = 0
+        # of each token its line
+        self.lines: list[int] = []
+        at, line = 0, 1
         while at < len(text):
             match = TOKEN.match(text, at)
             if match is None:
@@ -49,8 +57,16 @@ class Reader:
             if match[1] is not None or match[2] is not None:
                 self.tokens.append(match[2] if match[2] is not None else '"' + match[1])
                 self.places.append(at)
+                self.lines.append(line)
+                if len(self.tokens) > MOST:
+                    raise ToolError(f"{path}:{line}: there are more than {MOST:,} words and marks")
+            line += match[0].count("\n")
             at = match.end()
         self.here = 0
+
+    def line(self) -> int:
+        """The line of the token that was taken last."""
+        return self.lines[self.here - 1]
 
     def fail(self, why: str) -> ToolError:
         at = self.places[min(self.here, len(self.places) - 1)] if self.places else 0
@@ -100,21 +116,30 @@ class Reader:
             if name == ";":
                 continue
             if self.peek() == ":":
+                line = self.line()
                 self.take()
-                group.said[name] = self.value()
+                self.say(group, name, line)
             elif self.peek() == "(":
                 self.statement(group, name, depth)
             else:
                 raise self.fail(f"'{name[:40]}' is no attribute and no group")
         self.take("}")
 
+    def say(self, group: Group, name: str, line: int) -> None:
+        """An attribute; what a group of those that are read says twice is not known."""
+        value = self.value()
+        if group.said.get(name, value) != value and group.kind in SAID_ONCE:
+            raise ToolError(f"{self.path}:{line}: {name} is {group.said[name]} by line {group.lines[name]}, and {value} here")
+        group.said[name], group.lines[name] = value, line
+
     def statement(self, group: Group, name: str, depth: int) -> None:
         """A group, or an attribute with words in parentheses."""
+        line = self.line()
         words = self.words()
         if self.peek() != "{":
             group.said[name] = " ".join(words)
             return
-        inner = Group(name, words)
+        inner = Group(name, words, line)
         if name not in READ or name == "cell" and inner.name != self.cell:
             self.skip_group()
             return
@@ -156,14 +181,21 @@ def number(text: str) -> int:
     return int(text) if re.fullmatch("[0-9]{1,9}", text) else 0
 
 
-def types_in(*groups: Group) -> dict[str, int]:
-    """The widths of the types of buses."""
-    found = {}
-    for group in groups:
-        for one in group.of("type"):
-            ends = number(one.said.get("bit_from", "x")), number(one.said.get("bit_to", "x"))
-            found[one.name] = number(one.said.get("bit_width", "")) or abs(ends[0] - ends[1]) + 1
-    return found
+def types_in(path: str, *groups: Group) -> dict[str, int]:
+    """The widths of the types of buses; two of one name have one width, as have the parts of a type."""
+    found: dict[str, tuple[int, int]] = {}
+    for one in (one for group in groups for one in group.of("type")):
+        ends = [number(one.said[end]) for end in ("bit_from", "bit_to") if end in one.said]
+        width = number(one.said.get("bit_width", ""))
+        if width and len(ends) == 2 and width != abs(ends[0] - ends[1]) + 1:
+            told = f"has a bit_width of {width}, and bits from {ends[0]} to {ends[1]}"
+            raise ToolError(f"{path}:{one.line}: the type {shown(one.name)} {told}")
+        width = width or (abs(ends[0] - ends[1]) + 1 if len(ends) == 2 else 0)
+        if found.get(one.name, (width, 0))[0] != width:
+            told = f"has {found[one.name][0]} bits by line {found[one.name][1]}, and {width} here"
+            raise ToolError(f"{path}:{one.line}: the type {shown(one.name)} {told}")
+        found[one.name] = width, one.line
+    return {name: width for name, (width, _) in found.items()}
 
 
 def pin_of(group: Group, types: dict[str, int]) -> Found:
@@ -190,21 +222,59 @@ def pin_of(group: Group, types: dict[str, int]) -> Found:
     return found
 
 
-def memory_cell(path: str, text: str, cell: str) -> tuple[int, int, list[Found]]:
-    """The width of the address of a memory cell, that of its word, and its pins."""
+def memory_of(path: str, text: str, cell: str) -> tuple[Group, Group, Group]:
+    """The library, a memory cell of it, and what that says of its memory."""
     library = Reader(path, text, cell).library()
     cells = list(library.of("cell"))
     if not cells:
         raise ToolError(f"{path}: there is no cell '{cell}'")
     if len(cells) > 1:
         raise ToolError(f"{path}: the cell {cell} stands {len(cells)} times")
-    memory = next(iter(cells[0].of("memory")), None)
-    if memory is None:
+    memories = list(cells[0].of("memory"))
+    if not memories:
         raise ToolError(f"{path}: the cell {cell} has no group memory()")
-    types = types_in(library, cells[0])
-    pins = [pin_of(group, types) for group in cells[0].of("bus", "pin", "pg_pin", "bundle")]
+    if len(memories) > 1:
+        raise ToolError(f"{path}:{memories[1].line}: a second group memory(); the first stands on line {memories[0].line}")
+    return library, cells[0], memories[0]
+
+
+def refuse_memory(path: str, memory: Group, groups: list[Group], pins: list[Found]) -> None:
+    """Refuses what is no memory that is written, and what contradicts itself: the widths of the memory and of its buses, and
+    addresses that are no pins."""
+    if memory.said.get("type", "ram") != "ram":
+        raise ToolError(f"{path}:{memory.lines['type']}: the memory is a {shown(memory.said['type'])}, and no ram")
+    lines = {group.name: group.line for group in groups}
+    widths = {pin.name: pin.width for pin in pins}
+    for pin in pins:
+        for address in {pin.writes_at, pin.reads_at} - {""}:
+            if address not in widths:
+                raise ToolError(f"{path}:{lines[pin.name]}: the address of {shown(pin.name)} is {shown(address)}, which is no pin")
+            refuse_width(path, memory, "address_width", address, widths[address], lines[address])
+        if pin.writes_at or pin.reads_at:
+            refuse_width(path, memory, "word_width", pin.name, pin.width, lines[pin.name])
+
+
+def refuse_width(path: str, memory: Group, what: str, pin: str, width: int, line: int) -> None:
+    """Refuses a bus of another width than the memory says. A bit of a bus that stands by itself is none."""
+    if width and not re.search(r"\[.*\]", pin) and str(width) != memory.said.get(what, str(width)).lstrip("0"):
+        told = f"{what} is {memory.said[what]}, and {shown(pin)} on line {line} has {width} bit{'s' if width > 1 else ''}"
+        raise ToolError(f"{path}:{memory.lines[what]}: {told}")
+
+
+def memory_cell(path: str, text: str, cell: str) -> tuple[int, int, list[Found]]:
+    """The width of the address of a memory cell, that of its word, and its pins."""
+    library, group, memory = memory_of(path, text, cell)
+    types = types_in(path, library, group)
+    groups = list(group.of("bus", "pin", "pg_pin", "bundle"))
+    first: dict[str, int] = {}
+    for one in groups:
+        if one.name in first:
+            raise ToolError(f"{path}:{one.line}: the pin {shown(one.name)} stands twice; line {first[one.name]} has it")
+        first[one.name] = one.line
+    pins = [pin_of(one, types) for one in groups]
     address, word = number(memory.said.get("address_width", "")), number(memory.said.get("word_width", ""))
     if not 1 <= address <= 16 or not 1 <= word <= WIDEST:
         told = f"has an address of {address} bits and a word of {word}, which no description has"
         raise ToolError(f"{path}: the cell {cell} {told}")
+    refuse_memory(path, memory, groups, pins)
     return address, word, pins

@@ -8,7 +8,7 @@ import re
 from vidlakost_tools.access_block import BUILT_IN
 from vidlakost_tools.memory import Memory
 from vidlakost_tools.otherwise import RESERVED as SYSTEM_WORDS
-from vidlakost_tools.text import lines_of, read_described, shown, words_in
+from vidlakost_tools.text import BLANKS, lines_of, read_described, shown, words_in
 from vidlakost_tools.tool import ToolError
 from vidlakost_tools.words import RESERVED as PLAIN_WORDS
 
@@ -225,6 +225,9 @@ class Lines:
     def read(self) -> Macro:
         for line, text in enumerate(lines_of(read_described(self.macro.path)), 1):
             words = words_in(text)
+            if text.lstrip(BLANKS).startswith("#?"):
+                why = "this stands on the name of a pin alone: take the mark #? away where it is right, or write the right line"
+                raise self.macro.refuse(line, why)
             if words:
                 self.take(line, words)
             if max(len(self.macro.pins), len(self.buses), len(self.macro.parameters)) > MOST:
@@ -484,3 +487,12 @@ def pin_width(pin: Pin) -> int:
     """The width of a pin, of one that is tied that of its literal."""
     found = literal(pin.value) if pin.kind == "tie" else None
     return found[0] if found else pin.width
+
+
+def widths_of(pin: Pin) -> list[tuple[str, int]]:
+    """The macro's names of a pin, each with its width; 0 where no line tells it."""
+    if pin.kind == "open":
+        return [(pin.name, 0)]
+    if pin.kind == "tie":
+        return [(pin.name, pin_width(pin) if literal(pin.value) else 0)]
+    return [(name, 1 if pin.bits else pin.width) for name in pin.names()]

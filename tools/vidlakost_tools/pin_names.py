@@ -1,9 +1,10 @@
 """Pins of a macro from what a library or a port list tells of them, and from their usual names; what is not recognised stands
-in a comment, and each line that stands on a name alone says so."""
+in a comment, and each line that stands on a name alone waits behind a mark until somebody confirms it."""
 from __future__ import annotations
 
 import dataclasses
 import re
+from typing import Mapping
 
 from vidlakost_tools.liberty import Found
 from vidlakost_tools.macro_pins import RESERVED, WIDEST, is_name
@@ -12,8 +13,8 @@ from vidlakost_tools.text import visible
 # what a pin is by its name in lower case, without the name or the number of its port; ~ where it is active low
 USUAL = {
     "clk": "clk clock ck clkin",
-    "~en": "csb ceb csn cs_n ce_n cs_b ce_b meb en_n",
-    "en": "cs ce en me chipselect chip_select enable mem_en",
+    "~en": "csb ceb csn cs_n ce_n cs_b ce_b en_n",
+    "en": "cs ce en chipselect chip_select enable mem_en",
     "~we": "web we_n we_b wenb wr_n wrb",
     "we": "we wren wr_en write_enable wr write",
     "read": "re rd_en ren read read_enable rden",
@@ -23,8 +24,10 @@ USUAL = {
     "wdata": "d di din data_in datain wdata wd data",
     "rdata": "q do dout data_out dataout rdata rd qout",
 }
-# names that some use for active high and some for active low
-EITHER = {"cen": "en", "men": "en", "wen": "we", "gwen": "we", "ben": "mask", "bwen": "mask"}
+# what a line begins with that stands on a name alone
+UNSURE = "#? "
+# names that some use for active high and some for active low, or for an enable and for a margin
+EITHER = {"cen": "en", "me": "en", "meb": "en", "men": "en", "wen": "we", "gwen": "we", "ben": "mask", "bwen": "mask"}
 KNOWN = {name: kind for kind, names in USUAL.items() for name in names.split()}
 
 
@@ -49,10 +52,12 @@ def parts_of(name: str) -> tuple[str, str]:
     return next(((stem, port) for stem, port in tried if stem in KNOWN or stem in EITHER), ("", ""))
 
 
-def guess(pin: Found) -> Guess:
-    """What a pin seems to be: what the library tells of it goes before its name."""
+def guess(pin: Found, confirmed: Mapping[str, str] | None = None) -> Guess:
+    """What a pin seems to be: what somebody confirms, and what the library tells of it, go before its name."""
     stem, port = parts_of(pin.name)
     kind = KNOWN.get(stem, "")
+    if pin.name in (confirmed or {}):
+        return Guess(pin, (confirmed or {})[pin.name], port, False)
     if pin.power or pin.way == "inout":
         return Guess(pin, "power", "", not pin.power)
     if pin.is_clock:
@@ -74,7 +79,7 @@ def line_of(one: Guess, second: bool) -> str:
     line = f"{'port ' if second else ''}{kind} {low}{one.pin.name}{width}"
     told = ["by its name" + (", active low" if low else "")] if one.by_name else []
     told += [f"changes at the falling edge of {visible(one.pin.clock)}"] if one.pin.is_falling and kind == "rdata" else []
-    return line + (f"  # {'; '.join(told)}" if told else "")
+    return (UNSURE if one.by_name else "") + line + (f"  # {'; '.join(told)}" if told else "")
 
 
 def open_line(pin: Found) -> str:
@@ -129,9 +134,9 @@ def named_by_addresses(guesses: list[Guess]) -> None:
             one.port = mine if shared else clocks.get(one.pin.clock, mine)
 
 
-def pins(macro: str, found: list[Found]) -> tuple[list[str], int]:
-    """The lines of a file of pins, and how many pins are not recognised."""
-    guesses = [guess(pin) for pin in found]
+def pins(macro: str, found: list[Found], confirmed: Mapping[str, str] | None = None) -> tuple[list[str], int]:
+    """The lines of a file of pins, and how many pins are not recognised. What somebody confirms is a kind for a pin."""
+    guesses = [guess(pin, confirmed) for pin in found]
     named_by_addresses(guesses)
     named_by_ways(guesses)
     ports = ports_of(guesses)
@@ -147,7 +152,7 @@ def pins(macro: str, found: list[Found]) -> tuple[list[str], int]:
             left.append(open_line(one.pin))
             continue
         if common:
-            lines.append(f"clock2 {one.pin.name}")
+            lines.append(f"{UNSURE if one.by_name else ''}clock2 {one.pin.name}")
             continue
         if split and one.kind == "addr":
             one.kind = "waddr" if one.port == ports[0] else "raddr"
