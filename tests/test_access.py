@@ -100,21 +100,23 @@ class Logs(unittest.TestCase):
             return read_log(str(path), memory())
 
     def test_entries_and_more(self) -> None:
-        entries, more = self.read("note\ncycle 7 returned 4\nread cycle 9 expected 5 returned D\nmore\n")
-        self.assertEqual(([(entry.cycle, entry.word) for entry in entries], more), ([(7, 4), (9, 13)], True))
+        entries, more = self.read("note\ncycle 7 expected 0 returned 4\nread cycle 9 expected 5 returned D\nmore\n")
+        self.assertEqual((entries, more), ([Entry(7, 0, 4), Entry(9, 5, 13)], True))
 
     def test_the_last_word_of_a_log_is_whole(self) -> None:
         with tempfile.TemporaryDirectory() as folder:
             path = pathlib.Path(folder) / "log"
-            path.write_text("cycle 7 returned f8\ncycle 9 returned 0f")
-            self.assertEqual(read_log(str(path), plain("m", 8))[0], [Entry(7, 0xF8), Entry(9, 0xF)])
-            path.write_text("cycle 7 returned f8\ncycle 9 returned f")
+            path.write_text("cycle 7 expected f0 returned f8\ncycle 9 expected 0 returned 0f")
+            self.assertEqual(read_log(str(path), plain("m", 8))[0], [Entry(7, 0xF0, 0xF8), Entry(9, 0, 0xF)])
+            path.write_text("cycle 7 expected f0 returned f8\ncycle 9 expected 0 returned f")
             with self.assertRaisesRegex(ToolError, "the text ends within the word f"):
                 read_log(str(path), plain("m", 8))
 
     def test_what_is_no_log(self) -> None:
-        twice, cut = "cycle 7 returned 4\ncycle 7 returned 4\n", "cycle 7 returned 4\ncycle 9 retur"
-        for text in (twice, cut, "", "fail 1\n", "cycle 7 returned 14\n", "cycle x returned 4\n"):
+        entry, same = "cycle 7 expected 0 returned 4\n", "cycle 7 expected 4 returned 4\n"
+        twice, cut, old = entry + entry, entry + "cycle 9 expected 0 retur", "cycle 7 returned 4\n"
+        wide = [entry.replace(word, "14") for word in ("4", " 0")]
+        for text in (twice, cut, "", "fail 1\n", *wide, entry.replace("7", "x"), same, old):
             with self.assertRaises(ToolError):
                 self.read(text)
 

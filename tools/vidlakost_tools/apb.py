@@ -5,6 +5,7 @@ import dataclasses
 
 from vidlakost_tools.access_bench import most, testbench
 from vidlakost_tools.access_block import Port, Target, extended, header, inside, links, zero
+from vidlakost_tools.bench_end import FINISH
 
 
 @dataclasses.dataclass
@@ -192,6 +193,7 @@ def system_rdl(target: Target) -> str:
 
 BODY = """
   reg wrong;
+  integer waited_for;
   reg [31:0] heard;
   task transfer(input [11:0] where, input is_write, input [31:0] data);
     begin
@@ -203,7 +205,12 @@ BODY = """
       @(posedge pclk);
       #1 penable = 1'b1;
       @(negedge pclk);
-      while (!pready) @(negedge pclk);
+      waited_for = 0;
+      while (pready !== 1'b1) begin
+        @(negedge pclk);
+        waited_for = waited_for + 1;
+        if (waited_for > 1000) $fatal(1, "{name}: pready did not come at %h", where);
+      end
       heard = prdata;
       wrong = pslverr;
       @(posedge pclk);
@@ -214,19 +221,19 @@ BODY = """
   task put(input [11:0] where, input [31:0] data);
     begin
       transfer(where, 1'b1, data);
-      if (wrong) $fatal(1, "{name}: a write to %h is refused", where);
+      if (wrong !== 1'b0) $fatal(1, "{name}: a write to %h is refused", where);
     end
   endtask
   task get(input [11:0] where);
     begin
       transfer(where, 1'b0, 32'd0);
-      if (wrong) $fatal(1, "{name}: a read of %h is refused", where);
+      if (wrong !== 1'b0) $fatal(1, "{name}: a read of %h is refused", where);
     end
   endtask
   task refused(input [11:0] where, input is_write);
     begin
       transfer(where, is_write, 32'hffffffff);
-      if (!wrong) $fatal(1, "{name}: a transfer to %h is not refused", where);
+      if (wrong !== 1'b1) $fatal(1, "{name}: a transfer to %h is not refused", where);
     end
   endtask
 
@@ -240,13 +247,13 @@ BODY = """
     refused(12'h004, 1'b1);
     refused(12'h010, 1'b1);
     get(12'h004);
-    if (heard != 32'd0) $fatal(1, "{name}: the state is %h before the start", heard);
+    if (heard !== 32'd0) $fatal(1, "{name}: the state is %h before the start", heard);
     for (round = 0; round < 2; round = round + 1) begin
       // the second start comes right behind the end of the first
       put(12'h000, 32'd1);
       waited = 0;
       heard = 32'd0;
-      while (!heard[1]) begin
+      while (heard[1] !== 1'b1) begin
         get(12'h004);
         waited = waited + 1;
         if (waited > {most}) $fatal(1, "{name}: done did not come");
@@ -259,7 +266,7 @@ BODY = """
 {words}      told(round);
       put(12'h000, 32'd0);
     end
-    $finish;
+    """ + FINISH + """
   end
 """
 

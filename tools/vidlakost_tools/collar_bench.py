@@ -1,6 +1,7 @@
 """The testbench of a collar: it uses the chip's port, lane by lane, runs the self-test, and plants what it has to find."""
 from __future__ import annotations
 
+from vidlakost_tools.bench_end import FINISH, over
 from vidlakost_tools.collar_lanes import spread
 from vidlakost_tools.collar_text import FOOT, HEAD, MARK, PLANTED, POWER, has_other_lanes, last_phase
 from vidlakost_tools.macro_pins import Macro, Pin, Word
@@ -10,7 +11,7 @@ BENCH = """{mark} collar: a testbench of {name}_collar. It uses the chip's port,
 // with +planted it runs the self-test once for each fault that is planted, and each has to be found. An X on fail is a failure.
 `define {planted}
 {head}module {name}_collar_tb;
-  reg clk = 1'b0;
+{over}  reg clk = 1'b0;
   initial forever #5 clk = ~clk;
   reg test = 1'b0;
   reg [2:0] planted = 3'd0;
@@ -52,7 +53,7 @@ BENCH = """{mark} collar: a testbench of {name}_collar. It uses the chip's port,
       repeat (4) @(negedge clk);
 {again}
     end
-    $finish;
+    """ + FINISH + """
   end
 endmodule
 {foot}"""
@@ -300,6 +301,7 @@ class Bench:
             head=HEAD,
             foot=FOOT,
             planted=PLANTED,
+            over=over(f"{name}_collar_tb"),
             name=name,
             declared="\n".join([*shared([self.macro]), *self.declared()]),
             power=self.power(),

@@ -7,15 +7,16 @@ import re
 
 from vidlakost_tools.access_bench import most
 from vidlakost_tools.access_block import Port, Target, header, links, model_links
+from vidlakost_tools.bench_end import FINISH, over, planted
 from vidlakost_tools.memory import Memory
-from vidlakost_tools.text import lines_of, read_text
+from vidlakost_tools.text import stream
 from vidlakost_tools.tool import ToolError
 from vidlakost_tools.verilog import ranged
 
 LOG = """// The first {depth} wrong reads of the self-test of {name}: a comparator beside it. In the cycle of a read
 // `wdata` has the word that it expects, which has to stand on rdata {latency} cycles later.
 //   test       as that of {name}_access; 0 clears the log
-//   pick       which entry stands on cycle and word, the first one is 0
+//   pick       which entry stands on cycle, expected and word, the first one is 0
 //   count      how many entries there are
 //   more       wrong reads came when the log was full"""
 
@@ -35,6 +36,7 @@ def block(memory: Memory, depth: int) -> str:
         Port("output", "count", counts),
         Port("output", "more"),
         Port("output", "cycle", 32),
+        Port("output", "expected", memory.bits),
         Port("output", "word", memory.bits),
     ]
     stages = range(1, memory.latency + 1)
@@ -48,10 +50,12 @@ def block(memory: Memory, depth: int) -> str:
         "  reg [31:0] now;",
         *(f"  reg reads_{stage};\n  reg {word}want_{stage};" for stage in stages),
         f"  reg [31:0] cycles [0:{(1 << size) - 1}];",
+        f"  reg {word}wanted [0:{(1 << size) - 1}];",
         f"  reg {word}words [0:{(1 << size) - 1}];",
         "  wire differs;",
         f"  assign differs = reads_{memory.latency} & (rdata != want_{memory.latency});",
         "  assign cycle = cycles[pick];",
+        "  assign expected = wanted[pick];",
         "  assign word = words[pick];",
         "  always @(posedge clk) begin",
         *moved,
@@ -63,6 +67,7 @@ def block(memory: Memory, depth: int) -> str:
         f"      if (count == {counts}'d{depth}) more <= 1'b1;",
         "      else begin",
         f"        cycles[{place}] <= now;",
+        f"        wanted[{place}] <= want_{memory.latency};",
         f"        words[{place}] <= rdata;",
         f"        count <= count + {counts}'d1;",
         "      end",
@@ -77,31 +82,23 @@ def block(memory: Memory, depth: int) -> str:
 BENCH = """// Runs the self-test of {name} and prints its log, as `vidlakost bitmap` reads it.
 //   +planted +address=A +bit=B +value=V   a bit of a word is stuck at V (0 where nothing is said of a number)
 module {name}_log_tb;
-  reg clk = 1'b0;
+{over}  reg clk = 1'b0;
   initial forever #5 clk = ~clk;
   reg test = 1'b0;
   wire done;
   wire fail;
-{wires}  reg planted = 1'b0;
-  reg [3:0] at_unit = 4'd0;
-  reg [15:0] at_address = 16'd0;
-  reg [5:0] at_bit = 6'd0;
-  reg at_value = 1'b0;
-  reg {size}pick = {size_bits}'d0;
+{wires}{planted}  reg {size}pick = {size_bits}'d0;
   wire {counts}count;
   wire more;
   wire [31:0] cycle;
+  wire {word}expected;
   wire {word}word;
   integer waited;
   {name}_bist dut(.clk(clk), .reset(!test), {ports}, .done(done), .fail(fail));
   {name}_log log(.clk(clk), .test(test), .en(en), .we(we), .wdata(wdata), .rdata(rdata), .pick(pick), .count(count),
-    .more(more), .cycle(cycle), .word(word));
+    .more(more), .cycle(cycle), .expected(expected), .word(word));
 {model}
   initial begin
-    planted = $test$plusargs("planted") != 0;
-    if ($value$plusargs("address=%d", at_address) == 0) at_address = 16'd0;
-    if ($value$plusargs("bit=%d", at_bit) == 0) at_bit = 6'd0;
-    if ($value$plusargs("value=%d", at_value) == 0) at_value = 1'b0;
     repeat (4) @(negedge clk);
     test = 1'b1;
     waited = 0;
@@ -112,13 +109,14 @@ module {name}_log_tb;
     end
     @(negedge clk);
     if (fail !== (count != {counts_bits}'d0)) $fatal(1, "{name}: fail is %b, and the log has %0d entries", fail, count);
+    if (fail !== planted) $fatal(1, "{name}: fail is %b, and %0d bits are stuck", fail, planted);
     for (waited = 0; waited < {{{pad}'d0, count}}; waited = waited + 1) begin
       pick = waited[{size_top}:0];
-      #1 $display("cycle %0d returned %h", cycle, word);
+      #1 $display("cycle %0d expected %h returned %h", cycle, expected, word);
     end
     if (more) $display("more");
     $display("fail %b", fail);
-    $finish;
+    """ + FINISH + """
   end
 endmodule
 """
@@ -130,6 +128,8 @@ def bench(target: Target, depth: int) -> str:
     size, counts = max(1, (depth - 1).bit_length()), depth.bit_length()
     return BENCH.format(
         name=memory.name,
+        over=over(f"{memory.name}_log_tb"),
+        planted=planted(f"{memory.name}_log_tb", [(memory.words, memory.bits)]),
         wires="".join(f"  wire {ranged(port.width)}{port.name};\n" for port in target.ports()),
         size=ranged(size),
         size_bits=size,
@@ -147,32 +147,47 @@ def bench(target: Target, depth: int) -> str:
 # ---- the text of a log
 
 
+# how many entries a log may have, and how long it may be
+MOST = 1 << 20
+LOG_BYTES = 1 << 26
+# the start of an entry is short, so that a long line is looked at once
+ENTRY = re.compile(r"\bcycle ([0-9]{1,10}) expected ([0-9a-fA-F]{1,16}) returned ([0-9a-fA-F]{1,16})\b")
+
+
 @dataclasses.dataclass
 class Entry:
+    """A wrong read: its cycle, and the words that were expected and read."""
+
     cycle: int
+    expected: int
     word: int
 
 
 def read_log(path: str, memory: Memory) -> tuple[list[Entry], bool]:
-    """The entries of a log, and whether more came. A line has `cycle C` and `returned W`; other lines are left. They come in
+    """The entries of a log, and whether more came. A line has `cycle C expected X returned W`; other lines are left. They come in
     the order of their cycles, and the last one may be cut off where a run was ended."""
     entries: list[Entry] = []
-    more, text = False, read_text(path)
-    for count, line in enumerate(lines_of(text), 1):
-        match = re.search(r"\bcycle ([0-9]{1,10})\b.*\breturned ([0-9a-fA-F]{1,16})\b", line)
+    more = False
+    for count, line in enumerate(stream(path, LOG_BYTES), 1):
+        match = ENTRY.search(line)
         if match:
-            entry = Entry(int(match[1]), int(match[2], 16))
-            if entry.word >> memory.bits:
-                raise ToolError(f"{path}:{count}: {match[2]} is no word of {memory.bits} bits")
+            entry = Entry(int(match[1]), int(match[2], 16), int(match[3], 16))
+            for word in match.group(2, 3):
+                if int(word, 16) >> memory.bits:
+                    raise ToolError(f"{path}:{count}: {word} is no word of {memory.bits} bits")
+            if entry.expected == entry.word:
+                raise ToolError(f"{path}:{count}: the word that was read is the one that was expected")
             if entries and entry.cycle <= entries[-1].cycle:
                 told = f"cycle {entry.cycle} stands behind cycle {entries[-1].cycle}: is this the log of two runs?"
                 raise ToolError(f"{path}:{count}: {told}")
-            if text.endswith(match[2]) and len(match[2]) < len(memory.digits(0)):
-                raise ToolError(f"{path}:{count}: the text ends within the word {match[2]}")
+            if line.endswith(match[3]) and len(match[3]) < len(memory.digits(0)):
+                raise ToolError(f"{path}:{count}: the text ends within the word {match[3]}")
             entries.append(entry)
+            if len(entries) > MOST:
+                raise ToolError(f"{path}:{count}: these are more than {MOST:,} wrong reads")
         elif re.search(r"\bcycle\b", line):
-            raise ToolError(f"{path}:{count}: an entry is 'cycle C returned W'; the word is hexadecimal")
+            raise ToolError(f"{path}:{count}: an entry is 'cycle C expected X returned W'; the words are hexadecimal")
         more = more or line.strip() == "more"
     if not entries:
-        raise ToolError(f"{path}: no line has 'cycle C returned W'")
+        raise ToolError(f"{path}: no line has 'cycle C expected X returned W'")
     return entries, more

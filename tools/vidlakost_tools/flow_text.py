@@ -6,6 +6,7 @@ import os
 import pathlib
 import re
 
+from vidlakost_tools.memory import Memory
 from vidlakost_tools.soc import Part, Placed, System
 from vidlakost_tools.text import shown
 from vidlakost_tools.tool import ToolError
@@ -23,19 +24,35 @@ LAUNCHER ?= vidlakost
 SIM ?= $(if $(shell command -v iverilog),iverilog,verilator)
 MORE ?=
 SHELL := /bin/bash
+.SHELLFLAGS := -o pipefail -c
+LINTED := $(shell command -v verilator)
+MADE := $(shell command -v yosys)
 
-.PHONY: all reports collars top lint synthesis clean
+.PHONY: all reports collars top lint synthesis clean FORCE
 .DELETE_ON_ERROR:
 
 all: reports collars top lint synthesis
 	@echo "{name}: every step is done"
 
-# in a folder with files.f: the testbench, sound and with what it plants
+# A step is run again unless each file that it reads or writes is as it was when the step was done, whatever its date: beside
+# the step $(1) stand the sums of the files $(2), and of those that a simulator was seen to read.
+sums = {{ echo "$(SIM) $(MORE) $(LINTED) $(MADE)"; sha256sum -- $(2); \\
+  test ! -e $(1).read || (cd $(dir $(1)) && xargs sha256sum -- <$(notdir $(1)).read); }} 2>&1
+kept = $(call sums,$(1),$(2)) | cmp -s - $(1).sums
+again = rm -f -- $(1).sums $(1).read
+done = $(call sums,$(1),$(2)) >$(1).sums
+
+# in a folder with files.f: the testbench, sound and with what it plants; each passes where its last line says so, and only there
 ifeq ($(SIM),verilator)
-simulate = verilator --binary $(MORE) --top-module $(1) --Mdir built -f files.f >built.log && built/V$(1) && built/V$(1) +planted
+build = verilator --binary $(MORE) --top-module $(1) --Mdir built -f files.f >built.log && \\
+  sed 's/^.* : *//' built/V$(1)__ver.d | xargs -n 1 | grep -v verilator_bin >$(2).read
+run = built/V$(1)
 else
-simulate = iverilog -g2012 $(MORE) -o tb -c files.f && vvp -n tb && vvp -n tb +planted
+build = iverilog -g2012 $(MORE) -M $(2).read -o tb -c files.f
+run = vvp -n tb
 endif
+simulate = $(build) && for more in "" +planted; do \\
+  $(run) $$more | tee run.log && tail -n 1 run.log | grep -qx "$(1): passed" || {{ echo "$(1): not passed"; exit 1; }}; done
 
 reports: {reports} reports.html{testers}
 collars: {collars}
@@ -44,55 +61,62 @@ lint: chip/lint.txt
 synthesis: chip/synthesis.txt
 
 clean:
-	rm -f -- {reports} reports.html{testers} {passed} chip/made chip/passed chip/lint.txt chip/synthesis.txt
+	rm -f -- $(foreach step,{steps},$(step) $(step).sums $(step).read)
 """
 # a report and the controller; that primitives escape is no failure of the step
 COMPILE = """
-{name}.report: {needs}
+{name}.report: FORCE
 	@mkdir -p {folder}
-	@cd $(ROOT) && $(LAUNCHER) compile {march} {memory} {list} $(OUT)/{folder}/{name}_bist.v $(OUT)/$@; test $$? -le 1
+	@$(call kept,$@,{files}) || {{ $(call again,$@); \\
+	  (cd $(ROOT) && $(LAUNCHER) compile {march} {memory} {list} $(OUT)/{folder}/{name}_bist.v $(OUT)/$@; test $$? -le 1) && \\
+	  $(call done,$@,{files}); }}
 """
 COLLAR = """
-{name}/passed: {needs}
-	@cd $(ROOT) && $(LAUNCHER) collar {memories} --macro {pins} $(OUT)/{name}{model} >/dev/null
-	@cd {name} && $(call simulate,{name}_collar_tb)
-	@touch $@
+{name}/passed: {needs} FORCE
+	@$(call kept,$@,{files}) || {{ $(call again,$@); \\
+	  (cd $(ROOT) && $(LAUNCHER) collar {memories} --macro {pins} $(OUT)/{name}{model} >/dev/null) && \\
+	  (cd {name} && $(call simulate,{name}_collar_tb,passed)) && touch $@ && $(call done,$@,{files}); }}
 """
 TOP = """
-chip/made: {needs}
-	@cd $(ROOT) && $(LAUNCHER) top {words} $(OUT)/chip{models} >/dev/null
-	@touch $@
+chip/made: FORCE
+	@mkdir -p chip
+	@$(call kept,$@,{read} {written}) || {{ $(call again,$@); \\
+	  (cd $(ROOT) && $(LAUNCHER) top {words} $(OUT)/chip{models} >/dev/null) && touch $@ && $(call done,$@,{read} {written}); }}
 
-chip/passed: chip/made
-	@cd chip && $(call simulate,{name}_system_tb)
-	@touch $@
+chip/passed: chip/made FORCE
+	@$(call kept,$@,{written}) || {{ $(call again,$@); \\
+	  (cd chip && $(call simulate,{name}_system_tb,passed)) && touch $@ && $(call done,$@,{written}); }}
 
 # what is installed looks at the whole; a model of a vendor's is left out of it
-LINTED := $(shell command -v verilator)
-chip/lint.txt: chip/made
+chip/lint.txt: chip/made FORCE
 ifneq ($(LINTED),)
-	@cd chip && verilator --lint-only -Wall -Wno-DECLFILENAME $(MORE) --top-module {name}_system ../lint.vlt {files} \\
-	  >lint.txt 2>&1 || {{ cat lint.txt; exit 1; }}
+	@$(call kept,$@,lint.vlt {written} $@) || {{ $(call again,$@); \\
+	  (cd chip && verilator --lint-only -Wall -Wno-DECLFILENAME $(MORE) --top-module {name}_system ../lint.vlt {files} \\
+	  >lint.txt 2>&1 || {{ cat lint.txt; exit 1; }}) && $(call done,$@,lint.vlt {written} $@); }}
 else
 	@echo "{name}: verilator is not installed, so nothing is linted" | tee $@
 endif
 
-MADE := $(shell command -v yosys)
-chip/synthesis.txt: chip/made
+chip/synthesis.txt: chip/made FORCE
 ifneq ($(MADE),)
-	@cd chip && yosys -q -p "read_verilog -lib {macros}; read_verilog {modules}; synth -top {name}_system; check -assert; \\
-	  tee -q -o synthesis.txt stat" >synthesis.log 2>&1 || {{ tail -n 5 synthesis.log; exit 1; }}
+	@$(call kept,$@,{written} $@) || {{ $(call again,$@); \\
+	  (cd chip && yosys -q -E synthesis.d -p "read_verilog -lib {macros}; read_verilog {modules}; synth -top {name}_system; check -assert; \\
+	  tee -q -o synthesis.txt stat" >synthesis.log 2>&1 || {{ tail -n 5 synthesis.log; exit 1; }}; \\
+	  sed 's/^[^:]*: //' synthesis.d | xargs -n 1 >synthesis.txt.read) && \\
+	  $(call done,$@,{written} $@); }}
 else
 	@echo "{name}: yosys is not installed, so nothing is synthesized" | tee $@
 endif
 """
 PAGES = """
-reports.html: {reports}
-	@cd $(ROOT) && $(LAUNCHER) report --all {all} --html $(OUT)/$@{memories}
+reports.html: {reports} FORCE
+	@$(call kept,$@,{files} $@) || {{ $(call again,$@); \\
+	  (cd $(ROOT) && $(LAUNCHER) report --all {all} --html $(OUT)/$@{memories}) && $(call done,$@,{files} $@); }}
 """
 TESTER = """
-{page}: {needs}
-	@cd $(ROOT) && $(LAUNCHER) report --tester {chip} --html $(OUT)/$@
+{page}: {needs}FORCE
+	@$(call kept,$@,{files} $@) || {{ $(call again,$@); \\
+	  (cd $(ROOT) && $(LAUNCHER) report --tester {chip} --html $(OUT)/$@) && $(call done,$@,{files} $@); }}
 """
 
 
@@ -143,12 +167,23 @@ class Flow:
         """The folder of a memory: a wide word's high part stands with its low one."""
         return next(placed.word.name for placed in self.collars() if memory in [one.name for one in placed.word.memories])
 
+    def vendor_of(self, placed: Placed) -> str | None:
+        """The file of --model that has a macro."""
+        return next((file for file, modules in self.vendors.items() if placed.macro.name in modules), None)
+
+    def beside(self, path: str) -> str:
+        """A file of --model, whose whole name was looked at, as a recipe names it from the folder that the tool runs in."""
+        return plain(os.path.relpath(path, os.path.realpath(".")))
+
+    def controllers(self, memories: list[Memory]) -> list[str]:
+        return [f"{self.folder_of(memory.name)}/{memory.name}_bist.v" for memory in memories]
+
     def compiled(self) -> list[str]:
         made = []
         for part in self.bases():
             name, march, memory = part.memory.name, plain(part.unit.march), plain(part.unit.memory_file)
-            needs = " ".join(map(self.given, (march, memory, self.list_file)))
-            values = {"march": march, "memory": memory, "list": plain(self.list_file), "needs": needs}
+            files = [*map(self.given, (march, memory, self.list_file)), f"{name}.report", *self.controllers([part.memory])]
+            values = {"march": march, "memory": memory, "list": plain(self.list_file), "files": " ".join(files)}
             made.append(COMPILE.format(name=name, folder=self.folder_of(name), **values))
         return made
 
@@ -156,25 +191,44 @@ class Flow:
         made = []
         for placed in self.collars():
             memories = [part.unit.memory_file for part in self.bases() if part.memory in placed.word.memories]
-            needs = [f"{memory.name}.report" for memory in placed.word.memories] + [self.given(placed.macro.path)]
-            vendor = next((file for file, modules in self.vendors.items() if placed.macro.name in modules), None)
-            values = {"memories": " ".join(memories), "pins": placed.macro.path, "needs": " ".join(needs)}
-            made.append(COLLAR.format(name=placed.word.name, model=f" --model {plain(vendor)}" if vendor else "", **values))
+            name, vendor = placed.word.name, self.vendor_of(placed)
+            model = self.given(self.beside(vendor)) if vendor else f"{name}/{placed.macro.name}.v"
+            own = [f"{name}/{file}" for file in (f"{name}_collar.v", f"{name}_collar_tb.sv", "files.f")]
+            files = [*map(self.given, [*memories, placed.macro.path]), *own, model, *self.controllers(placed.word.memories)]
+            values = {
+                "memories": " ".join(memories),
+                "pins": placed.macro.path,
+                "needs": " ".join(f"{memory.name}.report" for memory in placed.word.memories),
+                "files": " ".join(files),
+                "model": f" --model {self.beside(vendor)}" if vendor else "",
+            }
+            made.append(COLLAR.format(name=name, **values))
         return made
+
+    def inputs(self) -> list[str]:
+        """What describes the chip, as the makefile names it."""
+        described = [file for part in self.bases() for file in (part.unit.march, part.unit.memory_file)]
+        return list(dict.fromkeys(map(self.given, [self.chip_file, *self.pins, *described])))
 
     def whole(self) -> str:
         """The top, its test, and what other tools say of it."""
-        system, words = self.system, [self.chip_file, *self.pins]
-        files = [part.unit.march for part in self.bases()] + [part.unit.memory_file for part in self.bases()]
-        needs = " ".join(dict.fromkeys(map(self.given, [*words, *files])))
+        system, vendors = self.system, [self.given(self.beside(file)) for file in self.vendors]
         known = {name for modules in self.vendors.values() for name in modules}
-        own = dict.fromkeys(placed.macro.name for placed in system.collars if placed.macro.name not in known)
-        macros = [*(f"{name}.v" for name in own), *self.vendors]
-        chips = [f"{system.name_of(number)}.v" for number in range(len(system.chips))]
-        modules = [f"{system.name}_system.v", *(f"{placed.word.name}_collar.v" for placed in self.collars()), *chips]
-        models = "".join(f" --model {plain(file)}" for file in self.vendors)
-        files_of = {"macros": " ".join(macros), "modules": " ".join(modules), "files": " ".join([*modules, *macros])}
-        return TOP.format(name=system.name, words=" ".join(words), needs=needs, models=models, **files_of)
+        own = [f"{name}.v" for name in dict.fromkeys(placed.macro.name for placed in system.collars) if name not in known]
+        names = [system.name_of(number) for number in range(len(system.chips))]
+        modules = [f"{system.name}_system.v", *(f"{placed.word.name}_collar.v" for placed in self.collars()), *(f"{name}.v" for name in names)]
+        written = [*modules, *own, f"{system.name}_system_tb.sv", "files.f", *(f"{name}.chip" for name in names if system.is_list)]
+        macros = [*own, *(os.path.relpath(file, os.path.realpath(self.folder / "chip")) for file in self.vendors)]
+        return TOP.format(
+            name=system.name,
+            words=" ".join([self.chip_file, *self.pins]),
+            read=" ".join([*self.inputs(), *vendors]),
+            written=" ".join([*(f"chip/{name}" for name in written), *vendors]),
+            models="".join(f" --model {self.beside(file)}" for file in self.vendors),
+            macros=" ".join(macros),
+            modules=" ".join(modules),
+            files=" ".join([*modules, *macros]),
+        )
 
     def chips(self) -> list[tuple[str, str]]:
         """The pages for a tester, and the chip file of each."""
@@ -185,27 +239,33 @@ class Flow:
 
     def pages(self) -> str:
         reports = [f"{part.memory.name}.report" for part in self.bases()]
-        memories = "".join(f" --memory {part.unit.memory_file}" for part in self.bases())
+        memories = [part.unit.memory_file for part in self.bases()]
         every = " ".join(f"$(OUT)/{report}" for report in reports)
-        text = PAGES.format(reports=" ".join(reports), all=every, memories=memories)
+        files = " ".join([*reports, *map(self.given, memories)])
+        options = "".join(f" --memory {file}" for file in memories)
+        text = PAGES.format(reports=" ".join(reports), all=every, memories=options, files=files)
         for page, chip in self.chips():
-            needs = "chip/made" if self.system.is_list else self.given(chip)
-            text += TESTER.format(page=page, chip=chip, needs=needs)
+            read = [*self.inputs(), *([f"chip/{pathlib.PurePath(chip).name}"] if self.system.is_list else [])]
+            needs = "chip/made " if self.system.is_list else ""
+            text += TESTER.format(page=page, chip=chip, needs=needs, files=" ".join(read))
         return text
 
     def text(self) -> str:
         """The makefile."""
         passed = " ".join(f"{placed.word.name}/passed" for placed in self.collars())
+        reports = " ".join(f"{part.memory.name}.report" for part in self.bases())
+        testers = "".join(f" {page}" for page, _ in self.chips())
+        steps = f"{reports} reports.html{testers} {passed} chip/made chip/passed chip/lint.txt chip/synthesis.txt"
         head = HEAD.format(
             mark=MARK,
             name=self.system.name,
             chip=plain(self.chip_file),
             root=self.root,
             out=self.out,
-            reports=" ".join(f"{part.memory.name}.report" for part in self.bases()),
-            testers="".join(f" {page}" for page, _ in self.chips()),
+            reports=reports,
+            testers=testers,
             collars=passed,
-            passed=passed,
+            steps=steps,
         )
         return "".join([head, *self.compiled(), *self.collared(), self.whole(), self.pages()])
 

@@ -4,6 +4,7 @@ from __future__ import annotations
 
 import dataclasses
 
+from vidlakost_tools.bench_end import FINISH, over
 from vidlakost_tools.collar_text import FOOT, HEAD, MARK
 from vidlakost_tools.march import Element
 from vidlakost_tools.memory import Memory
@@ -127,6 +128,7 @@ def text(elements: list[Element], memory: Memory, holds: list[Hold]) -> str:
         mark=MARK,
         head=HEAD,
         foot=FOOT,
+        over=over(f"{memory.name}_hold_tb"),
         name=memory.name,
         word=ranged(memory.bits),
         address=ranged(memory.width),
@@ -141,7 +143,7 @@ def text(elements: list[Element], memory: Memory, holds: list[Hold]) -> str:
 BENCH = """{mark} hold: a testbench of {name}_hold, which resumes it after some cycles of each hold, looks whether its
 // clock stood and the memory was left alone, and ends with a status. With +planted a cell loses its content in each hold.
 {head}module {name}_hold_tb;
-  reg clk = 1'b0;
+{over}  reg clk = 1'b0;
   initial forever #5 clk = ~clk;
   reg reset = 1'b1;
   reg resume = 1'b0;
@@ -199,7 +201,7 @@ BENCH = """{mark} hold: a testbench of {name}_hold, which resumes it after some 
     if (fail !== planted) $fatal(1, "{name}: fail is %b", fail);
     if (planted) $display("{name}: what is lost in a hold is found");
     else $display("{name}: passes, and was held %0d times", holds);
-    $finish;
+    """ + FINISH + """
   end
 endmodule
 {foot}"""
@@ -217,6 +219,7 @@ def bench(elements: list[Element], memory: Memory, holds: list[Hold]) -> str:
         mark=MARK,
         head=HEAD,
         foot=FOOT,
+        over=over(f"{memory.name}_hold_tb"),
         name=memory.name,
         word=ranged(memory.bits),
         address=ranged(memory.width),

@@ -2,6 +2,7 @@
 from __future__ import annotations
 
 import re
+from typing import Mapping
 
 from vidlakost_tools.liberty import Found
 from vidlakost_tools.macro_pins import WIDEST
@@ -20,8 +21,10 @@ OTHER = re.compile(rf'{COMMENT}|/\*.*|{ATTRIBUTE}|"(?:\\.|[^"\\\n])*"|{DIRECTIVE
 class Ports:
     """Reads the head of a module, and in the older style the declarations behind it."""
 
-    def __init__(self, path: str, text: str, module: str):
+    def __init__(self, path: str, text: str, module: str, given: Mapping[str, int] | None = None):
         self.path, self.module = path, module
+        # the parameters that whoever uses the module gives it
+        self.given = given or {}
         plain = OTHER.sub(" ", text)
         self.words = [match[0] for match in LEXEME.finditer(plain) if match.lastgroup]
         heads = [at for at, word in enumerate(self.words) if word in ("module", "macromodule")]
@@ -72,7 +75,7 @@ class Ports:
         words = self.until(",", end)
         if "=" in words:
             at = words.index("=")
-            number = self.value(words[at + 1 :])
+            number = self.given.get(words[at - 1], self.value(words[at + 1 :]))
             if number is not None:
                 self.numbers[words[at - 1]] = number
 

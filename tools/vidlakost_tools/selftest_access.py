@@ -28,9 +28,12 @@ FILES.update(
         "cross.chip": "chip 1\nname cross\nbudget 3\nunit 2 access.m late.mem\n",
         "late_model.v": LATE,
         "a.vhd": "module a(input clk, output b);\n  assign b = 1'h0;\nendmodule\n",
-        "wrong.log": "cycle 20 returned 0x1g\n",
+        "wrong.log": "cycle 20 expected 0 returned 0x1g\n",
         "none.log": "fail 1\n",
-        "right.log": "cycle 13 returned 15\n",
+        "made.log": "cycle 13 expected 15 returned 14\n",
+        "old.log": "cycle 13 returned 15\n",
+        "turned.mem": LATE.replace("polarity 15", "polarity 0a"),
+        "right.log": "cycle 13 expected 0a returned 15\n",
         "two.log": "module a(input clk);\nendmodule\nmodule b(input clk);\nendmodule\n",
         "sized.report": SIZED,
         "again.report": SIZED.replace("backgrounds 1 commands 8", "backgrounds 4 commands 32"),
@@ -38,7 +41,21 @@ FILES.update(
         "judged.report": "march {any(w0);up(r0)}\ncovered <0/1/-> SF\nclass SF 1 covered 1\ntotal 1 covered 1 escapes 0\n",
     }
 )
+# the register of pair, whose state is the last digit
+TDR = "0" * 12 + "{}"
+READ_AT = ["tools/locate", "c.m", "s.mem", "6"]
 CALLS = [
+    ("", [*READ_AT, "0", "1"], 0, "bits 0\n", ""),
+    ("", [*READ_AT, "0", "0"], 2, "", "locate: 0 is expected and returned, so this read is not wrong"),
+    ("", [*READ_AT, "0", "1", "--mux", "3"], 2, "", "locate: --mux 3 does not divide the 4 words of s"),
+    ("", ["tools/locate", "c.m", "s.mem", "--line", "unknown cycle 5 port bogus"], 2, "", "locate: 'unknown cycle 5 port bogus'"),
+    ("", ["tools/locate", "c.m", "s.mem", "--line", "differs cycle 5 port we"], 2, "", "locate: 'differs cycle 5 port we' is no"),
+    ("", ["tools/locate", "c.m", "s.mem", "--line", "unknown cycle 5 port we"], 0, "operation 0 r0", ""),
+    ("", ["tools/locate", "pair.chip", "--chip", "--tdr", "3"], 2, "", "locate: the register is hexadecimal and has 13 digits"),
+    ("", ["tools/locate", "pair.chip", "--chip", "--tdr", "0" + TDR.format(3)], 2, "", "locate: the register is hexadecimal and"),
+    ("", ["tools/bitmap", "made.log", "access.m", "late.mem"], 0, "cell: 1 cell in 1 read", ""),
+    ("", ["tools/bitmap", "made.log", "access.m", "turned.mem"], 2, "", "bitmap: in cycle 13 the expected word is 15"),
+    ("", ["tools/bitmap", "old.log", "access.m", "late.mem"], 2, "", "bitmap: old.log:1: an entry is 'cycle C expected X"),
     ("", ["tools/access", "late.mem", "acc", "--apb", "--jtag", "--march", "access.m"], 0, "acc/late_tap.v", ""),
     ("", ["tools/access", "pair.chip", "acc2", "--apb", "--log", "4"], 0, "acc2/late_log.v", ""),
     ("", ["tools/access", "odd.mem", "acc3", "--jtag", "--march", "access.m"], 0, "acc3/odd$.svf", "access: odd$ is no name in BSDL"),
@@ -56,16 +73,16 @@ CALLS = [
     ("", ["tools/locate", "pair.chip", "--chip", "20", "011", "1", "2"], 2, "", "locate: FAILBITS has 2 digits"),
     ("", ["tools/locate", "pair.chip", "--chip", "20", "00"], 2, "", "locate: FAILBITS has 2 digits"),
     ("", ["tools/locate", "pair.chip", "--chip", "9999", "01"], 2, "", "locate: in cycle 9999 no answer of a failing unit"),
-    ("", ["tools/locate", "pair.chip", "--chip", "--tdr", "3"], 0, "no wrong read was seen", ""),
-    ("", ["tools/locate", "pair.chip", "--chip", "--tdr", "1"], 0, "not done: the test still runs", ""),
-    ("", ["tools/locate", "pair.chip", "--chip", "--tdr", "2"], 2, "", "locate: start is 0 there"),
-    ("", ["tools/locate", "pair.chip", "--chip", "--tdr", "b"], 2, "", "locate: the bits of the state disagree"),
+    ("", ["tools/locate", "pair.chip", "--chip", "--tdr", TDR.format(3)], 0, "no wrong read was seen", ""),
+    ("", ["tools/locate", "pair.chip", "--chip", "--tdr", TDR.format(1)], 0, "not done: the test still runs", ""),
+    ("", ["tools/locate", "pair.chip", "--chip", "--tdr", "0x" + TDR.format(2)], 2, "", "locate: start is 0 there"),
+    ("", ["tools/locate", "pair.chip", "--chip", "--tdr", TDR.format("b")], 2, "", "locate: the bits of the state disagree"),
     ("", ["tools/locate", "access.m", "late.mem", "--tdr", "f" * 30], 2, "", "locate: the register is hexadecimal"),
     ("", ["tools/locate", "access.m", "late.mem", "--tdr", "zz"], 2, "", "locate: the register is hexadecimal"),
     ("", ["tools/locate", "access.m", "late.mem", "14", "--at", "done"], 2, "", "locate: behind --at stands fail alone"),
-    ("", ["tools/bitmap", "wrong.log", "access.m", "late.mem"], 2, "", "bitmap: wrong.log:1: an entry is 'cycle C returned W'"),
+    ("", ["tools/bitmap", "wrong.log", "access.m", "late.mem"], 2, "", "bitmap: wrong.log:1: an entry is 'cycle C expected X returned W'"),
     ("", ["tools/bitmap", "none.log", "access.m", "late.mem"], 2, "", "bitmap: none.log: no line has"),
-    ("", ["tools/bitmap", "right.log", "access.m", "late.mem"], 2, "", "bitmap: in cycle 13 15 is the word that the march expects"),
+    ("", ["tools/bitmap", "right.log", "access.m", "late.mem"], 2, "", "bitmap: in cycle 13 the expected word is 0a, and this march"),
     ("", ["tools/bitmap", "right.log", "access.m", "late.mem", "--mux", "3"], 2, "", "bitmap: --mux 3 does not divide the 8 words"),
     ("", ["tools/bitmap", "right.log", "pair.chip", "--unit", "2"], 2, "", "bitmap: --unit is 0 to 1, and not 2"),
     ("", ["tools/bitmap", "right.log", "access.m", "late.mem", "--csv", "late.mem"], 2, "", "bitmap: 'late.mem' is what is read"),
@@ -144,7 +161,7 @@ def in_icarus(bench: Bench) -> None:
     found(bench, "icarus", "iverilog -g2012 -Wall -o tb {files} && printf 'exec vvp -n tb \"$@\"' >run && chmod +x run && ./run")
     files = "late_share_tb.sv late_share.v late_share_model.v late_bist.v"
     done = bench.run(["bash", "-c", f"cd icarus && iverilog -g2012 -Wall -o tb {files} && vvp -n tb +planted +unit=1 +value=1"])
-    bench.is_so(done.stdout == "fail 10\n" and not done.stderr, f"share: {done.stdout}{done.stderr}")
+    bench.is_so(done.stdout == "fail 10\nlate_share_tb: passed\n" and not done.stderr, f"share: {done.stdout}{done.stderr}")
 
 
 def in_ghdl(bench: Bench) -> None:

@@ -80,6 +80,7 @@ FILES.update(
         "pause.mem": "memory 2\nname p\nwords 5\nbits 3\npause 4\n",
         "mine/both_system.v": "module mine; endmodule\n",
         "few.lib": LIBRARY,
+        "unsure.pins": "macro ram\nclk ck\n  #? en ~ce  # by its name, active low\nwe w\naddr a\nwdata d\nrdata q\n",
         "evil.lib": LIBRARY.replace("pin(sleep)", 'pin("x\nmacro evil")'),
         "cut.lib": LIBRARY[:200],
         "down.lib": LIBRARY.replace("clocked_on : CLK", 'clocked_on : "!CLK"').replace("falling_edge", "rising_edge"),
@@ -130,9 +131,14 @@ CALLS: List[Tuple[str, List[str], int, str, str]] = [
     ("", ["tools/liberty", "few.lib", "RAM", "cells"], 2, "", "liberty: few.lib: there is no cell 'RAM'"),
     ("", ["tools/liberty", "few.lib", "../RAM8X4", "cells"], 2, "", "liberty: '../ram8x4' is no name for a memory"),
     ("", ["tools/liberty", "few.lib", "RAM8X4", "mine", "--name", "mine"], 0, "mine/mine.mem", "liberty: Q"),
-    ("", ["tools/liberty", "--verilog", "header.v", "ram8x4", "header"], 0, "header/ram8x4.mem", ""),
+    ("", ["tools/liberty", "--verilog", "header.v", "ram8x4", "header"], 0, "header/ram8x4.mem", "liberty: 6 of"),
     ("", ["tools/liberty", "--verilog", "hidden.v", "ram4x1", "header"], 2, "", "liberty: hidden.v: there is no module ram4x1"),
     ("", ["tools/liberty", "--verilog", "latin.mem", "a", "header"], 2, "", "liberty: latin.mem: there is no module a"),
+    ("", ["tools/liberty", "few.lib", "RAM8X4", "sure", "--pin", "CSB=~en", "--pin", "WEB=~we"], 0, "sure/", "liberty: Q"),
+    ("", ["tools/liberty", "few.lib", "RAM8X4", "cells", "--pin", "CSB=no"], 2, "", "liberty: --pin names a pin and what it is"),
+    ("", ["tools/liberty", "few.lib", "RAM8X4", "cells", "--pin", "X=en"], 2, "", "liberty: --pin 'X=en': there is no such pin"),
+    ("", ["tools/liberty", "few.lib", "RAM8X4", "cells", "--pin", "Q=en"], 2, "", "liberty: --pin 'Q=en': Q is an output"),
+    ("", ["tools/collar", "s.mem", "--macro", "unsure.pins", "unsure"], 2, "", "collar: unsure.pins:3: this stands on the name"),
     ("", ["tools/liberty", "s.mem", "a", "header"], 2, "", "liberty: s.mem:1: 'library' is missing"),
     ("", ["tools/hold", "hold.m", "pause.mem", "holds"], 0, "holds/p_hold.v\nholds/p_hold.md\nholds/p_hold_tb.sv\n", ""),
     ("", ["tools/hold", "hold.m", "s.mem", "holds"], 0, "holds/s_hold.v", "hold: a pause of 1 cycles: words of reads"),
@@ -276,9 +282,9 @@ def odd_names(bench: Bench) -> None:
     done = bench.run(["tools/top", "inner.chip", *(f"{name}.pins" for name in INNER), "inner"])
     bench.is_so(not done.returncode, f"top: {done.stderr}")
     if shutil.which("iverilog"):
-        call = "cd inner && iverilog -g2012 -Wall -Wno-timescale -o tb -c files.f && vvp -n tb && vvp -n tb +planted | tail -n 1"
+        call = "cd inner && iverilog -g2012 -Wall -Wno-timescale -o tb -c files.f && vvp -n tb && vvp -n tb +planted | tail -n 2"
         done = bench.run(["bash", "-c", call])
-        told = "inner: passes\ninner: a wrong bit at done is found\n"
+        told = "inner: passes\ninner_system_tb: passed\ninner: a wrong bit at done is found\ninner_system_tb: passed\n"
         bench.is_so(done.stdout == told and not done.stderr, f"top: {done.stdout}{done.stderr}")
 
 
@@ -331,7 +337,8 @@ def holds(bench: Bench) -> None:
         bench.run(["tools/hold", march, "pause.mem", "held"])
         bench.run(["./vidlakost", "compile", march, "pause.mem", "empty.list", "held/p_bist.v", "report"])
         done = bench.run(["bash", "-c", build])
-        told = f"p: passes, and was held {count} times\np: what is lost in a hold is found\n"
+        over = "p_hold_tb: passed\n"
+        told = f"p: passes, and was held {count} times\n{over}p: what is lost in a hold is found\n{over}"
         bench.is_so(done.stdout == told and not done.stderr, f"hold of {march}: {done.stdout}{done.stderr}")
 
 

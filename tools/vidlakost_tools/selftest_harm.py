@@ -107,8 +107,8 @@ def named_programs(bench: Bench) -> None:
 
 def missing_tools(bench: Bench) -> None:
     """Without a tool that is asked, or with one that says nothing, no answer is given; and without memory a line."""
-    silent = bench.folder / "silent"
-    silent.mkdir(exist_ok=True)
+    silent = bench.folder / "mute"
+    silent.mkdir()
     for name in ("bash", "env", "python3", "sh"):
         (silent / name).symlink_to(shutil.which(name) or name)
     told = "interop: none of iverilog, verilator and yosys is on the PATH"
@@ -121,7 +121,29 @@ def missing_tools(bench: Bench) -> None:
         bench.look(call, 1, "", "summary: yosys fails: no reason is given", PATH=path, SILENT=status)
     (silent / "hungry").write_text(f"#!{shutil.which('python3')}\nimport vidlakost_tools\nraise MemoryError\n")
     (silent / "hungry").chmod(0o755)
-    bench.look(["silent/hungry"], 9, "", "vidlakost: there was no memory", PYTHONPATH=str(bench.folder / "tools"))
+    bench.look(["mute/hungry"], 9, "", "vidlakost: there was no memory", PYTHONPATH=str(bench.folder / "tools"))
 
 
-PARTS = (named_files, named_programs, missing_tools)
+# ---- what is left
+
+
+def left(bench: Bench) -> None:
+    """Of two files none is written where one can't be; and what a kill left is swept by the next call, where it is old and
+    ours."""
+    call = ["tools/bitmap", "made.log", "access.m", "late.mem"]
+    bench.look([*call, "--csv", "map.csv", "--svg", "nowhere/map.svg"], 2, "", "bitmap: nowhere/map.svg: No such file")
+    bench.is_so(not (bench.folder / "map.csv").exists(), "a table was written though the picture can't be")
+    swept, kept = (".vidlakost-abcd_123", ".vidlakost-1000000000000000000"), (".vidlakost-abcd_124", ".vidlakost-mine.txt")
+    folder = bench.folder / "left"
+    folder.mkdir()
+    for name in (*swept, *kept):
+        (folder / name).write_text("")
+    for name in (*swept, ".vidlakost-mine.txt"):
+        os.utime(folder / name, (1, 1))
+    (folder / ".vidlakost-linked_1").symlink_to(bench.folder / "c.m")
+    bench.look([*call, "--csv", "left/map.csv"], 0, "cell: 1 cell", "")
+    found = sorted(os.listdir(folder))
+    bench.is_so(set(found) == {*kept, ".vidlakost-linked_1", "map.csv"}, f"beside a file that is written there are {found}")
+
+
+PARTS = (named_files, named_programs, missing_tools, left)

@@ -3,6 +3,7 @@ from __future__ import annotations
 
 from vidlakost_tools.access_bench import most
 from vidlakost_tools.access_block import Port, Target, Unit, header, model, model_links
+from vidlakost_tools.bench_end import FINISH, over, planted
 from vidlakost_tools.memory import Memory
 from vidlakost_tools.verilog import ranged
 
@@ -59,7 +60,7 @@ def block(memory: Memory, count: int) -> str:
 BENCH = """// Runs one self-test of {count} memories.
 //   +planted +unit=U +address=A +bit=B +value=V   a bit of a word of memory U is stuck at V
 module {name}_share_tb;
-  reg clk = 1'b0;
+{over}  reg clk = 1'b0;
   initial forever #5 clk = ~clk;
   reg reset = 1'b1;
   wire done;
@@ -68,21 +69,11 @@ module {name}_share_tb;
   wire we;
   wire {address}addr;
   wire {word}wdata;
-{wires}  reg planted = 1'b0;
-  reg [3:0] at_unit = 4'd0;
-  reg [15:0] at_address = 16'd0;
-  reg [5:0] at_bit = 6'd0;
-  reg at_value = 1'b0;
-  integer waited;
+{wires}{planted}  integer waited;
   {name}_share dut(.clk(clk), .reset(reset), {answers},
     .en(en), .we(we), .addr(addr), .wdata(wdata), .done(done), .fail(fail));
 {model}
   initial begin
-    planted = $test$plusargs("planted") != 0;
-    if ($value$plusargs("unit=%d", at_unit) == 0) at_unit = 4'd0;
-    if ($value$plusargs("address=%d", at_address) == 0) at_address = 16'd0;
-    if ($value$plusargs("bit=%d", at_bit) == 0) at_bit = 6'd0;
-    if ($value$plusargs("value=%d", at_value) == 0) at_value = 1'b0;
     repeat (4) @(negedge clk);
     reset = 1'b0;
     waited = 0;
@@ -93,7 +84,7 @@ module {name}_share_tb;
     end
     if (fail !== (planted ? {one} << at_unit : {zero})) $fatal(1, "{name}: fail is %b", fail);
     $display("fail %b", fail);
-    $finish;
+    """ + FINISH + """
   end
 endmodule
 """
@@ -108,6 +99,8 @@ def bench(memory: Memory, count: int) -> str:
             text = text.replace(f".{name}_{number}({name}_{number})", f".{name}_{number}({name})")
     return BENCH.format(
         name=memory.name,
+        over=over(f"{memory.name}_share_tb"),
+        planted=planted(f"{memory.name}_share_tb", [(memory.words, memory.bits)] * count),
         count=count,
         fails=ranged(count),
         address=ranged(memory.width),

@@ -7,6 +7,7 @@ import dataclasses
 
 from vidlakost_tools import collar_lanes
 from vidlakost_tools.access_block import Port
+from vidlakost_tools.bench_end import FINISH, over
 from vidlakost_tools.collar_bench import Bench, shared
 from vidlakost_tools.collar_text import FOOT, HEAD, MARK, PLANTED, POWER, Names, halves, has_other_lanes, own_ports
 from vidlakost_tools.macro_pins import RESERVED, Pin, bit_of
@@ -230,7 +231,7 @@ BENCH = """{mark} top: a testbench of {name}_system. It ends with a status: the 
 // and has to be found there and nowhere else.
 `define {planted}
 {head}module {name}_system_tb;
-  reg clk = 1'b0;
+{over}  reg clk = 1'b0;
   initial forever #5 clk = ~clk;
   reg test = 1'b0;
   reg [{planted_top}:0] planted = {planted_width}'d0;
@@ -271,7 +272,7 @@ BENCH = """{mark} top: a testbench of {name}_system. It ends with a status: the 
       repeat (4) @(negedge clk);
 {again}
     end
-    $finish;
+    """ + FINISH + """
   end
 endmodule
 {foot}"""
@@ -343,6 +344,7 @@ def bench(system: System) -> str:
     return BENCH.format(
         mark=MARK,
         name=system.name,
+        over=over(f"{system.name}_system_tb"),
         planted=PLANTED,
         head=HEAD,
         foot=FOOT,

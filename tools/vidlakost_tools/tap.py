@@ -6,6 +6,7 @@ import dataclasses
 
 from vidlakost_tools.access_bench import most, testbench
 from vidlakost_tools.access_block import Port, Target, extended, header, inside, links, model_links, zero
+from vidlakost_tools.bench_end import FINISH
 
 IDCODE = 0x10000A01
 
@@ -212,17 +213,17 @@ BENCH = """
     repeat (5) turn(1'b1, 1'b0);
     turn(1'b0, 1'b0);
     shift(32, {length}'d0);
-    if (heard[31:0] != 32'h{identity:08x}) $fatal(1, "{name}: the identity is %h", heard[31:0]);
+    if (heard[31:0] !== 32'h{identity:08x}) $fatal(1, "{name}: the identity is %h", heard[31:0]);
     instruct(4'hf);
     shift(4, {length}'d5);
-    if (heard[3:0] != 4'ha) $fatal(1, "{name}: the bypass gives %b", heard[3:0]);
+    if (heard[3:0] !== 4'ha) $fatal(1, "{name}: the bypass gives %b", heard[3:0]);
     instruct(4'h8);
     for (round = 0; round < 2; round = round + 1) begin
       // the second start comes right behind the end of the first
       shift({length}, {length}'d1);
       waited = 0;
       heard = {length}'d0;
-      while (!heard[1]) begin
+      while (heard[1] !== 1'b1) begin
         shift({length}, {length}'d1);
         waited = waited + 1;
         if (waited > {most}) $fatal(1, "{name}: done did not come");
@@ -237,7 +238,7 @@ BENCH = """
       if (round == 0) $display("tdr {digits}", heard);
       shift({length}, {length}'d0);
     end
-    $finish;
+    """ + FINISH + """
   end
 """
 

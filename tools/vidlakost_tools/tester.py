@@ -24,6 +24,7 @@ def word_of(text: str, bits: int, what: str) -> int:
 
 def told(read: Read, elements: list[Element], memory: Memory, mux: int) -> list[str]:
     """A read in words, with the row of its word in the array."""
+    check_mux(memory, mux)
     lines = visit_lines(read, elements[read.element], memory)
     return [f"{line} row {read.index // mux}" if line.startswith("index ") else line for line in lines]
 
@@ -38,12 +39,18 @@ def bits_told(read: Read, memory: Memory, returned: int, mux: int) -> Iterator[s
     yield f"columns {' '.join(str(bit * mux + read.index % mux) for bit in wrong)}"
 
 
-def check_expected(read: Read, memory: Memory, expected: int) -> None:
+def check_expected(read: Read, memory: Memory, expected: int, where: str = "") -> None:
     if expected != read.expected:
         raise ToolError(
-            f"the expected word is {memory.digits(expected)}, and this march expects {memory.digits(read.expected)} "
+            f"{where}the expected word is {memory.digits(expected)}, and this march expects {memory.digits(read.expected)} "
             "there: another march, memory or cycle?"
         )
+
+
+def check_mux(memory: Memory, mux: int) -> None:
+    """Each row of the array has as many words."""
+    if memory.words % mux:
+        raise ToolError(f"--mux {mux} does not divide the {memory.words} words of {memory.name}")
 
 
 def failing_units(bits: str, count: int) -> list[int]:
@@ -95,6 +102,9 @@ def of_read(read: Read, elements: list[Element], memory: Memory, words: list[str
 def register_of(target: Target, text: str) -> dict[str, int]:
     """The parts of the register."""
     value = word_of(text, length(target), "the register")
+    digits, wanted = len(re.sub("^0[xX]", "", text)), -(-length(target) // 4)
+    if digits != wanted:
+        raise ToolError(f"the register is hexadecimal and has {wanted} digits, and {shown(text)} has {digits}: is it whole?")
     return {part.name: value >> part.low & (1 << part.width) - 1 for part in parts(target)}
 
 

@@ -1,10 +1,13 @@
-"""Models of macros that somebody else wrote: their files, and which modules are in them."""
+"""Models of macros that somebody else wrote: their files, which modules are in them, and whether their ports have the widths of
+the pins."""
 from __future__ import annotations
 
 import pathlib
 import re
 
-from vidlakost_tools.text import read_described, shown
+from vidlakost_tools.macro_pins import Macro, literal, widths_of
+from vidlakost_tools.port_list import Ports
+from vidlakost_tools.text import SOURCE_BYTES, read_described, shown
 from vidlakost_tools.tool import ToolError
 from vidlakost_tools.verilog import COMMENT
 
@@ -25,11 +28,43 @@ def named(path: str) -> str:
 
 def modules_in(text: str) -> list[str]:
     """The names of the modules of a text, those in comments and in texts in quotes left out."""
-    names = [match["name"] for match in TOKEN.finditer(text) if match["name"]]
-    found = [name for before, name in zip(names, names[1:]) if before in ("module", "macromodule")]
-    # module automatic name
-    return [name for name in found if name not in ("automatic", "static")]
+    found, before = [], ""
+    for name in (match["name"] for match in TOKEN.finditer(text) if match["name"]):
+        # module automatic name
+        if before in ("module", "macromodule") and name not in ("automatic", "static"):
+            found.append(name)
+        before = name
+    return found
 
 
 def modules_of(path: str) -> list[str]:
-    return modules_in(read_described(path))
+    return modules_in(read_described(path, SOURCE_BYTES))
+
+
+# ---- the ports of a model
+
+WAYS = {"rdata": "output", "out": "output", "open": "output", "power": "inout"}
+
+
+def number_of(value: str) -> int | None:
+    """The number of a parameter; None of a text and of any other."""
+    found = literal(value)
+    return found[1] if found else int(value) if re.fullmatch("[0-9]{1,9}", value) else None
+
+
+def refuse_other_ports(macro: Macro, file: str) -> None:
+    """Refuses a model in which a pin is a port of another width or another direction. A width that no number tells is looked at by
+    the collar itself, in its testbench."""
+    given = {name: number for name, value in macro.parameters for number in [number_of(value)] if number is not None}
+    ports = {port.name: port for port in Ports(file, read_described(file, SOURCE_BYTES), macro.name, given).ports()}
+    for pin in macro.pins:
+        for name, width in widths_of(pin):
+            port = ports.get(name)
+            if port is None:
+                continue
+            if width and port.width and port.width != width:
+                told = f"{name} has {port.width} bits in {file}, and {width} by the pins and the description"
+                raise macro.refuse(pin.line, told)
+            way = WAYS.get(pin.kind, "input")
+            if port.way != way and "inout" not in (port.way, way):
+                raise macro.refuse(pin.line, f"{name} is an {port.way} in {file}, and an {way} by this line")
