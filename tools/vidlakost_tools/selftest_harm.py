@@ -1,4 +1,5 @@
-"""What is handed in is neither written over nor run: the cases of `vidlakost selftest` for it."""
+"""What is handed in is neither written over nor run, and is read and told within bounds: the cases of `vidlakost selftest` for
+it."""
 from __future__ import annotations
 
 import os
@@ -146,4 +147,65 @@ def left(bench: Bench) -> None:
     bench.is_so(set(found) == {*kept, ".vidlakost-linked_1", "map.csv"}, f"beside a file that is written there are {found}")
 
 
-PARTS = (named_files, named_programs, missing_tools, left)
+# ---- what is read, and what is said of it
+
+# calls that read a device that never ends
+ENDLESS = [
+    "report {} --json",
+    "trace {}",
+    "bitmap {} access.m late.mem",
+    "liberty {} X made",
+    "collar latency.mem --macro {} made",
+    "access {} made",
+    "turn {}",
+    "plain made.v {}",
+    "audit free.v c.m s.mem --pins {}",
+]
+# calls in which a text of somebody's comes back in a message
+ECHOES = [
+    "judge told.txt tf.list made",
+    "judge c.m told.txt made",
+    "bench c.m told.txt",
+    "chip told.txt made",
+    "check told.txt c.m s.mem",
+    "{}",
+    "--{}",
+    "help {}",
+    "judge {} tf.list made",
+    "judge c.m tf.list {}/x",
+    "trace told.txt",
+    "report --all told.txt --csv",
+    "bitmap told.txt c.m s.mem",
+    "liberty told.txt X made",
+    "collar latency.mem --macro told.txt made",
+    "top told.txt s.pins made",
+    "locate c.m s.mem 6 {} 1",
+    "locate c.m s.mem --line {}",
+    "schedule {}",
+    "explain march {}",
+    "compare tf.list told.txt",
+    "explore --port {}",
+]
+
+
+def bounds(bench: Bench) -> None:
+    """Nothing is read without an end; a log of one long line is read at once; and what is said of hostile bytes has none of them,
+    and is short."""
+    for call in ENDLESS:
+        tool, *words = call.format("/dev/zero").split()
+        if tool not in ("plain", "audit") or shutil.which("yosys"):
+            done = bench.run(["timeout", "60", f"tools/{tool}", *words])
+            bench.is_so(done.returncode == 2 and "the most that is read" in done.stderr, f"{call}: {done.returncode} {done.stderr[-300:]}")
+    (bench.folder / "told.txt").write_text("cycle 1 " * 100000)
+    bench.look(["timeout", "10", "tools/bitmap", "told.txt", "c.m", "s.mem"], 2, "", "bitmap: told.txt:1: an entry is")
+    for harm in ("\x1b[2J\x9b", "x" * 100000):
+        (bench.folder / "told.txt").write_text(harm)
+        for call in ECHOES:
+            done = bench.run(["./vidlakost", *call.format(harm).split()])
+            said = (done.stdout + done.stderr).splitlines()
+            is_plain = all(letter.isprintable() or letter == "\t" for line in said for letter in line)
+            bench.is_so(done.returncode > 0 or "explain" in call, f"{call}: nothing is refused")
+            bench.is_so(is_plain and max(map(len, said)) < 560, f"{call} echoes {max(map(len, said), default=0)}: {done.stderr[-300:]!r}")
+
+
+PARTS = (named_files, named_programs, missing_tools, left, bounds)

@@ -76,11 +76,28 @@ def statements(text: str) -> list[tuple[int, str, str]]:
     return found
 
 
+# how much of a text a message quotes, and how long a line of one is
+QUOTED, LONGEST = 200, 500
+
+
 def shown(text: str) -> str:
-    """A text in quotes with what a terminal would obey made visible."""
-    return "'" + visible(text) + "'"
+    """A text in quotes with what a terminal would obey made visible; of a long one its begin."""
+    return "'" + visible(text[:QUOTED]) + ("'.." if len(text) > QUOTED else "'")
 
 
 def visible(text: str) -> str:
     """A text without what a terminal would obey: each such character as its number."""
     return "".join(letter if letter.isprintable() else f"\\x{ord(letter):02x}" for letter in text)
+
+
+def cut(line: str) -> str:
+    """A line of a message; of a long one its begin and its end."""
+    return line if len(line) <= LONGEST else f"{line[: LONGEST - 100]} .. {line[-90:]}"
+
+
+def harmless(text: str) -> str:
+    """The lines of an answer without what a terminal would obey. Bytes that are no text, as in the name of a folder, stay as they
+    came."""
+    if text.replace("\n", "").replace("\t", "").isprintable():
+        return text
+    return "".join(letter if letter in "\n\t" or "\udc80" <= letter <= "\udcff" else visible(letter) for letter in text)

@@ -14,9 +14,9 @@ import stat
 import sys
 import tempfile
 import time
-from typing import Any, Callable, Mapping
+from typing import Any, Callable, Mapping, TextIO, cast
 
-from vidlakost_tools.text import Path, shown, visible
+from vidlakost_tools.text import Path, cut, harmless, shown, visible
 
 
 # what is begun beside a file, by a tool or by the program, and for how long it may be somebody's who still runs
@@ -79,6 +79,19 @@ def words_of(
     return plain, options
 
 
+class Answers:
+    """Standard output, on which nothing is said that a terminal would obey."""
+
+    def __init__(self, inner: TextIO):
+        self.inner = inner
+
+    def write(self, text: str) -> int:
+        return self.inner.write(harmless(text))
+
+    def __getattr__(self, name: str) -> Any:
+        return getattr(self.inner, name)
+
+
 def start(main: Callable[[], int | None]) -> None:
     """Runs a tool and ends with its status; each failure is a line on standard error."""
     name = pathlib.Path(sys.argv[0]).name
@@ -91,6 +104,7 @@ def start(main: Callable[[], int | None]) -> None:
     # what came as bytes that are no text, as the name of a folder, goes out as it came
     if isinstance(sys.stdout, io.TextIOWrapper):
         sys.stdout.reconfigure(encoding="utf-8", errors="surrogateescape")
+    sys.stdout = cast(TextIO, Answers(sys.stdout))
     try:
         status = main() or 0
         sys.stdout.flush()
@@ -141,11 +155,11 @@ def leave(status: int) -> None:
 
 
 def tell(line: str) -> None:
-    """Says something on standard error; of what a terminal would obey only the number is shown."""
+    """Says something on standard error; of what a terminal would obey only the number is shown, and long lines are cut."""
     if sys.stderr is None:
         return
     try:
-        print("\n".join(map(visible, line.split("\n"))), file=sys.stderr, flush=True)
+        print("\n".join(cut(visible(one)) for one in line.split("\n")), file=sys.stderr, flush=True)
     except (BrokenPipeError, OSError):
         pass
 
