@@ -25,7 +25,9 @@ chmod +x out/bist_cli
 class Launcher(unittest.TestCase):
     def setUp(self) -> None:
         self.place = tempfile.TemporaryDirectory()
-        self.root = pathlib.Path(self.place.name)
+        # a name that is more to a shell than itself
+        self.root = pathlib.Path(self.place.name) / "a [b]* $c"
+        self.root.mkdir()
         shutil.copy(ROOT / "vidlakost", self.root / "vidlakost")
         (self.root / "crates.txt").write_text("bist_cli:\n")
         for part, name in (("src", "lib.rt"), ("src", "more.rt"), ("specs", "Lib.antt"), ("proofs", "Lemma.antt")):

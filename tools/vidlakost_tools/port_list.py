@@ -111,7 +111,9 @@ class Ports:
         width, low = self.shape()
         while True:
             name = self.take()
-            self.found[name] = Found(name, way, width, low=low)
+            # where the preprocessor chooses between two, it is not known which of them stands there
+            is_other = name in self.found and self.found[name].width != width
+            self.found[name] = Found(name, way, 0 if is_other else width, low=low)
             self.missing.discard(name)
             self.until(",", *ends)
             following = self.words[self.here + 1 : self.here + 2]

@@ -73,6 +73,9 @@ def named_by_verilog(bench: Bench) -> None:
             bench.look(["tools/plain", out, "reads.v"], 2, "", f"plain: '{out}' is what is read")
             is_kept(bench, content)
         (bench.folder / "made.v").unlink(missing_ok=True)
+        endless = content.replace("kept.hex", "/dev/zero") if '"kept.hex"' in content else '  `include "/dev/zero"\n'
+        (bench.folder / "endless.v").write_text(READS.format(endless))
+        bench.look(["timeout", "60", "tools/plain", "made.v", "endless.v"], 1, "", "plain: 'endless.v': it names '/dev/zero'")
         bench.look(["tools/plain", "made.v", "reads.v"], 0, "", "plain: made.v is what Yosys makes")
         bench.look(["tools/audit", "reads.v", "c.m", "s.mem", "--vcd", "kept.hex"], 2, "", "audit: 'kept.hex' is what is read")
         is_kept(bench, content)

@@ -378,10 +378,15 @@ def included(files: list[str]) -> list[str]:
     texts += [(file, plain_text(file)) for file in files if is_vhdl(file)]
     found = dict.fromkeys([*files, *(file for file, _ in texts)])
     for file, text in texts:
-        names = dict.fromkeys(match[1] for match in QUOTED.finditer(text))
-        places = [place for name in names for place in (pathlib.Path(name), pathlib.Path(file).parent / name)]
-        found.update(dict.fromkeys(str(place) for place in places if os.path.lexists(place)))
+        found.update(dict.fromkeys(str(place) for place in named_in(file, text)))
     return list(found)
+
+
+def named_in(file: str, text: str) -> list[pathlib.Path]:
+    """What is there of that which a text in quotes names in a source, from here or from its folder."""
+    names = dict.fromkeys(match[1] for match in QUOTED.finditer(text))
+    places = [place for name in names for place in (pathlib.Path(name), pathlib.Path(file).parent / name)]
+    return [place for place in places if os.path.lexists(place)]
 
 
 def opened(folder: pathlib.Path) -> list[str]:
@@ -402,6 +407,10 @@ def asked(files: list[str]) -> list[str]:
     """What there is to warn of in sources that say something else to a simulator; those that ask for Yosys are refused, since
     what is found would hold of no other tool's reading."""
     warnings, sources = [], with_included(files)
+    for file, source in sources:
+        endless = next((place for place in named_in(file, source) if not place.is_file() and not place.is_dir()), None)
+        if endless:
+            raise ToolError(f"{shown(file)}: it names {shown(str(endless))}, which is no plain file, and may never end", 1)
     refuse_found(ATTRIBUTE, sources, "an attribute that means something to Yosys alone")
     if any(STRUCTURE.search(text) for _, source in sources for text in blanked(source)):
         refuse_found(MEMBER, sources, BEYOND_MEMBER)
