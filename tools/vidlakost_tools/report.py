@@ -36,7 +36,8 @@ class Judged(Protocol):
     kind: str
 
     @property
-    def covered(self) -> bool: ...
+    def covered(self) -> bool:
+        """Whether the march covers it."""
 
 
 @dataclasses.dataclass

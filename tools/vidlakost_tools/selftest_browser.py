@@ -210,6 +210,22 @@ def stepped(it: Looker) -> None:
     it.look("squares are led by keys", lambda: "<1w0/1/->" in it.text("why"))
 
 
+def linked(it: Looker) -> None:
+    """The linked faults, which are asked for where their part of the page is opened."""
+    it.look("links are not asked for before", lambda: it.all("#link-coverage .square") == [])
+    it.all("#links summary")[0].click()
+    it.look("the links are judged", lambda: "A covers 466 of 600 in 10n" in it.text("link-summary"))
+    it.look("each has a square", lambda: len(it.all("#link-coverage .square")) == 600)
+    it.all("#link-coverage [data-primitive='LF1 <0w0/1/-> <1w1/0/->']")[0].click()
+    it.look("the escape of a link is told", lambda: "neither primitive acts" in it.text("why"))
+    it.all("#link-coverage [data-primitive='LF3 <0w0;0/1/-> <0w0;1/0/->']")[0].click()
+    it.look("it says which hides which", lambda: "<0w0;1/0/-> hides it in element 0" in it.text("why"))
+    it.all("#player button[title='where the fault first acts']")[0].click()
+    it.look("the player says which acts", lambda: "The first primitive acts on cell 2" in it.text("player"))
+    it.look("it has three cells", lambda: len(it.all("#why .cell")) == 3)
+    it.all("#links summary")[0].click()
+
+
 def compared(it: Looker) -> None:
     """Two marches side by side, the second from the gallery, and as many as four."""
     it.by_id("add").click()
@@ -352,7 +368,7 @@ def main() -> int:
         it = Looker(pathlib.Path(name), sys.argv[1])
         try:
             it.browser.get(it.address)
-            for part in (typed, ticked, changed, stepped, compared, remembered, named, marked_up, kept, elsewhere):
+            for part in (typed, ticked, changed, stepped, linked, compared, remembered, named, marked_up, kept, elsewhere):
                 try:
                     part(it)
                 except Exception:

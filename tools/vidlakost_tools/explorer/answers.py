@@ -11,12 +11,13 @@ import os
 import pathlib
 import re
 import tempfile
-from typing import Any, Callable, Dict, Iterable
+from typing import Any, Callable, Dict, Iterable, Sequence
 
-from vidlakost_tools import cycles_picture, decoder, diagnose, in_word, reasons
+from vidlakost_tools import cycles_picture, decoder, diagnose, in_word, linked, reasons
 from vidlakost_tools.decoder import DecoderReport, DecoderVerdict, decoded
 from vidlakost_tools.faults import Step
 from vidlakost_tools.finding import CLASSES, SHOWN, Trier, word_start
+from vidlakost_tools.linked import LinkedReport, LinkedStep, LinkVerdict
 from vidlakost_tools.march import Element, length_of, march_of
 from vidlakost_tools.memory import Memory, read_memory
 from vidlakost_tools.program import FORMATS, ROOT, ask, is_proved, run, settle, version, with_text
@@ -37,6 +38,8 @@ EVERY = "all\nDRF\ndyn1\ndyn2\n"
 MARCHES = ROOT / "examples" / "marches"
 # a primitive as a report prints it
 PRIMITIVE = re.compile("<[01wrt;]{1,24}/[01]/[-01]>")
+# a link as a report prints it: its kind and its two primitives
+LINK = re.compile(f"({'|'.join(linked.KINDS)}) {PRIMITIVE.pattern} {PRIMITIVE.pattern}")
 FIRST_MARCH = "{any(w0);up(r0,w1);down(r1,w0)}"
 FIRST_MEMORY = "memory 2\nname buffer\nwords 16\nbits 8\nlatency 1\nbackgrounds log\n"
 
@@ -165,6 +168,11 @@ def decoder_class() -> Object:
     return {"name": decoder.CLASS, "means": decoder.MEANS, "primitives": list(decoder.NAMES)}
 
 
+def link_classes() -> list[Object]:
+    """The kinds of linked faults, as classes of which no list speaks."""
+    return [{"name": kind, "means": linked.MEANS[kind], "primitives": count} for kind, count in linked.KINDS.items()]
+
+
 class Beginning:
     """What does not change while a page is open: which program answers, the gallery and the classes; and the texts that
     the page begins with."""
@@ -182,6 +190,7 @@ class Beginning:
             "gallery": gallery(),
             "classes": classes(),
             "decoder": decoder_class(),
+            "links": link_classes(),
             "march": FIRST_MARCH if march is None else march,
             "list": faults,
             "memory": FIRST_MEMORY if memory is None else memory,
@@ -249,9 +258,9 @@ def complete(question: Object) -> Object:
 # ---- an escape, step by step
 
 
-def shown_steps(steps: list[Step], of: DecoderVerdict | None = None) -> list[Object]:
-    """The steps of a run; `place` is that of the operation in its element, and `reaches` are the cells that an address of a
-    wrong decoder reaches."""
+def shown_steps(steps: Sequence[Step], of: DecoderVerdict | None = None) -> list[Object]:
+    """The steps of a run; `place` is that of the operation in its element, `reaches` are the cells that an address of a wrong
+    decoder reaches, and `acting` is which of two linked primitives acts."""
     made: list[Object] = []
     for before, step in zip([None, *steps], steps):
         visit = None if before is None or before.cell is None else (before.element, before.cell)
@@ -269,6 +278,8 @@ def shown_steps(steps: list[Step], of: DecoderVerdict | None = None) -> list[Obj
         )
         if of is not None and step.cell is not None:
             made[-1]["reaches"] = of.reached(step.cell)
+        if isinstance(step, LinkedStep):
+            made[-1]["acting"] = step.acting
     return made
 
 
@@ -298,6 +309,43 @@ def traced_decoder(march: pathlib.Path, name: str) -> Object:
     return found if verdict.covered else {**found, **replayed_decoder(verdict, report.elements)}
 
 
+# ---- linked faults
+
+
+def shown_links(report: LinkedReport) -> Object:
+    """A report on linked faults, as one on a list."""
+    return {
+        "march": report.march,
+        "length": length_of(report.elements),
+        "total": {"primitives": len(report.verdicts), "covered": report.covered, "escapes": len(report.escapes)},
+        "verdicts": [verdict.as_object() for verdict in report.verdicts],
+        "elements": [dataclasses.asdict(element) for element in report.elements],
+    }
+
+
+@refusable
+def links(folder: Folder, question: Object) -> Object:
+    """The verdicts on the linked faults."""
+    return {"report": shown_links(linked.linked(folder.put("march", text_in(question, "march"))))}
+
+
+def replayed_link(verdict: LinkVerdict, elements: list[Element]) -> Object:
+    """Why the escape of a link escapes, and its steps."""
+    why, steps = linked.reason(verdict, elements)
+    return {"why": why, "steps": shown_steps(steps)}
+
+
+def traced_link(march: pathlib.Path, name: str) -> Object:
+    """The verdict on one link, and of an escape what it does."""
+    report = linked.linked(march)
+    verdict = next((it for it in report.verdicts if it.primitive == name), None)
+    if verdict is None:
+        raise Wrong("primitive is no link")
+    elements = [dataclasses.asdict(element) for element in report.elements]
+    found: Object = {"report": {"march": report.march, "verdicts": [verdict.as_object()], "elements": elements}}
+    return found if verdict.covered else {**found, **replayed_link(verdict, report.elements)}
+
+
 @refusable
 def trace(folder: Folder, question: Object) -> Object:
     """The verdict on one primitive or fault, and of an escape what it does."""
@@ -305,6 +353,8 @@ def trace(folder: Folder, question: Object) -> Object:
     primitive = text_in(question, "primitive")
     if primitive in decoder.NAMES:
         return traced_decoder(march, primitive)
+    if LINK.fullmatch(primitive):
+        return traced_link(march, primitive)
     if not PRIMITIVE.fullmatch(primitive):
         raise Wrong("primitive is none of a report's")
     report = judged(march, folder.put("list", primitive + "\n"))

@@ -13,6 +13,7 @@ from vidlakost_tools.explorer import answers
 from vidlakost_tools.explorer.answers import Object
 from vidlakost_tools.explorer.server import Page
 from vidlakost_tools.in_word import InWordReport
+from vidlakost_tools.linked import LinkedReport, linked
 from vidlakost_tools.memory import parse_memory
 from vidlakost_tools.report import Report, judged
 from vidlakost_tools.text import read_text
@@ -53,12 +54,15 @@ def whole(kept: Object) -> str:
     return page.replace("</body>", parts)
 
 
-def traces(report: Report, of_decoder: DecoderReport, march: pathlib.Path, left: int) -> tuple[Object, int]:
-    """The escapes of both reports by their primitives and faults, and how many steps may still be kept."""
+def traces(
+    report: Report, of_decoder: DecoderReport, links: LinkedReport, march: pathlib.Path, left: int
+) -> tuple[Object, int]:
+    """The escapes of the reports by their primitives, faults and links, and how many steps may still be kept."""
     traced = {it.name: answers.replayed_decoder(it, report.elements) for it in of_decoder.escapes}
     for verdict in report.escapes:
         if verdict.primitive not in traced:
             traced[verdict.primitive] = answers.replayed(verdict, report.elements, march)
+    traced.update({it.primitive: answers.replayed_link(it, report.elements) for it in links.escapes})
     found: Object = {}
     for name, told in traced.items():
         left -= len(told["steps"])
@@ -104,6 +108,7 @@ class Keeper:
             "begin": {**told, "program": program, "march": marches[0], "list": faults, "memory": memory},
             "marches": marches,
             "judged": [],
+            "links": [],
             "traced": [],
             "inside": [],
             "place": place,
@@ -113,15 +118,16 @@ class Keeper:
             with answers.Folder() as folder:
                 path, listed = folder.put("march", march), folder.put("list", faults)
                 try:
-                    report, of_decoder = judged(path, listed), decoded(path)
+                    report, of_decoder, links = judged(path, listed), decoded(path), linked(path)
                 except Refused as error:
                     return {"refused": folder.refusal(error)}
                 inside = answers.inside_report(folder, path, listed, question)
-                found, left = traces(report, of_decoder, path, left)
+                found, left = traces(report, of_decoder, links, path, left)
                 within, left = insides(inside, memory, left)
             kept["judged"].append(
                 {"report": answers.shown_report(report, of_decoder), "inWord": answers.covered_inside(inside)}
             )
+            kept["links"].append({"report": answers.shown_links(links)})
             kept["traced"].append(found)
             kept["inside"].append(within)
         kept["memory"] = answers.memory({"march": marches[place], "memory": memory})

@@ -57,9 +57,8 @@ function rowOf(card, states, isAlone, choose, isChosen) {
     ...(judged.length === 0 ? [] : [make("span", { class: "count inside" }, within)]));
 }
 
-/** All squares of the marches that have a verdict. */
-function showCoverage(cards, classes, choose, isChosen) {
-  const into = byId("coverage");
+/** All squares of the marches that have a verdict, and how many are covered. */
+function showCoverage(into, summary, cards, classes, choose, isChosen) {
   const focused = into.contains(document.activeElement) ? document.activeElement.dataset : null;
   const judged = cards.filter((card) => card.report !== null).map((card) => ({ card, ...statesOf(card) }));
   into.replaceChildren();
@@ -70,7 +69,7 @@ function showCoverage(cards, classes, choose, isChosen) {
     into.append(make("div", { class: "class", role: "group", "aria-label": `${name}: ${means}` },
       make("h3", { title: means }, name), make("div", { class: "rows" }, ...rows)));
   }
-  byId("summary").textContent = judged.map(summaryOf).join(" · ");
+  summary.textContent = judged.map(summaryOf).join(" · ");
   keepFocus(into, focused);
 }
 
@@ -93,7 +92,7 @@ function keepFocus(into, focused) {
 
 /** The square to which a key leads from another: along a row, to another row, to the first or the last. */
 function squareBy(key, square) {
-  const rows = [...byId("coverage").querySelectorAll(".squares")];
+  const rows = [...square.closest(".coverage").querySelectorAll(".squares")];
   const row = rows.indexOf(square.parentElement);
   const inRow = [...square.parentElement.children];
   const place = inRow.indexOf(square);
@@ -106,9 +105,9 @@ function squareBy(key, square) {
   return other.children[Math.min(place, other.children.length - 1)];
 }
 
-/** Leads from square to square by keys. */
-function listenToSquares() {
-  byId("coverage").addEventListener("keydown", (event) => {
+/** Leads from square to square of a part by keys. */
+function listenToSquares(into) {
+  into.addEventListener("keydown", (event) => {
     const square = event.target.closest("button.square");
     if (square === null || event.ctrlKey || event.altKey || event.metaKey) return;
     const next = squareBy(event.key, square);

@@ -65,10 +65,12 @@ function keptAnswer(name, question) {
   if (name === "files") return kept.files;
   const place = kept.marches.indexOf(question.march);
   if (name === "judge") return kept.judged[place];
+  if (name === "links") return kept.links[place];
   if (name === "inside") return kept.inside[place][question.primitive];
   if (name === "trace") {
     const found = kept.traced[place][question.primitive];
-    return { report: kept.judged[place].report, steps: [], ...found };
+    const report = question.primitive.startsWith("LF") ? kept.links[place].report : kept.judged[place].report;
+    return { report, steps: [], ...found };
   }
   throw new Error("this page is a file, and asks nobody");
 }

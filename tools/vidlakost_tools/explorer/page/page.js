@@ -52,7 +52,7 @@ function showMode() {
 /** A march with its field; it has no verdict yet. */
 function addCard(text) {
   const letter = LETTERS.find((it) => !state.cards.some((card) => card.letter === it));
-  const card = { letter, report: null, before: null, inside: null, memory: null, key: "", isStale: false };
+  const card = { letter, report: null, before: null, inside: null, memory: null, links: null, key: "", isStale: false };
   card.field = make("textarea", { id: `march-${letter}`, rows: "3", spellcheck: "false", autocomplete: "off",
     autocapitalize: "off", "aria-label": `march ${letter}`, "aria-describedby": `said-${letter}` });
   card.field.value = text;
@@ -102,9 +102,10 @@ function galleryOf(card) {
 function removeCard(card) {
   state.cards = state.cards.filter((other) => other !== card);
   card.node.remove();
-  if (state.chosen !== null && state.chosen.card === card) state.chosen = null;
+  if (state.chosen !== null && state.chosen.card.letter === card.letter) state.chosen = null;
   cardsChanged();
   show();
+  showLinks();
   byId("add").focus();
 }
 
@@ -150,6 +151,7 @@ async function judgeCard(card, signal) {
   }
   showCardFigures(card);
   show();
+  askLinks();
 }
 
 /** Takes a report; what it changes is seen against the last one, unless nothing of march and list is new. */
@@ -179,18 +181,47 @@ function isChosen(card, verdict) {
 }
 
 /** The classes of the squares: those of a list, and the faults of the address decoder. */
-function allClasses() {
+function listedClasses() {
   return [...state.begin.classes, state.begin.decoder];
 }
 
+function allClasses() {
+  return [...listedClasses(), ...state.begin.links];
+}
+
 function show() {
-  showCoverage(state.cards, allClasses(), choose, isChosen);
+  showCoverage(byId("coverage"), byId("summary"), state.cards, listedClasses(), choose, isChosen);
+}
+
+/** Asks for the verdicts on the linked faults, where their part of the page is open. */
+const askLinks = settled(100, async (signal) => {
+  if (!byId("links").open) return;
+  for (const card of state.cards) {
+    if (card.report === null || (card.links !== null && card.links.report.march === card.report.march)) continue;
+    const told = await ask("links", { march: card.report.march }, signal);
+    takeLinks(card, told.report);
+  }
+  showLinks();
+});
+
+/** Takes the verdicts on the links of a march, which are shown as those of a list are. */
+function takeLinks(card, report) {
+  const isChosenOf = state.chosen !== null && card.links !== null && state.chosen.card === card.links;
+  card.links = { letter: card.letter, report, before: null, inside: null, isStale: false };
+  if (!isChosenOf) return;
+  state.chosen.card = card.links;
+  askWhy();
+}
+
+function showLinks() {
+  const cards = state.cards.filter((card) => card.links !== null).map((card) => card.links);
+  showCoverage(byId("link-coverage"), byId("link-summary"), cards, state.begin.links, choose, isChosen);
 }
 
 function choose(card, verdict, square) {
   state.chosen = { card, primitive: verdict.primitive };
-  for (const other of byId("coverage").querySelectorAll("[aria-current]")) other.removeAttribute("aria-current");
-  for (const other of byId("coverage").querySelectorAll("button.square[tabindex='0']")) other.tabIndex = -1;
+  for (const other of document.querySelectorAll(".coverage [aria-current]")) other.removeAttribute("aria-current");
+  for (const other of square.closest(".coverage").querySelectorAll("button.square[tabindex='0']")) other.tabIndex = -1;
   square.setAttribute("aria-current", "true");
   square.tabIndex = 0;
   state.leads = true;
@@ -206,7 +237,7 @@ const askWhy = settled(0, async (signal) => {
     return;
   }
   const { name, means } = allClasses().find((it) => it.name === verdict.class);
-  const title = `${primitive} ${name}`;
+  const title = primitive.startsWith(name) ? primitive : `${primitive} ${name}`;
   if (verdict.covered) showCovered(into, title, means, card);
   else {
     const told = await ask("trace", { march: card.report.march, primitive }, signal);
@@ -316,7 +347,8 @@ async function begin() {
   showProgram(state.begin.program);
   byId("version").textContent = `Vidlakost ${state.begin.version}.`;
   buildClasses();
-  listenToSquares();
+  for (const id of ["coverage", "link-coverage"]) listenToSquares(byId(id));
+  byId("links").addEventListener("toggle", () => askLinks());
   listenToMemory();
   if (state.begin.list !== null) {
     byId("list").value = state.begin.list;

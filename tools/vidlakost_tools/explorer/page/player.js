@@ -30,19 +30,29 @@ function marchAt(elements, step) {
   return make("div", { class: "march", "aria-hidden": "true" }, ...parts);
 }
 
-/** What a cell is in an escape: of a fault of the address decoder, the cell of which address. */
+/** The cells of an escape: of a fault of the address decoder, those of both addresses; of a link, those of both primitives. */
+function rolesOf(escape) {
+  if (escape.x !== undefined) return [[escape.x, "x"], [escape.y, "y"]];
+  if (escape.v === undefined) return [[escape.victim, "victim"], [escape.aggressor, "aggressor"]];
+  const isShared = escape.a !== null && escape.a === escape.b;
+  return [[escape.v, "victim"], [escape.a, isShared ? "aggressor" : "first's"], [escape.b, "second's"]];
+}
+
+/** What a cell is in an escape. */
 function roleOf(escape, cell) {
-  const roles = escape.x === undefined
-    ? [[escape.victim, "victim"], [escape.aggressor, "aggressor"]]
-    : [[escape.x, "x"], [escape.y, "y"]];
-  const found = roles.find(([at]) => at === cell);
+  const found = rolesOf(escape).find(([at]) => at === cell);
   return found === undefined ? "" : found[1];
+}
+
+/** The cell that goes wrong. */
+function victimOf(escape) {
+  return escape.v === undefined ? escape.victim : escape.v;
 }
 
 /** Whether a step does something to a cell that it would not do without the fault. */
 function isStruck(escape, step, cell) {
   if (!step.acts) return false;
-  return step.reaches === undefined ? cell === escape.victim : step.reaches.includes(cell) !== (step.cell === cell);
+  return step.reaches === undefined ? cell === victimOf(escape) : step.reaches.includes(cell) !== (step.cell === cell);
 }
 
 /** The cells behind a step. */
@@ -59,6 +69,7 @@ function cellsAt(escape, step) {
 /** What a fault does in a step. */
 function actOf(step, escape) {
   if (!step.acts) return "";
+  if (step.acting) return ` The ${step.acting === 1 ? "first" : "second"} primitive acts on cell ${escape.v}.`;
   if (step.reaches === undefined) return ` The fault acts on cell ${escape.victim}.`;
   const reached = ["no cell", `cell ${step.reaches[0]}`, `cells ${step.reaches.join(" and ")}`][step.reaches.length];
   return ` Address x reaches ${reached}.`;
@@ -84,7 +95,7 @@ function tableOf(steps) {
     const place = step.element === null ? "start" : `element ${step.element}`;
     const cell = step.cell === null ? "" : `cell ${step.cell}`;
     const answer = step.answer === null ? "" : `reads ${step.answer}`;
-    const mark = step.acts ? "*" : " ";
+    const mark = step.acting || (step.acts ? "*" : " ");
     return `${place.padEnd(11)} ${step.operation.padEnd(4)} ${cell.padEnd(7)} ${step.cells} ${mark} ${answer}`.trimEnd();
   });
   return lines.join("\n");
@@ -123,7 +134,7 @@ function playerOf(told, verdict) {
   const player = make("div", { id: "player", tabindex: "0", role: "group", "aria-label": label },
     scene, words, make("div", { class: "player" }, first, back, slider, forward, last, toActing));
   player.addEventListener("keydown", (event) => {
-    if (event.key === "Escape") byId("coverage").querySelector("[aria-current=true]")?.focus();
+    if (event.key === "Escape") document.querySelector(".coverage [aria-current=true]")?.focus();
     const to = { ArrowLeft: at - 1, ArrowRight: at + 1, Home: 0, End: end }[event.key];
     if (to === undefined || event.ctrlKey || event.altKey || event.metaKey) return;
     event.preventDefault();
@@ -171,7 +182,7 @@ function showEscape(into, title, means, card, verdict, told) {
     into.append(make("p", { class: "small" }, "The program says ", make("b", {}, told.sim.said), " of ",
       make("code", {}, told.sim.words.join(" "))));
   } else {
-    const what = escape.x === undefined ? "two operations" : "a wrong decoder";
+    const what = escape.x !== undefined ? "a wrong decoder" : escape.v !== undefined ? "linked faults" : "two operations";
     into.append(make("p", { class: "soft small" }, `Replayed by the definition: the program has no call for ${what}.`));
   }
   into.append(make("details", {}, make("summary", {}, "All steps"),
