@@ -3,10 +3,12 @@ from __future__ import annotations
 
 import pathlib
 import tempfile
+import time
 import unittest
 from unittest import mock
 
 from vidlakost_tools import confined
+from vidlakost_tools.vhdl import declared_at
 from vidlakost_tools.vhdl_source import reaching
 
 HARM = "echo in >inside; (echo out >../outside); (: >../kept); rm -f ../gone; mkdir ../made; : >/dev/null; exit 0"
@@ -60,3 +62,17 @@ class Sources(unittest.TestCase):
     def test_comments_and_texts_say_nothing(self) -> None:
         for text in ("-- file", "/* file\n*/", '"file"', '"a""file"', "\\file\\", '"--" -- file', '"/*" -- file */', "profile"):
             self.assertIsNone(reaching(text), text)
+
+
+class Long(unittest.TestCase):
+    def test_long_sources_are_read_at_once(self) -> None:
+        begun = time.monotonic()
+        for text in ("\n" * 300000, '"' * 300000, "/* " * 100000, "'\"' " * 80000, "\\ " * 100000):
+            reaching(text)
+        for text in ("a " * 200000, "a, " * 100000 + ": b", "\n" * 300000):
+            declared_at({"a.vhd": text})
+        self.assertLess(time.monotonic() - begun, 10)
+
+    def test_declared_names_have_places(self) -> None:
+        found = declared_at({"a.vhd": "signal a, b : bit; -- c : d\n  x := 1; port (q : out bit; r: in bit)\n"})
+        self.assertEqual(found, {"signal": ("a.vhd", 1), "a": ("a.vhd", 1), "b": ("a.vhd", 1), "q": ("a.vhd", 2), "r": ("a.vhd", 2)})

@@ -4,6 +4,7 @@ from __future__ import annotations
 import pathlib
 import re
 import shutil
+import string
 import subprocess
 import tempfile
 from typing import Any
@@ -13,6 +14,8 @@ from vidlakost_tools.text import SOURCE_BYTES, lines_of, read_described
 from vidlakost_tools.tool import ToolError, identifier
 from vidlakost_tools.vhdl_source import refuse_reaching
 
+# what names and the commas between them are of
+IN_NAMES = string.ascii_letters + string.digits + "_ ,"
 # how long GHDL may take
 SECONDS = 600
 
@@ -31,7 +34,7 @@ def verilog_of(files: list[str], options: dict[str, Any], folder: pathlib.Path) 
     texts = [read_described(file, SOURCE_BYTES) for file in vhdl]
     for file, text in zip(vhdl, texts):
         refuse_reaching(file, text)
-    entities = [name for text in texts for name in re.findall(r"^\s*entity\s+(\w+)\s+is", text, re.MULTILINE | re.IGNORECASE)]
+    entities = [name for text in texts for name in re.findall(r"^[ \t]*entity\s+(\w+)\s+is", text, re.MULTILINE | re.IGNORECASE)]
     if not entities:
         raise ToolError(f"{vhdl[-1]} has no entity")
     is_mixed = len(vhdl) < len(files)
@@ -69,8 +72,9 @@ def declared_at(texts: dict[str, str]) -> dict[str, tuple[str, int]]:
     found: dict[str, tuple[str, int]] = {}
     for file, text in texts.items():
         for number, line in enumerate(lines_of(re.sub(r"--[^\n]*", "", text)), 1):
-            for names in re.findall(r"([\w ,]+?)\s*:(?!=)", line):
-                for name in re.findall(r"\w+", names):
+            for before in re.split(":(?!=)", line)[:-1]:
+                names = before.rstrip()
+                for name in re.findall(r"\w+", names[len(names.rstrip(IN_NAMES)) :]):
                     found.setdefault(name.lower(), (file, number))
     return found
 
