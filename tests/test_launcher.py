@@ -172,6 +172,13 @@ class Launcher(unittest.TestCase):
         path.chmod(0o755)
         self.assertEqual(self.call("bench", VIDLAKOST_PROGRAM="printf").stdout, "total 1\n")
 
+    def test_it_does_not_run_itself(self) -> None:
+        for name in ("vidlakost", str(self.root / "vidlakost"), "link"):
+            if name == "link":
+                (self.root / name).symlink_to("vidlakost")
+            done = self.call("bench", VIDLAKOST_PROGRAM=name)
+            self.assertEqual((done.returncode, "the launcher itself" in done.stderr), (125, True), done.stderr)
+
     def test_few_files(self) -> None:
         self.program.parent.mkdir()
         self.program.write_text(PROGRAM)

@@ -85,10 +85,11 @@ def version() -> tuple[str, str, str]:
 
 def quick_program() -> str | None:
     """A program that answers in milliseconds: the one that is named, or the proved one that the launcher takes."""
-    named = os.environ.get("VIDLAKOST_PROGRAM") or os.environ.get("VIDLAKOST")
-    if named:
-        return as_file(named)
-    done = subprocess.run([PROGRAM, "--program"], stdout=subprocess.PIPE, stderr=subprocess.DEVNULL, text=True, check=False)
+    named = as_file(os.environ.get("VIDLAKOST_PROGRAM") or os.environ.get("VIDLAKOST") or PROGRAM)
+    launcher = ROOT / "vidlakost"
+    if not (os.path.exists(named) and os.path.samefile(named, launcher)):
+        return named
+    done = subprocess.run([launcher, "--program"], stdout=subprocess.PIPE, stderr=subprocess.DEVNULL, text=True, check=False)
     return done.stdout.strip() or None
 
 
