@@ -443,6 +443,7 @@ CALLS: List[Tuple[str, List[str], int, str, str]] = [
         "\ninside a word of t: 2 bits, 2 backgrounds\n",
         "",
     ),
+    ("", ["tools/compare", "tf.list", "c.m", "examples/mats_plus.m", "--memory", "s.mem"], 0, "a word of one bit has no two bits", ""),
     ("", ["tools/compare", "tf.list", "c.m", "examples/mats_plus.m", "--memory", "rows.mem"], 4, "", "compare: memory D6"),
     ("", ["tools/compare", "tf.list", "c.m"], 2, "", "compare: too few words"),
     ("", ["tools/compare", "lower.list", "c.m", "wrong.m"], 5, "", "compare: fault F1 line 1 byte 1\nlower.list:1:1: error:"),

@@ -152,7 +152,9 @@ function showInside(into, told) {
   into.append(make("h4", {}, `Inside a word of ${memory.name}`),
     make("p", { class: `verdict ${covered ? "is-covered" : "is-escape"}` }, `${said[0].toUpperCase()}${said.slice(1)}.`));
   if (covered) {
-    into.append(make("p", { class: "small" }, "At every two bits of every word, from every content, some read of the test differs."));
+    const told = memory.bits === 1 ? "A word of one bit has no two bits, so nothing escapes there."
+      : "At every two bits of every word, from every content, some read of the test differs.";
+    into.append(make("p", { class: "small" }, told));
     return;
   }
   const [aggressor, victim] = escape.content;
