@@ -283,6 +283,36 @@ what the top call promises, without the order of its checks; the checks in their
         ),
     ),
     Part(
+        "Further verdicts",
+        "",
+        """
+What `decoder`, `linked` and `inword` promise, each with its report.
+
+- **The address decoder.** One address reaches no cell, another one, or one more; all others are right. A march detects such a fault
+  where in every array, at every two addresses, from every content and in every choice of directions some read differs.
+- **Links.** Two primitives with one victim, of which the second can hide what the first did. Detected is as for one primitive, in
+  arrays of three cells and more.
+- **Inside a word.** Aggressor and victim are two bits of one word. An operation on the word is one on both bits: the chip writes the
+  word, and then the victim goes wrong. The test is the march in all backgrounds, with its pauses. It detects a primitive where at
+  every two bits of every word, from every content of all words, some read is answered wrong.
+
+What is covered is detected, in both directions; else the least escape stands in the report.
+""",
+        (
+            "decoder_faults/*",
+            "decoder_report/*",
+            "linked_faults/*",
+            "linked_report/*",
+            "word_device/Chips",
+            "word_coupling/Words",
+            "word_coupling/Escapes",
+            "word_coupling/Report",
+            "bist_app/Decoder",
+            "bist_app/Linked",
+            "bist_app/InWord",
+        ),
+    ),
+    Part(
         "What stands after a call",
         """
 The words of a call, what each file gives, and the two lists of numbers that a generated text shows beside its march.
