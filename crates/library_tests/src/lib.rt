@@ -36,6 +36,7 @@ mod host_rows;
 mod hosts;
 #[cfg(test)]
 mod inword_rows;
+#[cfg(test)]
 mod judge_rows;
 #[cfg(test)]
 mod linked_rows;
