@@ -3,7 +3,7 @@ from __future__ import annotations
 
 from typing import Dict, List, Tuple
 
-from vidlakost_tools import selftest_audit
+from vidlakost_tools import selftest_audit, selftest_judges
 
 MARCHES = [
     "{any(w0);up(r0,w1);down(r1,w0)}",
@@ -624,4 +624,5 @@ PIPED = [
     "tools/trusted bist_app::run",
     "./vidlakost --help",
 ]
-FILES, CALLS = {**FILES, **selftest_audit.FILES}, [*CALLS, *selftest_audit.CALLS]
+FILES = {**FILES, **selftest_audit.FILES, **selftest_judges.FILES}
+CALLS = [*CALLS, *selftest_audit.CALLS, *selftest_judges.CALLS]

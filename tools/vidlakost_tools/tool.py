@@ -13,8 +13,9 @@ import signal
 import stat
 import sys
 import tempfile
+import threading
 import time
-from typing import Any, Callable, Mapping, TextIO, cast
+from typing import Any, Callable, Iterator, Mapping, TextIO, cast
 
 from vidlakost_tools.text import Path, cut, harmless, shown, visible
 
@@ -152,6 +153,26 @@ def leave(status: int) -> None:
     """Ends with this status, whether or not what is still to be written can be."""
     os.dup2(os.open(os.devnull, os.O_WRONLY), 1)
     os._exit(status)
+
+
+@contextlib.contextmanager
+def telling(what: str) -> Iterator[None]:
+    """Says each ten seconds what is being done, for as long as it takes."""
+    is_over, name = threading.Event(), pathlib.Path(sys.argv[0]).name
+
+    def tell_on() -> None:
+        seconds = 10
+        while not is_over.wait(10):
+            tell(f"{name}: {what}, for {seconds} seconds by now")
+            seconds += 10
+
+    teller = threading.Thread(target=tell_on, daemon=True)
+    teller.start()
+    try:
+        yield
+    finally:
+        is_over.set()
+        teller.join()
 
 
 def tell(line: str) -> None:

@@ -187,7 +187,7 @@ class Writer:
         if whole:
             where = self.module["netnames"][whole]["attributes"].get("src")
             line = re.match(r"(.*/)?([^/|]*?):(\d+)", where) if where else None
-            told = re.sub(r"\$func\$.*", "", whole)
+            told = re.sub(r"\$func\$.*|(?<=^rows_that_overlap)\$.*", "", whole)
             self.places[name] = told + (f" ({line[2]}:{line[3]})" if line else "")
         return name
 

@@ -10,8 +10,9 @@ import shutil
 import subprocess
 from typing import Any, Mapping
 
+from vidlakost_tools import two_meanings
 from vidlakost_tools.text import LARGE_BYTES, SOURCE_BYTES, Path, lines_of, read_bytes, shown
-from vidlakost_tools.tool import ToolError, identifier
+from vidlakost_tools.tool import ToolError, identifier, telling
 from vidlakost_tools.vhdl import is_vhdl
 
 
@@ -56,8 +57,10 @@ def run(script: str, folder: pathlib.Path, *flags: str) -> list[str]:
     file = folder / "script.ys"
     file.write_text(script)
     words = ["yosys", *flags, "-s", str(file)]
-    done = subprocess.run(words, stdin=subprocess.DEVNULL, stdout=subprocess.PIPE, stderr=subprocess.STDOUT, check=False)
-    lines = lines_of(done.stdout.decode("utf-8", "replace"))
+    with telling("Yosys is at work"):
+        done = subprocess.run(words, stdin=subprocess.DEVNULL, stdout=subprocess.PIPE, stderr=subprocess.STDOUT, check=False)
+    # what a reader can't find says nothing to him
+    lines = [line.replace(f"{folder}/", "") for line in lines_of(done.stdout.decode("utf-8", "replace"))]
     if done.returncode:
         errors = [line for line in lines if "ERROR" in line] or lines[-1:] or ["no reason is given"]
         raise ToolError("\n".join([f"yosys refuses it: {errors[0]}", *warnings_in(lines)]), 1)
@@ -311,13 +314,15 @@ class Sources:
 # reads it, to which neither begins in such a name, and a text may go over several lines
 READINGS = [
     re.compile(pattern, re.DOTALL)
-    for pattern in (r'"(?:\\.|[^"\\\n])*"|//[^\n]*|/\*.*?\*/', r'\\[!-~]+|"(?:\\.|[^"\\])*"|//[^\n]*|/\*.*?\*/')
+    for pattern in (
+        r'"(?:\\.|[^"\\\n])*(?:"|(?P<open>(?=\n)|\Z))|//[^\n]*|/\*.*?(?:\*/|(?P<never>\Z))',
+        r'\\[!-~]+|"(?:\\.|[^"\\])*(?:"|(?P<open>\Z))|//[^\n]*|/\*.*?(?:\*/|(?P<never>\Z))',
+    )
 ]
 ASKED = re.compile(r"\b(YOSYS|SYNTHESIS)\b", re.ASCII)
 # attributes that make another net of one, or drive it, and that put other cells or connections in a place, for Yosys alone
-ATTRIBUTE = re.compile(
-    r"\(\*(?!\s*\))(?:(?!\*\)).)*?\b(defaultvalue|wand|wor|hierconn|via_celltype|wildcard_port_conns)\b", re.DOTALL
-)
+ATTRIBUTES = re.compile(r"\(\*(?!\s*\)).*?(?:\*\)|\Z)", re.DOTALL)
+ATTRIBUTE = re.compile(r"\b(defaultvalue|wand|wor|hierconn|via_celltype|wildcard_port_conns)\b")
 STRUCTURE = re.compile(r"\b(struct|union)\b")
 # a bit or a part of a member, whose place is no number
 MEMBER = re.compile(r"[\w\])]\s*\.\s*\w+\s*\[[^\]:]*[A-Za-z_]")
@@ -335,7 +340,9 @@ def blanked(text: str, but_texts: bool = False) -> list[str]:
     """A source in each reading, with blanks for its comments, and for what stands in quotes unless that is kept."""
 
     def blank(match: re.Match[str]) -> str:
-        is_kept = match[0].startswith("\\") or but_texts and match[0].startswith('"')
+        # what is never closed is kept, so that all that stands in it is looked at
+        is_closed = match["open"] is None and match["never"] is None
+        is_kept = match[0].startswith("\\") or but_texts and match[0].startswith('"') or not is_closed
         return match[0] if is_kept else re.sub(r"[^\n]", " ", match[0])
 
     return [reading.sub(blank, text) for reading in READINGS]
@@ -403,6 +410,16 @@ def refuse_found(pattern: re.Pattern[str], sources: list[tuple[str, str]], why: 
             raise ToolError(f"{shown(file)}:{source.count(chr(10), 0, match.end()) + 1}: {why}", 1)
 
 
+def refuse_attributes(file: str, source: str) -> None:
+    """Refuses attributes that mean something to Yosys alone, with their place."""
+    for text in blanked(source):
+        for attribute in ATTRIBUTES.finditer(text):
+            match = ATTRIBUTE.search(attribute[0])
+            if match:
+                line = text.count("\n", 0, attribute.start() + match.end()) + 1
+                raise ToolError(f"{shown(file)}:{line}: an attribute that means something to Yosys alone", 1)
+
+
 def asked(files: list[str]) -> list[str]:
     """What there is to warn of in sources that say something else to a simulator; those that ask for Yosys are refused, since
     what is found would hold of no other tool's reading."""
@@ -411,7 +428,8 @@ def asked(files: list[str]) -> list[str]:
         endless = next((place for place in named_in(file, source) if not place.is_file() and not place.is_dir()), None)
         if endless:
             raise ToolError(f"{shown(file)}: it names {shown(str(endless))}, which is no plain file, and may never end", 1)
-    refuse_found(ATTRIBUTE, sources, "an attribute that means something to Yosys alone")
+    for file, source in sources:
+        refuse_attributes(file, source)
     if any(STRUCTURE.search(text) for _, source in sources for text in blanked(source)):
         refuse_found(MEMBER, sources, BEYOND_MEMBER)
         for file, source in sources:
@@ -461,11 +479,17 @@ def read(files: list[str], options: Mapping[str, Any], folder: pathlib.Path) -> 
     reading += f"select -assert-none $*\nhierarchy -check {top_of(options)}\n"
     said = run(f"{reading}write_rtlil {quoted(raw)}\n", folder, "-q", "-E", str(folder / OPENED))
     refuse_rounded(said)
-    text, had = without_initial(raw.read_bytes().decode("utf-8", "surrogateescape"))
-    plain.write_bytes(text.encode("utf-8", "surrogateescape"))
+    whole = raw.read_bytes().decode("utf-8", "surrogateescape")
+    two_meanings.refuse_off(options.get("--liberty", []), whole)
+    for file, source in with_included(files):
+        for text in blanked(source):
+            two_meanings.refuse_off_gates(file, text, whole)
+    text, had = without_initial(whole)
+    plain.write_bytes(two_meanings.open_rows(text).encode("utf-8", "surrogateescape"))
     begin = f"read_rtlil {quoted(plain)}\nsetattr -mod -unset keep_hierarchy\nproc -noopt -norom\nflatten\n"
     said += run(f"{begin}write_rtlil {quoted(first)}\nwrite_json {quoted(parts)}\ncheck\n", folder, "-q")
     name, module = top_module(parts)
+    two_meanings.refuse_two_blocks(module)
     if "--top" not in options:
         refuse_other_top(given.read_bytes().decode("utf-8", "replace"), name)
     twice = driven_twice(first.read_bytes().decode("utf-8", "replace")) or driven_constant(module)
@@ -509,6 +533,9 @@ def refuse_other_top(rtlil: str, top: str) -> None:
 def top_module(path: pathlib.Path) -> tuple[str, dict[str, Any]]:
     """The name of the top and what it is made of, without the cells in which newer versions note where a part began."""
     modules = json.loads(path.read_bytes().decode("utf-8", "replace"))["modules"]
-    name, module = next((name, module) for name, module in modules.items() if "top" in module["attributes"])
+    name = next((name for name, module in modules.items() if "top" in module["attributes"]), None)
+    if name is None:
+        raise ToolError("no module of the sources has anything in it, so none is taken for the top; --top names one", 1)
+    module = modules[name]
     cells = {label: cell for label, cell in module["cells"].items() if cell["type"] != "$scopeinfo"}
     return name, {**module, "cells": cells}

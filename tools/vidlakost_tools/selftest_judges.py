@@ -1,0 +1,104 @@
+"""The rows of tools/selftest for sources that can mean two things: a wrong twin, which is told, beside a right one."""
+from __future__ import annotations
+
+from typing import Dict, List, Tuple
+
+from vidlakost_tools.program import ROOT
+from vidlakost_tools.text import read_text
+
+STYLES = "examples/foreign/styles/"
+RIGHT = read_text(ROOT / STYLES / "two_processes.v")
+TEST = ["examples/mats_plus.m", "examples/foreign/four.mem"]
+EXACT = "audit: conforms, fail is exact\n"
+FAIL = "  assign fail = wrong & ~reset;\n"
+
+
+def changed(*pairs: Tuple[str, str], text: str = RIGHT) -> str:
+    """A controller with the first of each text replaced by another."""
+    for old, new in pairs:
+        assert old in text, old
+        text = text.replace(old, new, 1)
+    return text
+
+
+def with_rows(first: str) -> str:
+    """Whether the word is inverted is told by rows, of which the first holds for these states."""
+    rows = f"""unique case (1'b1)
+      {first}: wdata = ground;
+      state == WRITE_UP: wdata = ~ground;
+      default: wdata = ground;
+    endcase"""
+    return changed(("        wdata = ~ground;\n        next_state = READ_UP;", "        next_state = READ_UP;"), ("wdata = ground;", rows))
+
+
+def with_kept(*writers: str) -> str:
+    """What a read has to answer is kept in a memory of two words."""
+    return changed(
+        ("  reg reading, wrong;", "  reg reading, wrong, at;\n  reg [W-1:0] kept [0:1];\n  wire [W-1:0] wanted = kept[at];"),
+        ("ground, next_ground, wanted;", "ground, next_ground;"),
+        ("      reading <= 0;", "      reading <= 0;\n      at <= 0;"),
+        ("      if (en && !we) wanted <= state == READ_DOWN ? ~ground : ground;\n", "      if (en && !we) at <= ~at;\n"),
+        ("  always @* begin\n    next_state", "".join(f"  always @(posedge clk) {one}\n" for one in writers) + "  always @* begin\n    next_state"),
+    )
+
+
+def with_cells(last: str) -> str:
+    """The port `fail` behind two cells of a library, the second of which is this."""
+    parts = f"  output fail;\n  wire bad_n;\n  INV one(.A(wrong & ~reset), .Y(bad_n));\n  {last} two(.A(bad_n), .EN(wrong), .Y(fail));"
+    return changed(("  output fail;", parts), (FAIL, "")).replace("INV two(.A(bad_n), .EN(wrong),", "INV two(.A(bad_n),")
+
+
+PIN = "pin({0}) {{ direction : input; }}"
+LIBRARY = f"""library(l) {{
+  cell(INV) {{ {PIN.format("A")} pin(Y) {{ direction : output; function : "(!A)"; }} }}
+  cell("TBUF") {{ {PIN.format("A")} {PIN.format("EN")} pin(Y) {{ direction : output; function : "(!A)"; three_state : "(!EN)"; }} }}
+}}
+"""
+UNUSED = "module unused(output y, input a, e);\n  bufif1 (y, a, e);\nendmodule\n"
+WANTED = "kept[~at] <= state == READ_DOWN ? ~ground : ground;"
+FILES: Dict[str, str] = {
+    "rows_apart.v": with_rows("state == FILL"),
+    # in the states 2 and 3 both hold: a simulator takes the first, which is wrong in one of them
+    "rows_meet.v": with_rows("state[1] || state == FILL"),
+    # the first row comes back to the second's word where both hold
+    "rows_of_one_word.v": with_rows("state == READ_UP || state[2] && !state[0]"),
+    "three_state.lib": LIBRARY,
+    "cells.v": with_cells("INV"),
+    "cells_off.v": with_cells("TBUF"),
+    "gate_off.v": changed((FAIL, "  bufif1 (fail, wrong & ~reset, wrong);\n")),
+    "gate_unused.v": RIGHT + UNUSED,
+    "net_off.v": changed((FAIL, "  tri t;\n  assign t = wrong ? ~reset : 1'bz;\n  assign fail = t;\n")),
+    "net_on.v": changed((FAIL, "  tri t;\n  assign t = wrong & ~reset;\n  assign fail = t;\n")),
+    "kept.v": with_kept(f"if (en && !we) {WANTED}"),
+    "kept_by_lanes.v": with_kept(*(f"if (en && !we) {WANTED}".replace("] <=", f"][{bit}] <=").replace("ground", f"ground[{bit}]") for bit in (0, 1))),
+    "kept_twice.v": with_kept("if (en && !we) kept[~at] <= ground;", f"if (en && !we && state == READ_DOWN) {WANTED}"),
+    "set_twice.v": changed(("  always @* begin\n", "  always @(posedge clk) if (reset) wrong <= 0;\n  always @* begin\n")),
+    "nothing.v": "module m(input clk);\nendmodule\n",
+    "unclosed.v": "module m(input clk);" + "(*a" * 8000 + "\n",
+}
+
+
+def audited(name: str, status: int, out: str, error: str, *options: str) -> Tuple[str, List[str], int, str, str]:
+    return "yosys", ["tools/audit", name, *TEST, *options], status, out, error
+
+
+CALLS: List[Tuple[str, List[str], int, str, str]] = [
+    audited("rows_apart.v", 0, EXACT, ""),
+    audited("rows_of_one_word.v", 0, EXACT, ""),
+    audited("rows_meet.v", 1, "  wdata hangs on rows_that_overlap (rows_meet.v:45)", ""),
+    ("yosys", ["tools/formal", "rows_apart.v", *TEST], 0, "each port is in each cycle as it has to be\n", ""),
+    ("yosys", ["tools/formal", "rows_meet.v", *TEST], 1, "differs in cycle 6\n", ""),
+    audited("cells.v", 0, EXACT, "", "--liberty", "three_state.lib"),
+    audited("cells_off.v", 1, "", "audit: 'two' (cells_off.v:13): the cell TBUF has three states", "--liberty", "three_state.lib"),
+    audited("gate_off.v", 1, "", "audit: 'gate_off.v':20: bufif1: a driver that can be off"),
+    audited("gate_unused.v", 0, EXACT, "", "--top", "two_processes"),
+    audited("net_off.v", 1, "audit: conforms, fail is unknown in cycle 0", "audit: Warning: Yosys has only limited"),
+    audited("net_on.v", 0, EXACT, ""),
+    audited("kept.v", 0, EXACT, ""),
+    audited("kept_by_lanes.v", 0, EXACT, ""),
+    audited("kept_twice.v", 1, "audit: refused", "audit: 'kept' (kept_twice.v:41 and kept_twice.v:42): two blocks write"),
+    audited("set_twice.v", 1, "audit: refused", "audit: wrong (set_twice.v:22 and set_twice.v:38): two blocks set it"),
+    ("yosys", ["tools/plain", "out.v", "nothing.v"], 1, "", "plain: no module of the sources has anything in it"),
+    audited("nothing.v", 1, "audit: refused", "audit: no module of the sources has anything in it"),
+    ("yosys", ["tools/plain", "out.v", "unclosed.v"], 1, "", "plain: yosys refuses it: unclosed.v:1: ERROR"),
+]
