@@ -4,7 +4,7 @@ from __future__ import annotations
 import unittest
 from typing import Any
 
-from vidlakost_tools import two_meanings, yosys
+from vidlakost_tools import simulation, two_meanings, yosys
 from vidlakost_tools.tool import ToolError
 
 CASE = """module \\m
@@ -105,6 +105,46 @@ class Unclosed(unittest.TestCase):
     def test_attribute_that_is_never_closed(self) -> None:
         with self.assertRaisesRegex(ToolError, "'f':2: an attribute"):
             yosys.refuse_attributes("f", "(*a" * 9 + "\n wand")
+
+
+class Simulation(unittest.TestCase):
+    def told(self, body: str) -> list[str]:
+        """What is warned of in a module, without the words that all warnings have."""
+        text = f"module m(input clk, a, b, output reg y);\n{body}\nendmodule\n"
+        ends = [one.partition(";")[0].replace("'m.v':", "") for one in simulation.warnings_of("m.v", text, yosys.blanked(text)[0])]
+        return ends
+
+    def test_list_that_is_not_whole(self) -> None:
+        self.assertEqual(self.told("always @(a) y = a & b;"), ["2: the block reads b, and does not wait for it"])
+        for whole in ("(a or b)", "(a, b)", "*", "(*)", "(posedge clk)"):
+            self.assertEqual(self.told(f"always @{whole} y = a & b;"), [], whole)
+
+    def test_names_that_are_no_signals_are_not_waited_for(self) -> None:
+        body = "parameter P = 1;\ntypedef enum logic {ON, OFF} t;\nfunction f(input x); f = x; endfunction\n"
+        self.assertEqual(self.told(f"{body}always @(a) case (a) ON: y = f(a) ^ P; 1'b1: y = `Q; default: y = OFF; endcase"), [])
+
+    def test_set_before_it_is_read(self) -> None:
+        self.assertEqual(self.told("reg t;\nalways @* begin y = t; t = a; end"), ["3: the block reads t before it sets it"])
+        for right in ("t = a; y = t;", "t = 0; if (a) t = ~t; y = t;", "reg t; t = b; y = t;"):
+            self.assertEqual(self.told(f"reg t;\nalways @* begin {right} end"), [], right)
+
+    def test_race_of_two_blocks(self) -> None:
+        first, second = "always @(posedge clk) r = a;", "always @(posedge clk) y <= r;"
+        self.assertEqual(self.told(f"reg r;\n{first}\n{second}"), ["3: the block sets r at once (=), and another block reads it at an edge"])
+        self.assertEqual(self.told(f"reg r;\n{first.replace('=', '<=')}\n{second}"), [])
+        # each of them has its loop's number for itself
+        loop = "always @(posedge clk) for (i = 0; i < 2; i = i + 1) {} <= a;"
+        self.assertEqual(self.told(f"integer i;\n{loop.format('y')}\n{loop.format('z')}"), [])
+
+    def test_delays_and_what_one_tool_sees(self) -> None:
+        for text, line in (("assign #1 z = a;", 2), ("always @(posedge clk) y <= #1 a;", 2), ("always @(posedge clk)\n  #3 y <= a;", 3)):
+            self.assertEqual(self.told(text), [f"{line}: a delay is passed over"], text)
+        self.assertEqual(self.told("sub #(.W(2)) u(.a(a));\nsub #(3) v(.a(a));"), [])
+        self.assertEqual(self.told("// synopsys translate_off"), ["2: what stands behind translate_off is passed over"])
+
+    def test_any_text_comes_to_an_end(self) -> None:
+        for text in ("always " * 3000, "always @(" * 3000, "always unique " + "unique " * 3000, "always begin " * 3000, "always if (" * 3000):
+            simulation.warnings_of("m.v", f"module {text}", f"module {text}")
 
 
 if __name__ == "__main__":

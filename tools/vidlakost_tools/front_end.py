@@ -48,6 +48,11 @@ class Plain:
     clock: str | None
     warnings: list[str] = dataclasses.field(default_factory=list)
     opened: list[str] = dataclasses.field(default_factory=list)
+    top: str = ""
+    # of each register the signal of the sources that each of its bits is, with its place in it
+    origins: dict[str, list[tuple[str, int] | None]] = dataclasses.field(default_factory=dict)
+    # the widths of these signals
+    widths: dict[str, int] = dataclasses.field(default_factory=dict)
 
     def text(self) -> str:
         """The module, in the subset that `check` and `benchfile` read."""
@@ -138,4 +143,7 @@ def written(name: str, module: dict[str, Any], pins: Pins | None, clock: clock_t
         writer.opens,
         writer.places,
         clock.port,
+        top=name,
+        origins=writer.origins(),
+        widths={name: len(net["bits"]) for name, net in writer.nets()},
     )

@@ -73,6 +73,12 @@ FILES: Dict[str, str] = {
     "kept_by_lanes.v": with_kept(*(f"if (en && !we) {WANTED}".replace("] <=", f"][{bit}] <=").replace("ground", f"ground[{bit}]") for bit in (0, 1))),
     "kept_twice.v": with_kept("if (en && !we) kept[~at] <= ground;", f"if (en && !we && state == READ_DOWN) {WANTED}"),
     "set_twice.v": changed(("  always @* begin\n", "  always @(posedge clk) if (reset) wrong <= 0;\n  always @* begin\n")),
+    "list_short.v": changed(("  always @* begin\n", "  always @(state or word or ground) begin\n")),
+    "list_whole.v": changed(("  always @* begin\n", "  always @(state or word or ground or reset) begin\n")),
+    "read_early.v": changed((FAIL, "  reg said, now;\n  always @* begin\n    said = now;\n    now = wrong & ~reset;\n  end\n  assign fail = said;\n")),
+    "read_late.v": changed((FAIL, "  reg said, now;\n  always @* begin\n    now = wrong & ~reset;\n    said = now;\n  end\n  assign fail = said;\n")),
+    "delayed.v": changed((FAIL, "  assign #20 fail = wrong & ~reset;\n")),
+    "writes.v": changed((FAIL, FAIL + "  always @(posedge clk) $fdisplay(1, wrong);\n")),
     "nothing.v": "module m(input clk);\nendmodule\n",
     "unclosed.v": "module m(input clk);" + "(*a" * 8000 + "\n",
 }
@@ -80,6 +86,11 @@ FILES: Dict[str, str] = {
 
 def audited(name: str, status: int, out: str, error: str, *options: str) -> Tuple[str, List[str], int, str, str]:
     return "yosys", ["tools/audit", name, *TEST, *options], status, out, error
+
+
+def clocked(name: str, status: int, out: str, error: str) -> Tuple[str, List[str], int, str, str]:
+    """Beside Icarus too."""
+    return "yosys iverilog", ["tools/audit", name, *TEST, "--simulate"], status, out, error
 
 
 CALLS: List[Tuple[str, List[str], int, str, str]] = [
@@ -98,6 +109,19 @@ CALLS: List[Tuple[str, List[str], int, str, str]] = [
     audited("kept_by_lanes.v", 0, EXACT, ""),
     audited("kept_twice.v", 1, "audit: refused", "audit: 'kept' (kept_twice.v:41 and kept_twice.v:42): two blocks write"),
     audited("set_twice.v", 1, "audit: refused", "audit: wrong (set_twice.v:22 and set_twice.v:38): two blocks set it"),
+    audited("list_short.v", 0, EXACT, "audit: 'list_short.v':38: the block reads reset, and does not wait for it"),
+    audited("list_whole.v", 0, EXACT, ""),
+    audited("read_early.v", 0, EXACT, "audit: 'read_early.v':22: the block reads now before it sets it"),
+    audited("read_late.v", 0, EXACT, ""),
+    ("yosys", ["tools/plain", "out.v", "read_early.v"], 0, "", "plain: 'read_early.v':22: the block reads now"),
+    ("yosys", ["tools/formal", "read_early.v", *TEST], 0, "each port", "formal: 'read_early.v':22: the block reads now"),
+    audited("delayed.v", 0, EXACT, "audit: 'delayed.v':20: a delay is passed over"),
+    clocked("list_short.v", 1, "audit: refused", "audit: 'list_short.v':38"),
+    clocked("list_whole.v", 0, EXACT, ""),
+    clocked("read_early.v", 1, "audit: refused", "audit: 'read_early.v'"),
+    clocked("read_late.v", 0, EXACT, ""),
+    clocked("delayed.v", 1, "audit: refused", "audit: 'delayed.v'"),
+    clocked("writes.v", 1, "audit: refused", "audit: 'writes.v':21: $fdisplay would reach beyond a simulation"),
     ("yosys", ["tools/plain", "out.v", "nothing.v"], 1, "", "plain: no module of the sources has anything in it"),
     audited("nothing.v", 1, "audit: refused", "audit: no module of the sources has anything in it"),
     ("yosys", ["tools/plain", "out.v", "unclosed.v"], 1, "", "plain: yosys refuses it: unclosed.v:1: ERROR"),

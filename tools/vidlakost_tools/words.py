@@ -283,6 +283,23 @@ class Writer:
             cell["parts"].append((name, first * WIDEST, len(bits)))
             self.take(name, bits)
 
+    def origins(self) -> dict[str, list[tuple[str, int] | None]]:
+        """Of each register the signal of the sources that each of its bits is; that of an asynchronous reset stands behind the
+        choice which the reset makes."""
+        at: dict[object, tuple[str, int]] = {}
+        for name, net in self.nets():
+            at.update({bit: (name, index) for index, bit in enumerate(net["bits"]) if isinstance(bit, int)})
+        for cell in self.module["cells"].values():
+            pins = cell["connections"] if cell["type"] in CHOICES else {"A": [], "B": [], "Y": []}
+            for bit, result in ((bit, result) for pin in "AB" for bit, result in zip(pins[pin], pins["Y"])):
+                if result in at:
+                    at.setdefault(bit, at[result])
+        found = {}
+        for cell in self.module["cells"].values():
+            for name, first, width in cell["parts"] if cell["type"] in FLIP_FLOPS else []:
+                found[name] = [at.get(bit) for bit in cell["connections"]["Q"][first : first + width]]
+        return found
+
     def drives(self, cell: dict[str, Any]) -> list[Drive]:
         self.told()
         found = []

@@ -10,7 +10,7 @@ import shutil
 import subprocess
 from typing import Any, Mapping
 
-from vidlakost_tools import two_meanings
+from vidlakost_tools import simulation, two_meanings
 from vidlakost_tools.text import LARGE_BYTES, SOURCE_BYTES, Path, lines_of, read_bytes, shown
 from vidlakost_tools.tool import ToolError, identifier, telling
 from vidlakost_tools.vhdl import is_vhdl
@@ -495,16 +495,24 @@ def read(files: list[str], options: Mapping[str, Any], folder: pathlib.Path) -> 
     twice = driven_twice(first.read_bytes().decode("utf-8", "replace")) or driven_constant(module)
     if twice:
         raise ToolError(twice, 1)
+    # what is made of VHDL is no source of anybody's
+    own = [(file, source) for file, source in with_included(files) if not is_in(folder, file)]
     warnings = [*asks, *warnings_in(said)]
+    warnings += [one for file, source in own for one in simulation.warnings_of(file, source, blanked(source)[0])]
     dropped = written_contents(module)
     if had or dropped:
-        warnings.append("initial values are left out")
+        places = [place for file, source in own for place in simulation.initial_places(file, blanked(source)[0])]
+        warnings.append("initial values are left out" + (f" ({', '.join(places[:4])})" if places else ""))
     beyond, far = folder / "beyond.v", folder / "far.v"
     beyond.write_text(BEYOND)
     far.write_text(FAR)
     script = f"{begin}{dropped}setattr -unset init w:*\n{OPEN}techmap -map {quoted(beyond)} t:$shiftx t:$shift\n"
     script += f"techmap -map {quoted(far)} t:$shl t:$shr t:$sshl t:$sshr\ncheck -assert\n"
     return Sources(script, name, module, warnings, opened(folder))
+
+
+def is_in(folder: pathlib.Path, file: str) -> bool:
+    return folder.resolve() in pathlib.Path(file).resolve().parents
 
 
 def refuse_rounded(said: list[str]) -> None:

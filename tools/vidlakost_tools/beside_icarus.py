@@ -1,0 +1,204 @@
+"""The sources themselves, clocked by Icarus beside the module that Yosys makes of them, from the same random registers, before a
+memory some of whose answers are wrong: what a simulator reads otherwise shows as a port that differs."""
+from __future__ import annotations
+
+import dataclasses
+import os
+import pathlib
+import re
+import shutil
+import subprocess
+import tempfile
+
+from vidlakost_tools import confined
+from vidlakost_tools.audit_pins import INPUTS, Pins
+from vidlakost_tools.front_end import Plain
+from vidlakost_tools.memory import Memory
+from vidlakost_tools.text import shown
+from vidlakost_tools.tool import ToolError, telling
+from vidlakost_tools.verilog import ranged
+from vidlakost_tools.vhdl import is_vhdl
+from vidlakost_tools.yosys import blanked, with_included
+
+CYCLES = 2000
+SECONDS = 120
+# a signal in a hierarchy, as a simulator names it too
+SIGNAL = re.compile(r"[A-Za-z_][\w$]*(\[\d+\])?(\.[A-Za-z_][\w$]*(\[\d+\])?)*")
+# calls by which a source that is clocked would write files, or run a program
+WRITES = re.compile(r"\$(?:f?open|fwrite|fdisplay|fstrobe|fmonitor|fflush|dump\w+|writemem\w*|system|swrite)\b")
+BENCH = """module vidlakost_beside;
+  reg clk = 0, reset = 0;
+  reg {word}rdata = 0;
+{wires}
+  {top} dut({pins});
+  vidlakost_made made({ports});
+  reg {word}kept [0:{last}];
+  reg {word}answers [0:{latency}];
+  integer cycle, late;
+  // in which cycle a port of the sources is first unknown where the made module has a number
+  integer unknown = -1;
+
+  task compare(input [63:0] one, input [63:0] other, input [63:0] port);
+    integer at;
+    for (at = 0; at < 64; at = at + 1)
+      if (other[at] !== 1'bx && other[at] !== 1'bz && one[at] !== other[at]) begin
+        if (one[at] !== 1'bx) begin
+          $display("differs %0s %0d %b %b", port, cycle, one[at], other[at]);
+          $finish(0);
+        end else if (unknown < 0) unknown = cycle;
+      end
+  endtask
+
+  initial begin
+{registers}
+    #1;
+{same}
+    #1;
+    for (cycle = 0; cycle < {cycles}; cycle = cycle + 1) begin
+      reset = cycle == 0 || $urandom % 97 == 0;
+      rdata = $urandom % 12 == 0 ? {{$urandom, $urandom}} : answers[{latency}];
+      #4;
+{compares}
+      for (late = {latency}; late > 0; late = late - 1) answers[late] = answers[late - 1];
+      answers[1] = made_en === 1 && made_we === 0 ? kept[made_addr] : {{$urandom, $urandom}};
+      if (made_en === 1 && made_we === 1) kept[made_addr] = made_wdata;
+      clk = 1;
+      #1;
+      #4 clk = 0;
+      #1;
+    end
+    $display("equal %0d", unknown);
+    $finish(0);
+  end
+endmodule
+"""
+
+
+@dataclasses.dataclass
+class Beside:
+    """What is clocked: the files of the sources, the module made of them, its pins and the memory."""
+
+    files: list[str]
+    plain: Plain
+    pins: Pins | None
+    memory: Memory
+
+    def dut_pins(self) -> str:
+        """The pins of the sources' top."""
+        if self.pins is None:
+            clock = self.plain.clock or "clk"
+            names = [(name, clock if name == "clk" else name) for _, name, _ in self.plain.ports]
+            return ", ".join(f".{pin}({port if port in INPUTS else f'dut_{port}'})" for port, pin in names)
+        told = [f".{pin.name}({'~' if pin.is_low else ''}{port})" for port, pin in self.pins.inputs()]
+        told += [f".{pin.name}({'low' if pin.is_low else 'dut'}_{port})" for port, pin in self.pins.outputs()]
+        return ", ".join(told + [f".{name}({value})" for name, value in self.pins.ties.items()])
+
+    def wires(self) -> list[str]:
+        lows = {port for port, pin in self.pins.outputs() if pin.is_low} if self.pins else set()
+        found = []
+        for way, port, width in self.plain.ports:
+            if way == "output":
+                found.append(f"  wire {ranged(width)}made_{port};")
+                found.append(f"  wire {ranged(width)}dut_{port}{f' = ~low_{port}' if port in lows else ''};")
+                found[-1:] = [*([f"  wire {ranged(width)}low_{port};"] if port in lows else []), found[-1]]
+        return found
+
+    def same(self) -> list[str]:
+        """The registers of the sources as those of the made module are; a signal of which some bits are no registers is left."""
+        bits: dict[str, dict[int, str]] = {}
+        for register in self.plain.registers:
+            for index, origin in enumerate(self.plain.origins.get(register.name, [])):
+                if origin:
+                    name = f"made.{register.name}[{index}]" if register.width > 1 else f"made.{register.name}"
+                    bits.setdefault(origin[0], {})[origin[1]] = name
+        return [
+            f"    $deposit(dut.{name}, {{{', '.join(bits[name].get(at, '1' + chr(39) + 'b0') for at in reversed(range(self.plain.widths[name])))}}});"
+            for name in bits
+            if SIGNAL.fullmatch(name)
+        ]
+
+    def bench(self, same: list[str]) -> str:
+        outputs = [port for way, port, _ in self.plain.ports if way == "output"]
+        return BENCH.format(
+            word=ranged(self.memory.bits),
+            wires="\n".join(self.wires()),
+            top=self.plain.top,
+            pins=self.dut_pins(),
+            ports=", ".join(f".{name}({name if way == 'input' else f'made_{name}'})" for way, name, _ in self.plain.ports),
+            last=2**self.memory.width - 1,
+            latency=self.memory.latency,
+            registers="\n".join(f"    made.{one.name} = {{$urandom, $urandom}};" for one in self.plain.registers),
+            same="\n".join(same),
+            cycles=CYCLES,
+            compares="\n".join(f'      compare(dut_{port}, made_{port}, "{port}");' for port in outputs),
+        )
+
+
+def refuse_sources(files: list[str], libraries: list[str]) -> None:
+    if shutil.which("iverilog") is None or shutil.which("vvp") is None:
+        raise ToolError("--simulate needs Icarus (iverilog and vvp) on the PATH")
+    if libraries or any(map(is_vhdl, files)):
+        raise ToolError("--simulate clocks sources in Verilog; of a library's cells it needs those in Verilog too")
+    for file, source in with_included(files):
+        found = next((match for text in blanked(source) for match in WRITES.finditer(text)), None)
+        if found:
+            raise ToolError(f"{shown(file)}:{source.count(chr(10), 0, found.start()) + 1}: {found[0]} would reach beyond a simulation", 1)
+
+
+def call(words: list[str], folder: pathlib.Path) -> tuple[int, str]:
+    """The status and the words of a program that may change this folder alone."""
+    with confined.holds(folder) as hold, telling("Icarus is at work"):
+        try:
+            done = subprocess.run(
+                words,
+                stdin=subprocess.DEVNULL,
+                stdout=subprocess.PIPE,
+                stderr=subprocess.STDOUT,
+                timeout=SECONDS,
+                env={**os.environ, "TMPDIR": str(folder)},
+                preexec_fn=hold,
+                check=False,
+            )
+        except subprocess.TimeoutExpired as error:
+            raise ToolError(f"Icarus took longer than {SECONDS} seconds, and was ended", 1) from error
+    return done.returncode, done.stdout.decode("utf-8", "replace").replace(f"{folder}/", "")
+
+
+def beside(asked: Beside) -> str:
+    """What is found of the sources beside the made module; a port that differs is refused."""
+    with tempfile.TemporaryDirectory() as name:
+        folder = pathlib.Path(name)
+        made = dataclasses.replace(asked.plain, name="vidlakost_made")
+        (folder / "made.v").write_text(made.text(), encoding="utf-8")
+        same = asked.same()
+        files = [os.path.abspath(file) for file in asked.files]
+        places = [f"-I{place}" for place in dict.fromkeys([os.getcwd(), *(os.path.dirname(file) for file in files)])]
+        words = ["iverilog", "-g2012", "-s", "vidlakost_beside", *places, "-o", str(folder / "run")]
+        for _ in range(20):
+            text = asked.bench(same)
+            (folder / "bench.v").write_text(text, encoding="utf-8")
+            status, said = call([*words, str(folder / "bench.v"), str(folder / "made.v"), *files], folder)
+            lines = {int(number) for number in re.findall(r"^bench\.v:(\d+): ", said, re.MULTILINE)}
+            unknown = {line for number, line in enumerate(text.split("\n"), 1) if number in lines} & set(same)
+            if status == 0 or not unknown:
+                break
+            same = [line for line in same if line not in unknown]
+        if status:
+            raise ToolError(f"Icarus refuses the sources: {(said.splitlines() or ['no reason is given'])[0]}", 1)
+        _, said = call(["vvp", "-n", str(folder / "run")], folder)
+    return found_in(said)
+
+
+def found_in(said: str) -> str:
+    """What the last line of the run says."""
+    last = (said.strip().splitlines() or [""])[-1]
+    differs = re.search(r"^\s*differs (\w+) (\d+) (\S) (\S)$", said, re.MULTILINE)
+    if differs:
+        port, cycle, one, other = differs.groups()
+        why = f"{port} is {one} in cycle {cycle} by Icarus, and {other} by Yosys"
+        raise ToolError(f"the sources mean two things, from random registers and with random resets: {why}", 1)
+    equal = re.fullmatch(r"equal (-?\d+)", last)
+    if equal is None:
+        raise ToolError(f"the run by Icarus came to no end: {shown(last)}", 1)
+    open_at = "" if equal[1] == "-1" else f"; from cycle {equal[1]} on a port is unknown to Icarus in some of them"
+    return f"beside Icarus: equal in {CYCLES} cycles{open_at}"
