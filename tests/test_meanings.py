@@ -43,7 +43,7 @@ class Rows(unittest.TestCase):
     def test_rows_that_differ_in_a_bit_are_apart(self) -> None:
         self.assertFalse(two_meanings.not_apart("2'1-", "2'0-"))
         self.assertTrue(two_meanings.not_apart("2'1-", "2'-1"))
-        self.assertTrue(two_meanings.not_apart("2'00, 2'01", "2'10, 2'01"))
+        self.assertTrue(two_meanings.not_apart("2'00 , 2'01", "2'10 , 2'01"))
         self.assertTrue(two_meanings.not_apart("\\a", "2'01"))
 
     def test_rows_that_may_meet_are_open(self) -> None:
@@ -53,6 +53,11 @@ class Rows(unittest.TestCase):
         self.assertNotIn("parallel_case", text)
         # the wires stand before what names them
         self.assertLess(text.index("wire $rows$holds$5$1"), text.index("assign $rows$holds$5$1 1'0"))
+
+    def test_constant_meets_wild_bits(self) -> None:
+        self.assertEqual(two_meanings.of_constant("2'-- , 2'10", "2'00"), "2'00")
+        for row, signal in (("2'1-", "2'00"), ("2'--", "\\s"), ("1'-", "2'00"), ("\\s", "1'1")):
+            self.assertEqual(two_meanings.of_constant(row, signal), row)
 
     def test_rows_apart_stay(self) -> None:
         text = case("\\s", "2'00", "2'1-")

@@ -104,18 +104,24 @@ class Beside:
         return found
 
     def same(self) -> list[str]:
-        """The registers of the sources as those of the made module are; a signal of which some bits are no registers is left."""
+        """The registers of the sources as those of the made module are. A signal of which some bits are no registers is set
+        where no other has its bits."""
         bits: dict[str, dict[int, str]] = {}
         for register in self.plain.registers:
             for index, origin in enumerate(self.plain.origins.get(register.name, [])):
-                if origin:
-                    name = f"made.{register.name}[{index}]" if register.width > 1 else f"made.{register.name}"
-                    bits.setdefault(origin[0], {})[origin[1]] = name
-        return [
-            f"    $deposit(dut.{name}, {{{', '.join(bits[name].get(at, '1' + chr(39) + 'b0') for at in reversed(range(self.plain.widths[name])))}}});"
-            for name in bits
-            if SIGNAL.fullmatch(name)
-        ]
+                made = f"made.{register.name}[{index}]" if register.width > 1 else f"made.{register.name}"
+                for name, at in origin:
+                    bits.setdefault(name, {})[at] = made
+        whole = [name for name in bits if len(bits[name]) == self.plain.widths[name]]
+        done = {made for name in whole for made in bits[name].values()}
+        found = []
+        for name in filter(SIGNAL.fullmatch, bits):
+            if name not in whole and done >= set(bits[name].values()):
+                continue
+            value = ", ".join(bits[name].get(at, "1'b0") for at in reversed(range(self.plain.widths[name])))
+            # a word of a memory is no target of $deposit
+            found.append(f"    dut.{name} = {{{value}}};" if name.endswith("]") else f"    $deposit(dut.{name}, {{{value}}});")
+        return found
 
     def bench(self, same: list[str]) -> str:
         outputs = [port for way, port, _ in self.plain.ports if way == "output"]

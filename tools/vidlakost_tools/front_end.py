@@ -49,8 +49,8 @@ class Plain:
     warnings: list[str] = dataclasses.field(default_factory=list)
     opened: list[str] = dataclasses.field(default_factory=list)
     top: str = ""
-    # of each register the signal of the sources that each of its bits is, with its place in it
-    origins: dict[str, list[tuple[str, int] | None]] = dataclasses.field(default_factory=dict)
+    # of each register the signals of the sources that each of its bits is, with its place in them
+    origins: dict[str, list[list[tuple[str, int]]]] = dataclasses.field(default_factory=dict)
     # the widths of these signals
     widths: dict[str, int] = dataclasses.field(default_factory=dict)
 

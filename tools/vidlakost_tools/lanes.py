@@ -25,12 +25,14 @@ SLICE = 4096
 
 @dataclasses.dataclass
 class Plan:
-    """The answers of a test, by their cycles; the cycles to the one that shows the last; the first cycle that is looked at."""
+    """The answers of a test, by their cycles; the cycles to the one that shows the last; the first cycle that is looked at; how
+    many cycles later than the rule `fail` may tell a wrong answer, fewer than there are answers with lanes of their own."""
 
     answers: dict[int, int]
     cycles: int
     bits: int
     first: int = 0
+    late: int = 0
 
 
 @dataclasses.dataclass
@@ -97,7 +99,7 @@ def run_joined(machine: Machine, plan: Plan, clock: Clock) -> Found | None:
     state = [(0, 0)] * len(machine.registers)
     want, live, joined, count, cycle = 0, 1, False, 0, 0
     slots: dict[int, int] = {}
-    quiet = 0
+    quiet, due = 0, [0] * plan.late
     while cycle < plan.cycles + BEHIND and quiet < 2:
         known, wrong, values = 0, 0, 0
         if cycle in plan.answers:
@@ -119,7 +121,8 @@ def run_joined(machine: Machine, plan: Plan, clock: Clock) -> Found | None:
                 return None
             slot, bit = divmod(lane - 1 - bits, bits)
             return found_at(fail, cycle, want, lane, (slots[slot], bit) if lane else None)
-        want |= wrong
+        due.append(wrong)
+        want |= due.pop(0)
         quiet = quiet + 1 if cycle >= plan.cycles and state == before else 0
         cycle += 1
         if cycle % 128 == 0 and clock.is_over(cycle, plan.cycles):
@@ -162,14 +165,14 @@ def run_slice(machine: Machine, plan: Plan, answers: list[int], start: tuple[int
     cycle, single = start
     state = [(full if one & 1 else 0, full if zero & 1 else 0) for one, zero in single]
     want, word = 0, (1 << bits) - 1
-    quiet = 0
+    told, quiet, due = 0, 0, [0] * plan.late
     while cycle < plan.cycles + BEHIND and quiet < 2:
         before = state
         rdata = [(0, 0)] * bits
         wrong = 0
         if cycle in plan.answers:
             # lanes whose answer is still to come have this one right
-            later = full & ~want
+            later = full & ~told
             if cycle in place:
                 wrong = word << place[cycle]
                 later &= ~wrong
@@ -182,7 +185,9 @@ def run_slice(machine: Machine, plan: Plan, answers: list[int], start: tuple[int
             lane = (bad & -bad).bit_length() - 1
             slot, bit = divmod(lane, bits)
             return found_at(fail, cycle, want, lane, (answers[slot], bit) if lane < right else None)
-        want |= wrong
+        told |= wrong
+        due.append(wrong)
+        want |= due.pop(0)
         cycle += 1
         if cycle % 32 == 0 and clock.is_over(cycle, plan.cycles):
             return Found("limit", start[0])
@@ -225,7 +230,7 @@ def look_at(machine: Machine, plan: Plan, limit: float) -> Found:
 def run_one(machine: Machine, plan: Plan, found: Found) -> Found | None:
     """The one history in which that bit alone is wrong, where `fail` has a wrong number in it."""
     state, want = [(0, 0)] * len(machine.registers), 0
-    for cycle in range(plan.cycles + 3):
+    for cycle in range(plan.cycles + 3 + plan.late):
         rdata = [(0, 0)] * plan.bits
         if cycle in plan.answers:
             word = plan.answers[cycle] ^ (1 << found.bit if cycle == found.answer else 0)
@@ -233,7 +238,7 @@ def run_one(machine: Machine, plan: Plan, found: Found) -> Found | None:
         state, (fail,) = machine.step(state, [*rdata, (1, 0) if cycle == 0 else (0, 1)], 1)
         if cycle >= plan.first and fail == ((0, 1) if want else (1, 0)):
             return Found("differs", cycle, int(want), str(fail[0]), found.answer, found.bit)
-        want |= cycle == found.answer
+        want |= found.answer is not None and cycle == found.answer + plan.late
     return None
 
 

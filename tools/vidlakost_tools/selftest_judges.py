@@ -31,6 +31,15 @@ def with_rows(first: str) -> str:
     return changed(("        wdata = ~ground;\n        next_state = READ_UP;", "        next_state = READ_UP;"), ("wdata = ground;", rows))
 
 
+# the comparison takes one cycle more, and so does the end
+PIPELINED = changed(
+    ("  reg reading, wrong;", "  reg reading, wrong, differs, ended;"),
+    ("      wrong <= 0;\n", "      wrong <= 0;\n      differs <= 0;\n      ended <= 0;\n"),
+    ("      if (reading) for (i = 0; i < W; i = i + 1) if (rdata[i] != wanted[i]) wrong <= 1;\n", "      differs <= reading && rdata != wanted;\n      if (differs) wrong <= 1;\n      ended <= state == END;\n"),
+    ("done = ~reset;", "done = ~reset & ended;"),
+)
+
+
 def with_kept(*writers: str) -> str:
     """What a read has to answer is kept in a memory of two words."""
     return changed(
@@ -79,6 +88,9 @@ FILES: Dict[str, str] = {
     "read_late.v": changed((FAIL, "  reg said, now;\n  always @* begin\n    now = wrong & ~reset;\n    said = now;\n  end\n  assign fail = said;\n")),
     "delayed.v": changed((FAIL, "  assign #20 fail = wrong & ~reset;\n")),
     "writes.v": changed((FAIL, FAIL + "  always @(posedge clk) $fdisplay(1, wrong);\n")),
+    "pipelined.v": PIPELINED,
+    "pipelined_twice.v": PIPELINED.replace("assign fail = wrong & ~reset", "reg later;\n  always @(posedge clk) later <= wrong & ~reset;\n  assign fail = later & ~reset"),
+    "pipelined_forgets.v": PIPELINED.replace("if (differs) wrong <= 1;", "wrong <= differs;"),
     "nothing.v": "module m(input clk);\nendmodule\n",
     "unclosed.v": "module m(input clk);" + "(*a" * 8000 + "\n",
 }
@@ -122,6 +134,10 @@ CALLS: List[Tuple[str, List[str], int, str, str]] = [
     clocked("read_late.v", 0, EXACT, ""),
     clocked("delayed.v", 1, "audit: refused", "audit: 'delayed.v'"),
     clocked("writes.v", 1, "audit: refused", "audit: 'writes.v':21: $fdisplay would reach beyond a simulation"),
+    audited("pipelined.v", 1, "audit: conforms but for done, 1 cycle late, fail is exact\n", ""),
+    audited("pipelined.v", 0, "ever after, 1 cycle later than the rule\n", "", "--fail-late", "1"),
+    audited("pipelined_twice.v", 1, "audit: conforms but for done, 1 cycle late, fail is ", "", "--fail-late", "1"),
+    audited("pipelined_forgets.v", 1, "audit: conforms but for done, 1 cycle late, fail is ", "", "--fail-late", "1"),
     ("yosys", ["tools/plain", "out.v", "nothing.v"], 1, "", "plain: no module of the sources has anything in it"),
     audited("nothing.v", 1, "audit: refused", "audit: no module of the sources has anything in it"),
     ("yosys", ["tools/plain", "out.v", "unclosed.v"], 1, "", "plain: yosys refuses it: unclosed.v:1: ERROR"),

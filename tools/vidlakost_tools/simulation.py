@@ -120,6 +120,8 @@ class Reader:
                 self.events.append(Event(name, self.places[at], False))
 
     def statement(self, depth: int) -> None:
+        while self.tokens[self.here : self.here + 2] == ["(", "*"]:
+            self.group()
         word = self.tokens[self.here]
         if depth >= DEEPEST:
             self.here = self.last

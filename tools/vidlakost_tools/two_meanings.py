@@ -27,13 +27,14 @@ HOLDS = """  process {name}$process
 
 @dataclasses.dataclass
 class Rows:
-    """A case of which it is said that no two rows of it hold at once: its number, its depth in the text, what it looks at, its
-    rows but for the default, and its place."""
+    """A case: its number, its depth in the text, what it looks at, its place, whether it is said that no two rows of it hold at
+    once, and its rows but for the default."""
 
     number: int
     depth: int
     signal: str
     place: str
+    is_said: bool
     rows: list[str] = dataclasses.field(default_factory=list)
 
     def name(self, what: str, row: int) -> str:
@@ -41,8 +42,8 @@ class Rows:
         return f"{begin}${self.number}${row}"
 
     def meet(self) -> bool:
-        """Whether two rows may hold at once."""
-        return any(not_apart(one, other) for at, one in enumerate(self.rows) for other in self.rows[:at])
+        """Whether two rows may hold at once, of which the contrary is said."""
+        return self.is_said and any(not_apart(one, other) for at, one in enumerate(self.rows) for other in self.rows[:at])
 
     def wires(self) -> list[str]:
         return [f"{self.place}\n  wire {self.name(what, at)}" for at in range(len(self.rows)) for what in WIRES]
@@ -67,7 +68,7 @@ def gate(kind: str, name: str, *signals: str) -> str:
 
 def not_apart(one: str, other: str) -> bool:
     """Whether two rows may hold at once: none of their numbers may differ in a bit that both say, or one is no number."""
-    numbers = [[re.fullmatch(r"\d+'([01-]+)", part) for part in row.split(", ")] for row in (one, other)]
+    numbers = [[re.fullmatch(r" *\d+'([01-]+) *", part) for part in row.split(",")] for row in (one, other)]
     return any(
         first is None or second is None or not any({"0", "1"} == {*bits} for bits in zip(first[1], second[1]))
         for first in numbers[0]
@@ -94,11 +95,13 @@ def open_rows(rtlil: str) -> str:
             place = "  " + line.strip()
         elif words[:1] == ["switch"]:
             # the places at which its lines stand, that of the switch first
-            one = Rows(len(kept), depth if is_said else -1, line.strip()[len("switch ") :], place)
+            one = Rows(len(kept), depth, line.strip()[len("switch ") :], place, is_said)
             stack.append((one, [len(kept) - 1]))
             is_said = False
         elif stack and words[:1] == ["case"] and depth == stack[-1][0].depth + 2 and len(words) > 1:
-            stack[-1][0].rows.append(line.strip()[len("case ") :])
+            row = of_constant(line.strip()[len("case ") :], stack[-1][0].signal)
+            kept[-1] = " " * depth + f"case {row}"
+            stack[-1][0].rows.append(row)
             stack[-1][1].append(len(kept) - 1)
         elif words == ["end"] and stack and kept[stack[-1][1][0]].startswith(" " * depth + "switch"):
             one, places = stack.pop()
@@ -110,6 +113,17 @@ def open_rows(rtlil: str) -> str:
             kept[begin:begin] = [wire for one in cases for wire in one.wires()]
             cases = []
     return "\n".join(kept) + "\n"
+
+
+def of_constant(row: str, signal: str) -> str:
+    """A row of a case that looks at a constant: a pattern that this meets is the constant itself, since Yosys passes over one
+    with a wild bit."""
+    if not re.fullmatch(r"\d+'[01]+", signal):
+        return row
+    width, _, bits = signal.partition("'")
+    parts = [part.strip() for part in row.split(",")] if "'" in row and "{" not in row else []
+    met = [part for part in parts if re.fullmatch(f"{width}'" + "".join(f"[{bit}-]" for bit in bits), part)]
+    return signal if met else row
 
 
 def put_rows(kept: list[str], one: Rows, places: list[int]) -> None:

@@ -283,12 +283,13 @@ class Writer:
             cell["parts"].append((name, first * WIDEST, len(bits)))
             self.take(name, bits)
 
-    def origins(self) -> dict[str, list[tuple[str, int] | None]]:
-        """Of each register the signal of the sources that each of its bits is; that of an asynchronous reset stands behind the
-        choice which the reset makes."""
-        at: dict[object, tuple[str, int]] = {}
+    def origins(self) -> dict[str, list[list[tuple[str, int]]]]:
+        """Of each register the signals of the sources that each of its bits is, with the place in them; those of an asynchronous
+        reset stand behind the choice which the reset makes."""
+        at: dict[object, list[tuple[str, int]]] = {}
         for name, net in self.nets():
-            at.update({bit: (name, index) for index, bit in enumerate(net["bits"]) if isinstance(bit, int)})
+            for index, bit in enumerate(net["bits"]):
+                at.setdefault(bit, []).append((name, index))
         for cell in self.module["cells"].values():
             pins = cell["connections"] if cell["type"] in CHOICES else {"A": [], "B": [], "Y": []}
             for bit, result in ((bit, result) for pin in "AB" for bit, result in zip(pins[pin], pins["Y"])):
@@ -297,7 +298,7 @@ class Writer:
         found = {}
         for cell in self.module["cells"].values():
             for name, first, width in cell["parts"] if cell["type"] in FLIP_FLOPS else []:
-                found[name] = [at.get(bit) for bit in cell["connections"]["Q"][first : first + width]]
+                found[name] = [at.get(bit, []) for bit in cell["connections"]["Q"][first : first + width]]
         return found
 
     def drives(self, cell: dict[str, Any]) -> list[Drive]:
