@@ -12,7 +12,7 @@ TOOLS = ROOT / "tools"
 INNER = ["selftest", "guide", "gallery", "pictures", "interop", "manual", "trusted", "unproved"]
 TASKS = {
     "To begin with": ["judge", "compile", "bench", "explain"],
-    "Marches and their escapes": ["explore", "decoder", "linked", "inword", "sim", "replay", "trace", "report", "compare"],
+    "Marches and their escapes": ["explore", "design", "decoder", "linked", "inword", "sim", "replay", "trace", "report", "compare"],
     "A module beside its memory": [
         "vectors", "benchfault", "benchall", "testbench", "locate", "turn", "liberty", "collar", "hold", "summary",
     ],

@@ -1,0 +1,1 @@
+"""The shortest march for a list: `tools/design` and what it is made of."""

@@ -1,0 +1,78 @@
+"""What the program says of the march that was found."""
+from __future__ import annotations
+
+import dataclasses
+from typing import List, Optional, Tuple
+
+from vidlakost_tools.decoder import decoded
+from vidlakost_tools.design.finder import Finder
+from vidlakost_tools.design.parts import Part, elements_from, text_of
+from vidlakost_tools.design.wishes import Clock, Words
+from vidlakost_tools.in_word import judged_in_word
+from vidlakost_tools.linked import linked
+from vidlakost_tools.march import Element
+from vidlakost_tools.program import with_text
+from vidlakost_tools.report import judged
+
+
+@dataclasses.dataclass
+class Said:
+    """What a command says of the march: its name, its counts, and what it lets through."""
+
+    command: str
+    total: int
+    escapes: List[str]
+
+    @property
+    def line(self) -> str:
+        """The line as the command says it."""
+        return f"total {self.total} covered {self.total - len(self.escapes)} escapes {len(self.escapes)}"
+
+
+@dataclasses.dataclass
+class Answers:
+    """The march, what was asked for, and what the program says of it."""
+
+    march: str
+    elements: List[Element]
+    words: Words
+    finder: Finder
+    beyond: List[str]
+    said: List[Said]
+
+    @property
+    def clock(self) -> Optional[Clock]:
+        return self.words.clock
+
+    @property
+    def is_whole(self) -> bool:
+        """Whether nothing escapes that is asked for. Inside a word only as much is asked for as can be expected."""
+        inside = self.finder.best is not None
+        return not any(it.escapes for it in self.said if it.command != "inword" or not inside)
+
+    @classmethod
+    def of(cls, words: Words, finder: Finder, beyond: List[str]) -> "Answers":
+        parts = finder.best or finder.nearest or finder.wish.behind or [Part("any", ("w0",))]
+        march = text_of(parts)
+        said = [with_text(march, lambda path: said_of(command, path, words)) for command in commands(words)]
+        return cls(march, elements_from(parts), words, finder, beyond, said)
+
+
+def commands(words: Words) -> List[str]:
+    asked: List[Tuple[str, object]] = [("judge", True), ("decoder", words.decoder), ("linked", words.linked), ("inword", words.in_word)]
+    return [command for command, is_asked in asked if is_asked]
+
+
+def said_of(command: str, march: object, words: Words) -> Said:
+    """What a command says of the march in a file."""
+    path = str(march)
+    if command == "judge":
+        verdicts = [(f"{it.primitive} {it.kind}", it.covered) for it in judged(path, words.faults).verdicts]
+    elif command == "decoder":
+        verdicts = [(f"{it.name} {it.kind}", it.covered) for it in decoded(path).verdicts]
+    elif command == "linked":
+        verdicts = [(it.primitive, it.covered) for it in linked(path).verdicts]
+    else:
+        inside = judged_in_word(path, str(words.in_word), words.faults)
+        verdicts = [(f"{it.primitive} {it.kind}", it.covered) for it in inside.verdicts]
+    return Said(command, len(verdicts), [name for name, covered in verdicts if not covered])

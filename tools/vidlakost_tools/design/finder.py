@@ -1,0 +1,167 @@
+"""The shortest march that is found for a list, and whether a search of all shorter ones shows that it is the shortest."""
+from __future__ import annotations
+
+import contextlib
+import dataclasses
+import time
+from typing import Callable, Optional, Sequence
+
+from vidlakost_tools.design.beam import Beam
+from vidlakost_tools.design.blocks import Blocks
+from vidlakost_tools.design.bound import Bound
+from vidlakost_tools.design.instances import DecoderInstance, Instance
+from vidlakost_tools.design.parts import Limits, Part, Parts, is_complete, length, opened, pauses, trimmed, with_pauses
+from vidlakost_tools.design.survivors import Survivors
+
+# how many operations a march may have, or what is added to one
+LONGEST = 160
+# how many elements the search of all shorter marches tries, unless it is to go on to its end
+TRIED = 12_000_000
+# how many marches of a length are looked at where one is chosen, and by how many operations they may be longer than the first
+CHOSEN_OF, LONGER_BY = 24, 4
+
+
+@dataclasses.dataclass
+class Wish:
+    """What a march has to cover, and what it may have. `behind` is the march that it extends; `fits` says whether a march
+    that covers all this does what else is asked for (None: nothing is)."""
+
+    instances: Sequence[Instance]
+    decoder: Sequence[DecoderInstance]
+    limits: Limits
+    behind: Parts
+    width: int = 300
+    is_open: bool = False
+    fits: Optional[Callable[[Parts], bool]] = None
+
+
+class Progress:
+    """What hears how the search goes."""
+
+    def begin(self) -> None:
+        self.started = time.monotonic()
+
+    def seconds(self) -> float:
+        return time.monotonic() - self.started
+
+    def better(self, parts: Parts) -> None:
+        """A march is shorter than those before."""
+
+    def bounded(self, operations: int) -> None:
+        """There is none of fewer operations."""
+
+    def at(self, text: str) -> None:
+        """What is being done."""
+
+
+class Finder:
+    """The search. Whatever ends it, `best` is the shortest complete march so far, `nearest` what comes next to one, and
+    `least` how many operations a march has to have, beside those that are given."""
+
+    def __init__(self, wish: Wish, progress: Progress):
+        self.wish, self.progress = wish, progress
+        self.survivors = Survivors(wish.instances, wish.decoder)
+        self.limits = dataclasses.replace(wish.limits, pauses=self.survivors.pauses)
+        self.best: Parts | None = None
+        self.nearest: Parts | None = None
+        self.least = 0
+
+    @property
+    def given(self) -> int:
+        return length(self.wish.behind)
+
+    @property
+    def kept(self) -> int:
+        """The elements that stay as they are."""
+        return len(self.wish.behind)
+
+    def take(self, parts: Parts) -> None:
+        """Looks whether a complete march is better than the best."""
+        found = [trimmed(self.survivors, parts, self.kept), *([parts] if self.wish.fits else [])]
+        for made in (opened(self.survivors, it, self.kept) for it in found):
+            if self.best is not None and rank(made) >= rank(self.best) or not self.limits.allow(made):
+                continue
+            if self.wish.fits is None or self.wish.fits(made):
+                self.best = made
+                self.progress.better(made)
+            else:
+                self.nearest = self.nearest or made
+
+    # ---- the parts of the search
+
+    def regular(self) -> None:
+        """Marches of a regular form, into which pauses are put afterwards."""
+        if self.wish.behind:
+            return
+        plain = [it for it in self.wish.instances if it.links[0].acts != ["t"]]
+        survivors = Survivors(plain, self.wish.decoder)
+        for elements in (2, 4):
+            blocks = Blocks(survivors, self.limits, self.wish.width // 2 + 1, elements)
+            most = length(self.best) if self.best else LONGEST
+            parts = blocks.run(most + 1, lambda count, least: self.progress.at(f"blocks of {elements}, {count}n"))
+            parts = trimmed(survivors, parts) if parts else None
+            whole = with_pauses(self.survivors, parts) if parts and self.survivors.pauses else parts
+            if whole:
+                self.take(whole)
+
+    def free(self, seed: int) -> None:
+        """Marches of any form."""
+        most = LONGEST if self.best is None else length(self.best) - self.given
+        beam = Beam(self.survivors, self.limits, self.wish.width, self.wish.behind, seed)
+        first = 0
+        for marches in beam.run(most, lambda count, least: self.progress.at(f"{self.given + count}n")):
+            first = first or length(marches[0])
+            for parts in marches[: CHOSEN_OF if self.wish.is_open or self.wish.fits else 1]:
+                self.take(parts)
+            if self.best is not None or length(marches[0]) >= first + LONGER_BY:
+                return
+        if beam.nearest is not None:
+            self.nearest = self.nearest or beam.nearest[1]
+
+    def exhaust(self, tried: Optional[int]) -> None:
+        """Has the bound grow for the primitives of which it can be shown, as long as no shorter march turns up."""
+        plain = [it for it in self.wish.instances if len(it.links) == 1 and is_static(it)]
+        survivors = Survivors(plain, self.wish.decoder)
+        most = length(self.best or []) - self.given - 1
+        bound = Bound(survivors, self.limits, self.wish.behind, self.progress.at)
+        operations = bound.least
+        while operations <= most:
+            self.bounded(operations)
+            parts = bound.search(operations, tried)
+            if parts is not None:
+                parts = [*self.wish.behind, *parts]
+                if is_complete(self.survivors, parts):
+                    self.take(parts)
+                return
+            operations += 1
+        self.bounded(most + 1)
+
+    def bounded(self, operations: int) -> None:
+        if operations > self.least:
+            self.least = operations
+            self.progress.bounded(self.given + operations)
+
+    def run(self, tried: Optional[int] = TRIED) -> None:
+        """The whole search. The number of elements that are tried bounds its last part."""
+        self.progress.begin()
+        self.regular()
+        for seed in (1, 2, 3) if self.wish.is_open else (1,):
+            self.free(seed)
+        if self.best is not None:
+            with contextlib.suppress(TimeoutError):
+                self.exhaust(tried)
+
+    @property
+    def is_shortest(self) -> bool:
+        return self.best is not None and length(self.best) - self.given <= self.least
+
+
+def is_static(instance: Instance) -> bool:
+    acts = instance.links[0].acts
+    return len(acts) < 2 and acts != ["t"]
+
+
+def rank(parts: Sequence[Part]) -> tuple[int, int, int, int]:
+    """What makes a march better: fewer operations, fewer pauses, more orders left open, fewer elements."""
+    return length(parts), pauses(parts), -sum(part.order == "any" for part in parts), len(parts)
+
