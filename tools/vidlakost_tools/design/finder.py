@@ -16,7 +16,7 @@ from vidlakost_tools.design.survivors import Survivors
 # how many operations a march may have, or what is added to one
 LONGEST = 160
 # how many elements the search of all shorter marches tries, unless it is to go on to its end
-TRIED = 12_000_000
+TRIED = 8_000_000
 # how many marches of a length are looked at where one is chosen, and by how many operations they may be longer than the first
 CHOSEN_OF, LONGER_BY = 24, 4
 
@@ -123,6 +123,10 @@ class Finder:
         plain = [it for it in self.wish.instances if len(it.links) == 1 and is_static(it)]
         survivors = Survivors(plain, self.wish.decoder)
         most = length(self.best or []) - self.given - 1
+        if len(plain) < len(self.wish.instances) and not self.wish.behind:
+            # what covers these alone is short, and no bound of theirs goes beyond it
+            alone = Blocks(survivors, self.limits, self.wish.width, 2).run(most, lambda count, least: None)
+            most = min(most, length(alone) - 1 if alone else most)
         bound = Bound(survivors, self.limits, self.wish.behind, self.progress.at)
         operations = bound.least
         while operations <= most:
