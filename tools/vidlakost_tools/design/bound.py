@@ -1,4 +1,5 @@
-"""That no shorter march covers a list: an exhaustive search, length by length, of static primitives and a wrong decoder.
+"""That no shorter march covers a list: an exhaustive search, length by length, of static primitives, losses over a pause and a
+wrong decoder.
 
 Three things make it short. An element is left out where another of at most the same operations leaves no more, whatever
 follows. Of all states behind elements each is visited once. And a march is given up where what is left of a few instances
@@ -8,17 +9,19 @@ from __future__ import annotations
 
 import collections
 import dataclasses
+import itertools
 from typing import Callable, Dict, List, NamedTuple, Optional, Sequence, Tuple
 
 from vidlakost_tools.design.beam import Chain
 from vidlakost_tools.design.instances import OPERATIONS, READ, Instance, left_by
-from vidlakost_tools.design.parts import Limits, Part, Parts, elements_from, way
-from vidlakost_tools.design.survivors import BITS, Operations, Survivors
+from vidlakost_tools.design.parts import PAUSE, Limits, Part, Parts, elements_from, way
+from vidlakost_tools.design.survivors import BITS, Operations, Survivors, applied
 
 # how many operations there are of each kind: reads, writes of the bit that is held, writes of the other one
 Costs = Tuple[int, int, int]
 # what is left good and what is left wrong of the good and of the wrong ones
 Move = Tuple[int, int, int, int]
+# the instances that are left good and those that are left wrong, and what good cells hold, with twice the pauses so far
 Left = Tuple[int, int, int]
 
 
@@ -32,13 +35,19 @@ class Visit(NamedTuple):
 
 
 class Step(NamedTuple):
-    """An element in a direction."""
+    """An element in a direction, perhaps behind a pause."""
 
     move: Move
     due: int
     costs: Costs
     operations: Operations
     down: bool
+    paused: bool
+
+    def stands_for(self, other: "Step") -> bool:
+        """Whether it leaves less, and takes no more."""
+        takes_less = self.paused <= other.paused and is_within(self.costs, other.costs)
+        return takes_less and self.due == other.due and leaves_less(self.move, other.move)
 
 
 @dataclasses.dataclass
@@ -135,12 +144,19 @@ class Bound:
         """The elements in both directions, by length, that no others stand for."""
         found: List[Step] = []
         for it in sorted(self.sequences[due], key=lambda it: len(it.operations)):
-            for down in (False, True):
-                good, wrong = self.survivors.table(it.operations, down, due)[:2]
-                move = (good[0], good[1], wrong[0], wrong[1])
-                if not any(is_within(step.costs, it.costs) and step.due == it.due and leaves_less(step.move, move) for step in found):
-                    found.append(Step(move, it.due, it.costs, it.operations, down))
+            for down, paused in itertools.product((False, True), (False, True) if self.survivors.pauses else (False,)):
+                step = Step(self.move(it.operations, down, due, paused), it.due, it.costs, it.operations, down, paused)
+                if not any(other.stands_for(step) for other in found):
+                    found.append(step)
         return found
+
+    def move(self, operations: Operations, down: bool, due: int, paused: bool) -> Move:
+        every = self.survivors.everyone | self.survivors.extra
+        made: List[int] = []
+        for state in ((every, 0, 0, 0), (0, self.survivors.everyone, 0, 0)):
+            before = self.survivors.paused(state, due) if paused else state
+            made += applied(before, self.survivors.table(operations, down, due))[:2]
+        return made[0], made[1], made[2], made[3]
 
     def given(self, behind: Sequence[Part]) -> Start:
         state, due = self.survivors.run(elements_from(behind))
@@ -205,7 +221,7 @@ class Bound:
         good, wrong, due = left
         made = 0
         for kind in self.kinds:
-            made += kind.least.get((good & kind.mask, wrong & kind.mask, due), 0)
+            made += kind.least.get((good & kind.mask, wrong & kind.mask, due & 1), 0)
         return made or (1 if good or wrong else 0)
 
     # ---- the search
@@ -228,16 +244,17 @@ class Bound:
                 good, wrong, due = left
                 if not good and not wrong:
                     return unwound(done)
-                for (gg, gw, wg, ww), behind, _, operations, down in self.steps[due]:
+                for (gg, gw, wg, ww), behind, _, operations, down, paused in self.steps[due & 1]:
                     longer = length + len(operations)
                     if longer > most:
                         break
                     tried += 1
-                    made = (good & gg | wrong & wg, good & gw | wrong & ww, behind)
-                    if best.get(made, most + 1) <= longer or longer + self.asked(made) > most:
+                    pauses = (due >> 1) + paused
+                    made = (good & gg | wrong & wg, good & gw | wrong & ww, behind + 2 * pauses)
+                    if pauses > self.survivors.pauses or best.get(made, most + 1) <= longer or longer + self.asked(made) > most:
                         continue
                     best[made] = longer
-                    layers[longer].append((made, (Part(way(down), operations), done)))
+                    layers[longer].append((made, (Part(way(down), operations), (PAUSE, done) if paused else done)))
                 if steps is not None and tried > steps:
                     raise TimeoutError
             self.watch(f"{most}n at {length}n, {tried:,} elements tried")

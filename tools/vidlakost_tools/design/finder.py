@@ -119,17 +119,21 @@ class Finder:
             self.nearest = self.nearest or beam.nearest[1]
 
     def exhaust(self, tried: Optional[int]) -> None:
-        """Has the bound grow for the primitives of which it can be shown, as long as no shorter march turns up."""
-        plain = [it for it in self.wish.instances if len(it.links) == 1 and is_static(it)]
+        """Has the bound grow for the primitives of which it can be shown: the static ones, and then with those of pauses."""
+        self.grow([it for it in self.wish.instances if is_static(it)], tried)
+        if self.survivors.pauses and not self.is_shortest:
+            self.grow([it for it in self.wish.instances if is_static(it) or it.links[0].acts == ["t"]], tried)
+
+    def grow(self, plain: Sequence[Instance], tried: Optional[int]) -> None:
+        """Looks for a march of each number of operations below the best, from the least on, until one turns up."""
         survivors = Survivors(plain, self.wish.decoder)
         most = length(self.best or []) - self.given - 1
-        if len(plain) < len(self.wish.instances) and not self.wish.behind:
+        if len(plain) < len(self.wish.instances) and not self.wish.behind and not survivors.pauses:
             # what covers these alone is short, and no bound of theirs goes beyond it
             alone = Blocks(survivors, self.limits, self.wish.width, 2).run(most, lambda count, least: None)
             most = min(most, length(alone) - 1 if alone else most)
         bound = Bound(survivors, self.limits, self.wish.behind, self.progress.at)
-        operations = bound.least
-        while operations <= most:
+        for operations in range(max(bound.least, self.least), most + 1):
             self.bounded(operations)
             parts = bound.search(operations, tried)
             if parts is not None:
@@ -137,7 +141,6 @@ class Finder:
                 if is_complete(self.survivors, parts):
                     self.take(parts)
                 return
-            operations += 1
         self.bounded(most + 1)
 
     def bounded(self, operations: int) -> None:
@@ -161,11 +164,12 @@ class Finder:
 
 
 def is_static(instance: Instance) -> bool:
+    """Whether an instance is of a single primitive of at most one operation."""
     acts = instance.links[0].acts
-    return len(acts) < 2 and acts != ["t"]
+    return len(instance.links) == 1 and len(acts) < 2 and acts != ["t"]
 
 
 def rank(parts: Sequence[Part]) -> tuple[int, int, int, int]:
-    """What makes a march better: fewer operations, fewer pauses, more orders left open, fewer elements."""
-    return length(parts), pauses(parts), -sum(part.order == "any" for part in parts), len(parts)
+    """What makes a march better: fewer operations, fewer pauses, fewer orders that are not open, fewer elements."""
+    return length(parts), pauses(parts), sum(part.order in ("up", "down") for part in parts), len(parts)
 
