@@ -78,6 +78,39 @@ READS = """
     end
   endtask
 """
+# in which order two words are read one behind another: no shift of it is the same
+ORDER = "0010011010111100"
+# the most cycles that an answer is waited for there
+LONGEST = 7
+FOLLOWS = """
+  task follow{n}(input [{high}:0] word);
+    reg [{top}:0] place;
+    reg [15:0] ahead;
+    reg [{longest}:0] behind;
+    reg [{longest}:1] fits;
+    begin
+      put{w}({width}'d0, word);
+      put{w}({width}'d{last}, ~word);
+      ahead = 16'b{order};
+      behind = {{{longest} + 1{{1'b0}}}};
+      fits = {{{longest}{{1'b1}}}};
+      for (turn = 0; turn < 16 + {longest}; turn = turn + 1) begin
+        place = ahead[0] ? {width}'d{last} : {width}'d0;
+{read}
+        if (turn > 15) begin
+{idle}
+        end
+        #4;
+        behind = behind << 1;
+{looks}
+        behind[0] = ahead[0];
+        ahead = ahead >> 1;
+        @(negedge clk);
+      end
+{told}
+    end
+  endtask
+"""
 PLACES = """    put{w}(0, {zeros});
     for (spot = 0; spot < {width}; spot = spot + 1) put{w}(1 << spot, {zeros});
     for (spot = 0; spot < {width}; spot = spot + 1) begin
@@ -104,7 +137,11 @@ def shared(macros: list[Macro]) -> list[str]:
     """What the uses of the ports of these macros share."""
     scans = ["  reg scan_mode = 1'b0;"] if any(macro.bypass for macro in macros) else []
     lanes = any(pin.has_lanes for macro in macros for pin in macro.driven())
-    return [*scans, "  integer spot;", *(["  integer lane;"] if lanes else [])]
+    return [*scans, "  integer spot;", "  integer turn;", *(["  integer lane;"] if lanes else [])]
+
+
+def indented(lines: str) -> str:
+    return "\n".join(f"  {line}" for line in lines.split("\n"))
 
 
 class Bench:
@@ -206,14 +243,46 @@ class Bench:
             wait = f"repeat ({latency - 1}) @(negedge clk);\n      #4;" if latency > 1 else "#4;"
             read = self.set_pins(second, False)
             made += READS.format(**told, read=read, idle=idle, wait=wait, rdata=self.inside(answers), rdata_name=answers.name)
+            made += self.follows(second)
         return made
+
+    def follows(self, second: bool) -> str:
+        """Reads of two words whose bits all differ, one behind another: where they come earlier or later than the description
+        says, or are overwritten, that is told, with the latency that fits."""
+        answers, macro = self.macro.answers(second), self.macro
+        latency, registers = macro.latency(self.word), macro.before + macro.after
+        rdata, looks = self.inside(answers), []
+        told = f"{self.name}: reads that follow one another bring their words to {answers.name}"
+        fatal = [f"      if (fits[{latency}] !== 1'b1) $fatal(1, \"{told} in no cycle from 1 to {LONGEST} behind them\");"]
+        for late in range(1, LONGEST + 1):
+            inside = f"turn >= {late} && turn < {late + 16}"
+            looks.append(f"        if ({inside} && {rdata} !== (behind[{late}] ? ~word : word)) fits[{late}] = 1'b0;")
+            if late != latency:
+                said = f"{told} behind {late} cycle{'s' * (late > 1)}: latency {late + registers} fits"
+                said += f", and the description says {latency + registers}"
+                fatal.insert(-1, f"      if (fits[{late}] === 1'b1) $fatal(1, \"{said}\");")
+        return FOLLOWS.format(
+            n=self.port(second),
+            w=self.port(second and macro.second_writes),
+            high=self.bits - 1,
+            top=self.width - 1,
+            width=self.width,
+            last=self.word.first.words - 1,
+            longest=LONGEST,
+            order=ORDER,
+            read=indented(self.set_pins(second, False)),
+            idle=indented(self.set_pins(second, None)),
+            looks="\n".join(looks),
+            told="\n".join(fatal),
+        )
 
     def uses(self) -> str:
         """Uses of the chip's port: two words, a write that is not enabled, each bit of the address, and each lane alone. What
         is read once more shows that neither a read nor a rest wrote anything."""
         ones, one, zeros = f"{{{self.bits}{{1'b1}}}}", f"{self.bits}'h1", f"{self.bits}'h0"
         last, macro = self.word.first.words - 1, self.macro
-        lines = []
+        turned = f"{self.bits}'h{int('01' * self.bits, 2) & (1 << self.bits) - 1:x}"
+        lines = [f"    follow{self.port(second)}({turned});" for second in (False, True)[: 1 + macro.has_second]]
         for writes in (False, True) if macro.second_writes else (False,):
             put = self.port(writes)
             lines += [f"    put{put}(0, {one});", f"    put{put}({last}, {ones});"]
