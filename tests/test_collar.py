@@ -13,7 +13,7 @@ from vidlakost_tools import collar_lanes, macro_pins
 from vidlakost_tools.collar_text import Names, collar
 from vidlakost_tools.files import COMMENTS, is_own, marked, refuse_twins, write_own
 from vidlakost_tools.hold_text import holds_of
-from vidlakost_tools.macro_pins import Macro, Word, not_tested, read_macro
+from vidlakost_tools.macro_pins import Macro, Word, alike, not_tested, read_macro
 from vidlakost_tools.march import elements_of
 from vidlakost_tools.memory import Memory
 from vidlakost_tools.tool import ToolError, permissions, write_all
@@ -106,6 +106,19 @@ class Lines(unittest.TestCase):
         self.assertEqual(not_tested(read([*PINS, *more]), word), "port t, o; pins u, s; lanes of wen")
         self.assertEqual(not_tested(read([*PINS, *PORT, "masks"]), word), "")
         self.assertEqual(not_tested(read([*PINS, *PORT]), word), "lanes of wen, v")
+
+
+    def test_bits_that_no_background_tells_apart(self) -> None:
+        told = "bits {} of a word hold the same in every background{}"
+        four, high = memory(bits=4), memory("high", 2)
+        self.assertEqual(alike(Word([four])), told.format("0 and 1", " (and 5 more pairs)"))
+        four.backgrounds = [0, 10, 12]
+        self.assertEqual(alike(Word([four])), "")
+        high.backgrounds = [0, 2, 3]
+        self.assertEqual(alike(Word([four, high])), told.format("2 and 4", " (and 1 more pair)"))
+        high.backgrounds = [3, 2, 0]
+        self.assertEqual(alike(Word([four, high])), "")
+        self.assertEqual(alike(Word([memory(bits=1)])), "")
 
 
 class Texts(unittest.TestCase):

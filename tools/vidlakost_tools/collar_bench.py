@@ -3,42 +3,49 @@ from __future__ import annotations
 
 from vidlakost_tools.bench_end import FINISH, over
 from vidlakost_tools.collar_lanes import spread
+from vidlakost_tools.collar_planted import count, inputs, some_of
 from vidlakost_tools.collar_text import FOOT, HEAD, MARK, PLANTED, POWER, has_other_lanes, last_phase
 from vidlakost_tools.macro_pins import Macro, Pin, Word
 from vidlakost_tools.verilog import ranged
 
 BENCH = """{mark} collar: a testbench of {name}_collar. It uses the chip's port, runs the self-test, and ends with a status;
-// with +planted it runs the self-test once for each fault that is planted, and each has to be found. An X on fail is a failure.
+// with +planted it runs the self-test once for each fault that is planted, and each has to be found, and then with words in
+// which every two bits differ. An X on fail is a failure.
 `define {planted}
 {head}module {name}_collar_tb;
 {over}  reg clk = 1'b0;
   initial forever #5 clk = ~clk;
   reg test = 1'b0;
-  reg [2:0] planted = 3'd0;
+{inputs}
   wire done;
   wire fail;
   integer waited;
 {declared}
   {name}_collar dut(
-{power}    .clk(clk), .test(test), .done(done), .fail(fail), .planted(planted),
+{power}    .clk(clk), .test(test), .done(done), .fail(fail),
+    .planted(planted), .planted_bit(planted_bit), .numbered(numbered),
     {links}
   );
 {tasks}
-  task run(input [2:0] what, input wanted);
+  // a run; with a bit that is planted wrong it ends where that is found
+  task run(input [2:0] what, input [6:0] which, input [2:0] words, input wanted);
     begin
       planted = what;
+      planted_bit = which;
+      numbered = words;
       repeat (4) @(negedge clk);
       test = 1'b1;
 {disturbed}      waited = 0;
-      while (done !== 1'b1) begin
+      while (done !== 1'b1 && (what != 3'd4 || fail !== 1'b1)) begin
         @(negedge clk);
         waited = waited + 1;
         if (waited > {most}) $fatal(1, "{name}: done did not come");
       end
       @(negedge clk);
-      if (fail !== wanted) $fatal(1, "{name}: fail is %b, and %0d was planted", fail, what);
+      if (fail !== wanted) $fatal(1, "{name}: fail is %b, and %0d was planted, in %0d, with words %0d", fail, what, which, words);
 {settled}      test = 1'b0;
       planted = 3'd0;
+      numbered = 3'd0;
     end
   endtask
 
@@ -48,7 +55,7 @@ BENCH = """{mark} collar: a testbench of {name}_collar. It uses the chip's port,
     if ($test$plusargs("planted") != 0) begin
 {faults}
     end else begin
-      run(3'd0, 1'b0);
+      run(3'd0, 7'd0, 3'd0, 1'b0);
       $display("{name}: passes");
       repeat (4) @(negedge clk);
 {again}
@@ -118,6 +125,11 @@ PLACES = """    put{w}(0, {zeros});
 {sees}
       put{w}(1 << spot, {zeros});
     end"""
+WALKS = """    for (spot = 0; spot < {bits}; spot = spot + 1) begin
+      put{w}(0, {bits}'d1 << spot);
+      put{w}({last}, ~({bits}'d1 << spot));
+{sees}
+    end"""
 LANES = """    for (lane = 0; lane <= {width}; lane = lane + 1) begin
       put{n}(0, {zeros});
       {lanes} = {width}'d1 << lane;
@@ -125,6 +137,11 @@ LANES = """    for (lane = 0; lane <= {width}; lane = lane + 1) begin
       {expected} = {spread};
       {lanes} = {all};
       see{n}(0, {expected});
+      put{n}({last}, {ones});
+      {lanes} = {width}'d1 << lane;
+      put{n}({last}, {zeros});
+      {lanes} = {all};
+      see{n}({last}, ~{expected});
     end"""
 
 
@@ -138,6 +155,10 @@ def shared(macros: list[Macro]) -> list[str]:
     scans = ["  reg scan_mode = 1'b0;"] if any(macro.bypass for macro in macros) else []
     lanes = any(pin.has_lanes for macro in macros for pin in macro.driven())
     return [*scans, "  integer spot;", "  integer turn;", *(["  integer lane;"] if lanes else [])]
+
+
+def planted_inputs(collars: int = 1) -> list[str]:
+    return [f"  reg [{width - 1}:0] {name} = {width}'d0;" for name, width in inputs(collars)]
 
 
 def indented(lines: str) -> str:
@@ -290,12 +311,13 @@ class Bench:
             for reads in (False, True) if macro.has_second else (False,):
                 see = self.port(reads)
                 lines += [f"    see{see}(0, {one});", f"    see{see}({last}, {ones});", f"    see{see}(0, {one});"]
-            lines.append(self.places(put, zeros, ones))
+            lines += [self.places(put, zeros, ones), self.walks(put)]
             for pin in macro.lane_pins(writes):
                 name = self.lanes_name(pin)
                 lines.append(
                     LANES.format(
                         width=pin.width,
+                        last=last,
                         n=put,
                         zeros=zeros,
                         ones=ones,
@@ -320,6 +342,15 @@ class Bench:
             see = self.port(reads)
             sees += [f"      see{see}(1 << spot, {ones});", f"      see{see}(0, {zeros});"]
         return PLACES.format(w=put, width=self.width, zeros=zeros, ones=ones, sees="\n".join(sees))
+
+    def walks(self, put: str) -> str:
+        """Words with one bit at 1, and beside them those with one at 0: every two bits differ in some, both ways."""
+        sees, last = [], self.word.first.words - 1
+        for reads in (False, True)[: 1 + self.macro.has_second]:
+            see = self.port(reads)
+            sees.append(f"      see{see}(0, {self.bits}'d1 << spot);")
+            sees.append(f"      see{see}({last}, ~({self.bits}'d1 << spot));")
+        return WALKS.format(w=put, bits=self.bits, last=last, sees="\n".join(sees))
 
     def bypass(self) -> list[str]:
         """In scan mode what stands at the pins comes back behind an edge, and the memory keeps what it holds."""
@@ -347,17 +378,32 @@ class Bench:
             f'      $fatal(1, "{self.name}: scan_mode gives %h and %h", {passed}, {answers});',
         ]
 
+    def kinds(self) -> list[tuple[int, list[int], str]]:
+        """What is planted, each in some bits or lanes."""
+        macro, kinds = self.macro, [(1, [0], "a tied address")]
+        for kind, second in ((2, False), (7, True)):
+            if macro.masks and (not second or has_other_lanes(macro)):
+                width = macro.lane_pins(second)[0].width
+                places = [place for place in some_of(self.name, width) if place < width - 1] + [max(0, width - 2)]
+                kinds.append((kind, sorted(set(places)), "a shorted lane" + " of the other port" * second))
+        kinds += [(3, [0], "a dead port")] * macro.has_second
+        first, has_parts = 0, len(self.word.memories) > 1
+        for memory in self.word.memories:
+            told = f"a wrong bit of {memory.name}" if has_parts else "a wrong bit"
+            kinds.append((4, list(range(first, first + memory.bits)), told))
+            first += memory.bits
+        return kinds + [(6, [0], "a part out of step")] * has_parts
+
     def faults(self) -> str:
-        """The runs with what is planted."""
-        kinds = [(1, "a tied address")] + [(2, "a shorted lane")] * bool(self.macro.masks)
-        kinds += [(3, "a dead port")] * self.macro.has_second
-        kinds += [(7, "a shorted lane of the other port")] * has_other_lanes(self.macro)
-        if len(self.word.memories) > 1:
-            low, high = (memory.name for memory in self.word.memories)
-            kinds += [(4, f"a wrong bit of {low}"), (5, f"a wrong bit of {high}"), (6, "a part out of step")]
+        """The runs with what is planted, and those with words in which every two bits differ."""
         lines = []
-        for number, what in kinds:
-            lines += [f"      run(3'd{number}, 1'b1);", f'      $display("{self.word.name}: {what} is found");']
+        for kind, places, what in self.kinds():
+            lines += [f"      run(3'd{kind}, 7'd{place}, 3'd0, 1'b1);" for place in places]
+            lines.append(f'      $display("{self.word.name}: {what} is found");')
+        numbers = count(self.bits)
+        if numbers:
+            lines += [f"      run(3'd0, 7'd0, 3'd{number}, 1'b0);" for number in range(1, numbers + 1)]
+            lines.append(f'      $display("{self.word.name}: words in which every two bits differ pass");')
         return "\n".join(lines)
 
     def text(self) -> str:
@@ -372,6 +418,7 @@ class Bench:
             planted=PLANTED,
             over=over(f"{name}_collar_tb"),
             name=name,
+            inputs="\n".join(planted_inputs()),
             declared="\n".join([*shared([self.macro]), *self.declared()]),
             power=self.power(),
             disturbed=self.disturbed("~"),

@@ -4,8 +4,9 @@ from __future__ import annotations
 
 import dataclasses
 
-from vidlakost_tools import collar_bus, collar_lanes
+from vidlakost_tools import collar_bus, collar_lanes, collar_planted
 from vidlakost_tools.access_block import Port, links, of_memory
+from vidlakost_tools.collar_planted import also
 from vidlakost_tools.macro_pins import Macro, Pin, Word, bit_of, literal, widths_of
 from vidlakost_tools.memory import Memory
 from vidlakost_tools.tool import ToolError
@@ -14,12 +15,9 @@ from vidlakost_tools.verilog import ranged
 MARK = "// made by vidlakost"
 HEAD = "`timescale 1ns / 1ps\n`default_nettype none\n"
 FOOT = "`default_nettype wire\n"
-PLANTED = "VIDLAKOST_PLANTED"
+PLANTED = collar_planted.DEFINE
 POWER = "USE_POWER_PINS"
 ABOUT = f"""{MARK} collar: the macro {{macro}} with the self-test of {{name}}, which has the macro while test is 1.
-// Where {PLANTED} is defined, as in testbenches, planted is an input: 1 ties the address, 2 shorts two lanes,
-// 3 is a dead second port, 4 turns the lowest bit of each word that the march reads and 5 the highest one, and 6 has the two
-// parts of a word do different things; 7 shorts two lanes of the second port.
 """
 CONTROLS = ("en", "we", "read", "write")
 
@@ -81,7 +79,7 @@ def own_ports(macro: Macro, word: Word, kind: str) -> list[Port]:
 
 def refuse_names(macro: Macro, word: Word, own: list[Port]) -> None:
     """No pin of the chip's is a port of the collar, no tie hangs on something else, and no module is another."""
-    taken = {port.name for port in own} | {"planted"}
+    taken = {port.name for port in own} | planted_names()
     inputs = {port.name for port in own if port.direction == "input"}
     for way, pin in macro.chip_pins():
         for name in pin.names():
@@ -100,9 +98,8 @@ def refuse_names(macro: Macro, word: Word, own: list[Port]) -> None:
         raise macro.refuse(macro.name_line, f"'{macro.name}' is a module that stands beside the macro")
 
 
-def either(otherwise: str, planted: str) -> list[str]:
-    """Lines for the testbench, and those in their place."""
-    return [f"`ifdef {PLANTED}", planted, "`else", otherwise, "`endif"]
+def planted_names() -> set[str]:
+    return {name for name, _ in collar_planted.INPUTS}
 
 
 @dataclasses.dataclass
@@ -117,7 +114,7 @@ class Collar:
         self.own = own_ports(self.macro, self.word, self.kind)
         refuse_names(self.macro, self.word, self.own)
         pins = {name for pin in self.macro.pins for name in pin.names()}
-        self.names = Names(pins | {port.name for port in self.own} | {"planted"})
+        self.names = Names(pins | {port.name for port in self.own} | planted_names())
         self.lines: list[str] = []
         # of each driven pin what comes from the multiplexer, and what is at the macro
         self.chosen: dict[int, str] = {}
@@ -170,16 +167,20 @@ class Collar:
         ports += [f".go({go})"]
         if True in collar_lanes.counted(macro)[1]:
             ports.append(f".second({self.second()})")
+        key = self.names.of("lanes_key")
+        self.lines += collar_planted.key(key, word.bits)
         for name, width in (("en", 1), ("we", 1), ("addr", word.first.width), ("wdata", word.bits)):
             net = self.declared(f"l_{name}", width)
-            values[name] = f"{go} ? {net} : {values[name]}"
             ports.append(f".{name}({net})")
+            net = self.planted("l_turned", width, net, f"^ {key}") if name == "wdata" else net
+            values[name] = f"{go} ? {net} : {values[name]}"
         for number, pin in enumerate(collar_lanes.lane_pins(macro)):
             net = self.declared(f"l_lanes_{number}", pin.width)
             ports.append(f".lanes_{number}({net})")
             chosen = self.wire(f"s_lanes_{number}", pin.width, f"{go} ? {net} : {{{pin.width}{{1'b1}}}}")
             self.delayed(f"t_lanes_{number}", chosen, pin.width, macro.before, False)
         answer = self.declared("answer", word.bits)
+        answer = self.planted("l_taken", word.bits, answer, f"^ {key}")
         ports += [f".rdata({answer})", f".over({self.net('lanes_over')})", f".fail({self.net('lanes_fail')})"]
         instance = self.names.of("lanes")
         self.lines.append(f"  {word.name}_lanes {instance}({', '.join(ports)});")
@@ -194,7 +195,7 @@ class Collar:
         """Two self-tests that do not the same in some cycle are a failure."""
         low, high = ({name: self.net(f"{half}_{name}") for name in ("en", "we", "addr")} for half in ("low", "high"))
         apart = self.names.of("apart_kept")
-        high["we"] = self.planted("p_high_we", 1, high["we"], f"{high['we']} ^ (planted == 3'd6)")
+        high["we"] = self.planted("p_high_we", 1, high["we"], "^ (planted == 3'd6)")
         command = f"{low['we']} != {high['we']} || {low['addr']} != {high['addr']}"
         other = f"{low['en']} != {high['en']} || ({low['en']} && ({command}))"
         self.lines += [
@@ -260,15 +261,15 @@ class Collar:
             if self.macro.bypass and pin.kind in CONTROLS:
                 net = self.wire(f"g_{pin.name}", pin.width, f"scan_mode ? {pin.idle()} : {net}")
             if pin.kind in ("addr", "raddr", "waddr") and not pin.is_second:
-                net = self.planted(f"p_{pin.name}", pin.width, net, f"planted == 3'd1 ? {pin.idle()} : {net}")
+                net = self.planted(f"p_{pin.name}", pin.width, net, collar_planted.tied(pin))
             for kind in [kind for kind, lane in shorts if pin == lane]:
-                net = self.planted(f"p_{pin.name}", pin.width, net, f"planted == 3'd{kind} ? {shorted(pin, net)} : {net}")
+                net = self.planted(f"p_{pin.name}", pin.width, net, collar_planted.shorted(pin, net, kind))
             self.at[number] = net
 
-    def planted(self, name: str, width: int, sound: str, planted: str) -> str:
+    def planted(self, name: str, width: int, sound: str, more: str) -> str:
+        """A net behind another one, with what is planted between them."""
         made = self.names.of(name)
-        head = f"  wire {ranged(width)}{made} = "
-        self.lines += either(f"{head}{sound};", f"{head}{planted};")
+        self.lines += also(f"  wire {ranged(width)}{made} = {sound}", more)
         return made
 
     # ---- its answers
@@ -276,11 +277,12 @@ class Collar:
     def answers(self) -> None:
         """The words of the macro on their way to the chip and to the self-test."""
         bits, macro = self.word.bits, self.macro
-        turned = self.turned()
+        # not while the lanes are tried, since those tell of no part alone
+        turned = collar_planted.turned(bits, self.net("lanes_go") if macro.masks else "")
         heads: list[str] = []
         for second, side in ((False, "first"), (True, "second"))[: 1 + macro.has_second]:
             word = self.declared(f"{side}_word", bits)
-            wrong = f"planted == 3'd3 ? {bits}'d0 : {word}" if second else f"{word} ^ {turned}"
+            wrong = collar_planted.dead(bits) if second else turned
             answer = self.planted(f"{side}_answer", bits, word, wrong)
             heads.append(answer)
             self.to_chip(macro.answers(second), self.bypassed(side, second, answer))
@@ -302,13 +304,7 @@ class Collar:
         read = f"{self.net('t_en')} & ~{self.net('t_we')}"
         older = f"{{{due}[{latency - 1}:1], {read}}}" if latency > 1 else read
         self.lines += [f"`ifdef {PLANTED}", f"  reg [{latency}:1] {due};", f"  always @(posedge clk) {due} <= {older};", "`endif"]
-        return self.planted("judged", self.word.bits, answered, f"{due}[{latency}] ? {answered} : ~{answered}")
-
-    def turned(self) -> str:
-        """The bits of a word that are planted wrong; not while the lanes are tried, since those tell of no part alone."""
-        bits, more = self.word.bits, f" & ~{self.net('lanes_go')}" if self.macro.masks else ""
-        low, high = f"(planted == 3'd4){more}", f"(planted == 3'd5){more}"
-        return f"({low})" if bits == 1 else f"{{{high}, {low}}}" if bits == 2 else f"{{{high}, {bits - 2}'d0, {low}}}"
+        return self.planted("judged", self.word.bits, answered, f"^ {{{self.word.bits}{{~{due}[{latency}]}}}}")
 
     def bypassed(self, side: str, second: bool, answer: str) -> str:
         """What the chip gets: in scan mode what a register took from the pins."""
@@ -347,11 +343,23 @@ class Collar:
             ]
             return
         reset = self.phases() if self.macro.masks or self.macro.has_second else "!test"
+        first = 0
         for half, memory in halves(self.word):
-            own = ", ".join(f".{name}({self.net(f'{half}_{name}')})" for name in ("rdata", "en", "we", "addr", "wdata"))
+            given, taken = self.turned(half, memory.bits, first)
+            first += memory.bits
+            own = ", ".join(f".{name}({self.net(f'{half}_{name}')})" for name in ("en", "we", "addr"))
+            own = f".rdata({taken}), {own}, .wdata({given})"
             over, bad = self.net(f"{half}_done"), self.net(f"{half}_fail")
             self.lines.append(f"  {memory.name}_bist {self.names.of(f'{half}_test')}(.clk(clk), .reset({reset}),")
             self.lines.append(f"    {own}, .done({over}), .fail({bad}));")
+
+    def turned(self, half: str, bits: int, first: int) -> tuple[str, str]:
+        """The words that a self-test gives and takes, which a testbench can turn; `first` is the number of its lowest bit."""
+        key, given, wdata = self.names.of(f"{half}_key"), self.declared(f"{half}_given", bits), self.net(f"{half}_wdata")
+        self.lines += collar_planted.key(key, bits, first)
+        self.lines += also(f"  assign {wdata} = {given}", f"^ {key}")
+        rdata = self.net(f"{half}_rdata")
+        return given, self.planted(f"{half}_taken", bits, rdata, f"^ {key}")
 
     def states(self) -> None:
         """Declares what the self-tests say."""
@@ -417,7 +425,7 @@ class Collar:
         macro = self.macro
         power = [f"  inout wire {pin.name}," for pin in macro.of("power")]
         lines = [f"`ifdef {POWER}", *power, "`endif"] if power else []
-        lines += [f"`ifdef {PLANTED}", "  input wire [2:0] planted,", "`endif"]
+        lines += collar_planted.ports()
         told = [f"  {port.direction} wire {ranged(port.width)}{port.name}" for port in self.own]
         for way, pin in macro.chip_pins():
             if way == "inout":
@@ -469,14 +477,6 @@ def has_other_lanes(macro: Macro) -> bool:
     return macro.masks > 0 and macro.second_writes and bool(macro.lane_pins(True))
 
 
-def shorted(pin: Pin, net: str) -> str:
-    """Two lanes as one, or a lane that is always enabled."""
-    if pin.width == 1:
-        return f"1'b{int(not pin.is_low)}"
-    both = f"{{2{{{net}[1] {'&' if pin.is_low else '|'} {net}[0]}}}}"
-    return both if pin.width == 2 else f"{{{net}[{pin.width - 1}:2], {both}}}"
-
-
 def collar(macro: Macro, word: Word, kind: str) -> str:
     """The file of the collar."""
     if kind not in ("bist", "open", *collar_bus.KINDS.values()):
@@ -484,4 +484,4 @@ def collar(macro: Macro, word: Word, kind: str) -> str:
     text = Collar(macro, word, kind).module()
     about = ABOUT.format(macro=macro.name, name=" and ".join(memory.name for memory in word.memories))
     lanes = collar_lanes.lanes(macro, word) if macro.masks else ""
-    return about + HEAD + lanes + text + FOOT
+    return about + collar_planted.ABOUT + HEAD + lanes + text + FOOT

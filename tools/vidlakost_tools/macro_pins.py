@@ -483,6 +483,26 @@ def not_tested(macro: Macro, word: Word) -> str:
     return "; ".join(f"{what} {', '.join(names)}" for what, names in parts if names)
 
 
+def alike(word: Word) -> str:
+    """Which bits of a word hold the same whatever the background is, so that no read tells one from the other; empty where
+    there are none."""
+    rounds = [sum(memory.backgrounds[at] << low for low, memory in lows(word)) for at in range(len(word.first.backgrounds))]
+    groups: dict[tuple[int, ...], list[int]] = {}
+    for bit in range(word.bits):
+        groups.setdefault(tuple(background >> bit & 1 for background in rounds), []).append(bit)
+    count = sum(len(bits) * (len(bits) - 1) // 2 for bits in groups.values())
+    if not count:
+        return ""
+    one, other = next(bits for bits in groups.values() if len(bits) > 1)[:2]
+    more = f" (and {count - 1} more pair{'s' * (count > 2)})" if count > 1 else ""
+    return f"bits {one} and {other} of a word hold the same in every background{more}"
+
+
+def lows(word: Word) -> list[tuple[int, Memory]]:
+    """The memories, each with the number of its lowest bit in the whole word."""
+    return [(sum(memory.bits for memory in word.memories[:at]), memory) for at, memory in enumerate(word.memories)]
+
+
 def pin_width(pin: Pin) -> int:
     """The width of a pin, of one that is tied that of its literal."""
     found = literal(pin.value) if pin.kind == "tie" else None

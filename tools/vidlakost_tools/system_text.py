@@ -5,11 +5,11 @@ from __future__ import annotations
 import collections
 import dataclasses
 
-from vidlakost_tools import collar_lanes
+from vidlakost_tools import collar_lanes, collar_planted
 from vidlakost_tools.access_block import Port
 from vidlakost_tools.bench_end import FINISH, over
-from vidlakost_tools.collar_bench import Bench, shared
-from vidlakost_tools.collar_text import FOOT, HEAD, MARK, PLANTED, POWER, Names, halves, has_other_lanes, own_ports
+from vidlakost_tools.collar_bench import Bench, planted_inputs, shared
+from vidlakost_tools.collar_text import FOOT, HEAD, MARK, PLANTED, POWER, Names, halves, own_ports, planted_names
 from vidlakost_tools.macro_pins import RESERVED, Pin, bit_of
 from vidlakost_tools.soc import Part, Placed, System
 from vidlakost_tools.tool import ToolError
@@ -65,7 +65,7 @@ def own_names(system: System) -> list[Port]:
 def refuse_names(system: System) -> None:
     """No two ports have one name."""
     names = [name for _, _, name in chip_ports(system)]
-    seen = {port.name for port in own_names(system)} | {"planted", f"{system.name}_system"}
+    seen = {port.name for port in own_names(system)} | planted_names() | {f"{system.name}_system"}
     for name in names:
         if name in seen or name in RESERVED:
             raise ToolError(f"two ports of {system.name}_system would be '{name}', or it is reserved: rename a memory")
@@ -91,7 +91,7 @@ class Text:
     def __init__(self, system: System):
         refuse_names(system)
         self.system, self.steps = system, steps_of(system)
-        ports = {port.name for port in own_names(system)} | {name for _, _, name in chip_ports(system)} | {"planted"}
+        ports = {port.name for port in own_names(system)} | {name for _, _, name in chip_ports(system)} | planted_names()
         self.names = Names(ports)
         self.bits = max(1, len(self.steps).bit_length())
         self.lines: list[str] = []
@@ -116,12 +116,26 @@ class Text:
             self.lines.append(f"  wire {self.names.of(f'chip_{number}_on')} = {self.active('chip', number)};")
             for part in parts:
                 memory = part.memory
-                for name, width in (("rdata", memory.bits), ("en", 1), ("we", 1), ("addr", memory.width), ("wdata", memory.bits)):
+                for name, width in (("en", 1), ("we", 1), ("addr", memory.width)):
                     links.append(f".{name}_{part.place}({self.wire(f'n_{part.name}_{name}', width)})")
+                given, taken = self.turned(part)
+                links += [f".wdata_{part.place}({given})", f".rdata_{part.place}({taken})"]
             over, bad = self.wire(f"chip_{number}_done", 1), self.wire(f"chip_{number}_fail", len(parts))
             links += [f".reset(~{self.names.of(f'chip_{number}_on')})", f".done({over})", f".fail({bad})"]
             instance = self.names.of(f"chip_{number}")
             self.lines += [f"  {self.system.name_of(number)} {instance}(", "    " + ",\n    ".join(links), "  );"]
+
+    def turned(self, part: Part) -> tuple[str, str]:
+        """The words that a chip gives and takes for a memory, which a testbench can turn."""
+        bits, name = part.memory.bits, part.name
+        given, taken = self.wire(f"n_{name}_given", bits), self.wire(f"n_{name}_taken", bits)
+        wdata, rdata = self.wire(f"n_{name}_wdata", bits), self.wire(f"n_{name}_rdata", bits)
+        placed = next(placed for placed in self.system.collars if part in placed.parts)
+        key = self.names.of(f"n_{name}_key")
+        self.lines += collar_planted.key(key, bits, sum(one.memory.bits for one in placed.parts[: placed.parts.index(part)]))
+        for sink, source in ((wdata, given), (taken, rdata)):
+            self.lines += collar_planted.also(f"  assign {sink} = {source}", f"^ {key}")
+        return given, taken
 
     def collars(self) -> None:
         for number, placed in enumerate(self.system.collars):
@@ -134,7 +148,8 @@ class Text:
                 made += [f".{name}({port_name(placed, name)})" for name in pin.names()]
             head = [f"  {placed.word.name}_collar {self.names.fresh(placed.name)}("]
             head += [f"`ifdef {POWER}", *(f"    {link}," for link in power), "`endif"] if power else []
-            head += [f"`ifdef {PLANTED}", f"    .planted(planted[{3 * number + 2}:{3 * number}]),", "`endif"]
+            kind = f".planted(planted[{3 * number + 2}:{3 * number}])"
+            head += [f"`ifdef {PLANTED}", f"    {kind}, .planted_bit(planted_bit), .numbered(numbered),", "`endif"]
             self.lines += [*head, "    " + ",\n    ".join(links), "  );"]
 
     def own(self, number: int, placed: Placed, port: Port) -> str:
@@ -213,7 +228,7 @@ class Text:
         told += [f"  {way} wire {ranged(width)}{name}" for way, width, name in ports if way != "inout"]
         head = [f"module {system.name}_system("]
         head += [f"`ifdef {POWER}", *power, "`endif"] if power else []
-        head += [f"`ifdef {PLANTED}", f"  input wire [{3 * len(system.collars) - 1}:0] planted,", "`endif"]
+        head += collar_planted.ports(len(system.collars))
         body = "\n".join([*head, ",\n".join(told), ");", *self.lines, "endmodule"])
         bits = "\n".join(f"//   {at} {told_of(part, system)}" for at, part in enumerate(system.parts))
         about = ABOUT.format(mark=MARK, count=len(system.parts), name=system.name, bits=bits)
@@ -228,36 +243,42 @@ def told_of(part: Part, system: System) -> str:
 
 BENCH = """{mark} top: a testbench of {name}_system. It ends with a status: the chip uses each memory by its pins, before the test
 // and behind it, and of sound memories the test passes; with +planted one fault after another stands in front of each memory,
-// and has to be found there and nowhere else.
+// and has to be found there and nowhere else; then the test runs with words in which every two bits differ.
 `define {planted}
 {head}module {name}_system_tb;
 {over}  reg clk = 1'b0;
   initial forever #5 clk = ~clk;
   reg test = 1'b0;
-  reg [{planted_top}:0] planted = {planted_width}'d0;
+{inputs}
   wire done;
   wire {fails}fail;
   integer waited;
 {declared}
   {name}_system dut(
-{power}    .clk(clk), .test(test), .done(done), .fail(fail), .planted(planted),
+{power}    .clk(clk), .test(test), .done(done), .fail(fail),
+    .planted(planted), .planted_bit(planted_bit), .numbered(numbered),
     {links}
   );
 {tasks}
-  task run(input [{planted_top}:0] what, input {fails}where);
+  // a run; one that is short ends where something is found
+  task run(input is_short, input [{planted_top}:0] what, input [6:0] which, input [2:0] words, input {fails}where);
     begin
       planted = what;
+      planted_bit = which;
+      numbered = words;
       repeat (4) @(negedge clk);
       test = 1'b1;
       waited = 0;
-      while (done !== 1'b1) begin
+      while (done !== 1'b1 && !(is_short && fail !== {zero})) begin
         @(negedge clk);
         waited = waited + 1;
         if (waited > {most}) $fatal(1, "{name}: done did not come");
       end
       @(negedge clk);
-      if (fail !== where) $fatal(1, "{name}: fail is %b, and a fault was planted at %b", fail, where);
+      if (fail !== where) $fatal(1, "{name}: fail is %b, and a fault was planted at %b, in %0d, with words %0d", fail, where, which, words);
       test = 1'b0;
+      planted = {planted_width}'d0;
+      numbered = 3'd0;
     end
   endtask
 
@@ -267,7 +288,7 @@ BENCH = """{mark} top: a testbench of {name}_system. It ends with a status: the 
 {faults}
     end else begin
 {uses}
-      run({planted_width}'d0, {zero});
+      run(1'b0, {planted_width}'d0, 7'd0, 3'd0, {zero});
       $display("{name}: passes");
       repeat (4) @(negedge clk);
 {again}
@@ -304,17 +325,47 @@ def chip_side(placed: Placed, one: Bench) -> list[str]:
     return found
 
 
-def faults(system: System) -> list[tuple[int, int, str, list[Part]]]:
-    """What is planted, in which collar, how it is called, and the memories that have to tell of it, each of them."""
+@dataclasses.dataclass
+class Fault:
+    """What is planted: its number, the collar, the bits or lanes, how it is called, and the memories that have to tell of it,
+    each of them."""
+
+    kind: int
+    collar: int
+    places: list[int]
+    what: str
+    parts: list[Part]
+
+
+def faults(system: System) -> list[Fault]:
+    """What is planted; a tied address is a matter of the march, and of the collar's own testbench."""
     found = []
     for number, placed in enumerate(system.collars):
-        parts = placed.parts
-        found += [(kind, number, "a wrong bit", [part]) for kind, part in zip((4, 5), parts)]
-        found += [(6, number, "a part out of step", parts)] if len(parts) > 1 else []
-        found += [(2, number, "a shorted lane", parts)] if placed.macro.masks else []
-        found += [(3, number, "a dead port", parts)] if placed.macro.has_second else []
-        found += [(7, number, "a shorted lane of the other port", parts)] if has_other_lanes(placed.macro) else []
+        first = 0
+        for kind, places, what in Bench(placed.macro, placed.word, placed.name).kinds():
+            if kind == 4:
+                part = placed.parts[0 if places[0] == 0 else 1]
+                places = [first + place for place in collar_planted.some_of(part.name, part.memory.bits)]
+                first += part.memory.bits
+                found.append(Fault(kind, number, places, "a wrong bit", [part]))
+            elif kind != 1:
+                found.append(Fault(kind, number, places, what, placed.parts))
     return found
+
+
+def runs(system: System) -> str:
+    """The runs with what is planted, and those with words in which every two bits differ."""
+    width, count, lines = 3 * len(system.collars), len(system.parts), []
+    for fault in faults(system):
+        where = sum(1 << system.parts.index(part) for part in fault.parts)
+        what = f"1'b{int(fault.kind == 4)}, {width}'d{fault.kind} << {3 * fault.collar}"
+        lines += [f"      run({what}, 7'd{place}, 3'd0, {count}'h{where:x});" for place in fault.places]
+        lines.append(f'      $display("{system.name}: {fault.what} at {fault.parts[0].name} is found");')
+    numbers = max(collar_planted.count(placed.word.bits) for placed in system.collars)
+    if numbers:
+        lines += [f"      run(1'b0, {width}'d0, 7'd0, 3'd{number}, {count}'d0);" for number in range(1, numbers + 1)]
+        lines.append(f'      $display("{system.name}: words in which every two bits differ pass");')
+    return "\n".join(lines)
 
 
 def most(system: System) -> int:
@@ -336,11 +387,6 @@ def bench(system: System) -> str:
         tasks += one.tasks() + USE.format(name=placed.name, uses=one.uses())
         links += chip_side(placed, one)
         again.append(one.again())
-    lines = []
-    for kind, number, what, parts in faults(system):
-        where = sum(1 << system.parts.index(part) for part in parts)
-        lines.append(f"      run({width}'d{kind} << {3 * number}, {count}'h{where:x});")
-        lines.append(f'      $display("{system.name}: {what} at {parts[0].name} is found");')
     return BENCH.format(
         mark=MARK,
         name=system.name,
@@ -351,6 +397,7 @@ def bench(system: System) -> str:
         planted_top=width - 1,
         planted_width=width,
         fails=ranged(count),
+        inputs="\n".join(planted_inputs(len(system.collars))),
         declared="\n".join(declared),
         power=power,
         links=",\n    ".join(links),
@@ -359,5 +406,5 @@ def bench(system: System) -> str:
         again="\n".join(again),
         most=most(system),
         zero=f"{count}'d0",
-        faults="\n".join(lines),
+        faults=runs(system),
     )
