@@ -53,8 +53,8 @@ def awake(macro: Macro, names: Names) -> list[str]:
 def stores(macro: Macro, names: Names, word: Word, second: bool) -> list[str]:
     """The write of a port, part by part where it has lanes."""
     i, changed, any_lane = (names.of(f"{name}_{number(second)}") for name in ("i", "changed", "any_lane"))
-    on, words, has_we = awake(macro, names), names.of("words"), macro.has("we", second=second)
-    writes = [*on, *active(macro, names, "we", "write", *(("en",) if has_we else ()), second=second)]
+    words = names.of("words")
+    writes = [*awake(macro, names), *active(macro, names, "en", "we", "write", second=second)]
     data = macro.of("wdata", second=second)[0]
     at = place(macro, names, word, second, "waddr")
     lanes = lanes_of(macro, names, word, second, "en", "we", "mask")
@@ -83,15 +83,13 @@ def side(macro: Macro, names: Names, word: Word, second: bool, clock: str) -> li
     """What a port does at an edge of its clock."""
     i, answers, words = names.of(f"i_{number(second)}"), names.of(f"answers_{number(second)}"), names.of("words")
     latency, lines = macro.latency(word), [f"  always @(posedge {clock}) begin"]
-    on = awake(macro, names)
     if macro.has("we", "write", second=second):
         lines += stores(macro, names, word, second)
-    reads = [*on, *active(macro, names, "read", second=second)]
+    reads = [*awake(macro, names), *active(macro, names, "read", "en", second=second)]
+    parts = [pin for pin in macro.lane_pins(second) if pin.kind == "en"]
+    reads += [f"&{'(~' if pin.is_low else '('}{value_of(pin, names)})" for pin in parts]
     if not macro.has("read", second=second):
-        reads += active(macro, names, "en", second=second)
-        parts = [pin for pin in macro.lane_pins(second) if pin.kind == "en"]
-        reads += [f"&{'(~' if pin.is_low else '('}{value_of(pin, names)})" for pin in parts]
-        idle = [pin for pin in macro.of("we", second=second)]
+        idle = macro.of("we", "write", second=second)
         reads += [f"{'&' if pin.is_low else '~|'}{value_of(pin, names)}" for pin in idle]
     lines.append(
         f"    {answers}[1] <= ({' && '.join(reads) or '1'}) ? {words}[{place(macro, names, word, second, 'raddr')}] : "

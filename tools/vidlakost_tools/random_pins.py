@@ -87,6 +87,7 @@ class Maker:
         """What enables the writes and the reads of a port."""
         if self.maybe(0.3):
             self.lines += [f"{before}write {self.low()}{self.name()}", f"{before}read {self.low()}{self.name()}"]
+            self.lines += [f"{before}en {self.low()}{self.name()}"] if self.maybe() else []
         else:
             lanes = f" {self.lanes}" if self.lanes > 1 and self.maybe(0.4) else ""
             self.lines.append(f"{before}we {self.low()}{self.name()}{lanes}")
