@@ -9,8 +9,8 @@ import subprocess
 from vidlakost_tools.program import ROOT
 from vidlakost_tools.selftest_cases import FILES
 
-# what the launcher says after ten seconds, which a machine under load may take for any run of a module
-SLOW = re.compile(r"^vidlakost: still running: .*\n", re.MULTILINE)
+# what is said after ten seconds, which a machine under load may take for any run
+SLOW = re.compile(r"^(?:vidlakost: still running: .*|\w+: .*, for \d+ seconds by now)\n", re.MULTILINE)
 
 
 class Bench:

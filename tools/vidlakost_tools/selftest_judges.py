@@ -40,6 +40,21 @@ PIPELINED = changed(
 )
 
 
+# how many words were wrong, up to seven
+COUNTS = changed(
+    ("  reg reading, wrong;", "  reg reading;\n  reg [2:0] count;\n  wire wrong = count != 0;"),
+    ("      wrong <= 0;\n", "      count <= 0;\n"),
+    ("      if (reading) for (i = 0; i < W; i = i + 1) if (rdata[i] != wanted[i]) wrong <= 1;\n", "      if (reading && rdata != wanted && count != 7) count <= count + 1;\n"),
+)
+PINNED = RIGHT + """module pinned(input ck, rst_n, mode, input [1:0] q, output cen, wen, output [1:0] a, d, output ready, error, busy);
+  wire en, we;
+  two_processes inner(~ck, ~rst_n & mode, q, en, we, a, d, ready, error);
+  assign {cen, wen, busy} = {~en, ~we, 1'b1};
+endmodule
+"""
+IDLE = [f"{STYLES}idle.v", *TEST, "--pins", f"{STYLES}idle.pins"]
+
+
 def with_kept(*writers: str) -> str:
     """What a read has to answer is kept in a memory of two words."""
     return changed(
@@ -91,6 +106,12 @@ FILES: Dict[str, str] = {
     "pipelined.v": PIPELINED,
     "pipelined_twice.v": PIPELINED.replace("assign fail = wrong & ~reset", "reg later;\n  always @(posedge clk) later <= wrong & ~reset;\n  assign fail = later & ~reset"),
     "pipelined_forgets.v": PIPELINED.replace("if (differs) wrong <= 1;", "wrong <= differs;"),
+    "pinned.v": PINNED,
+    "pinned.pins": "clk ~ck\nreset ~rst_n\nrdata q\nen ~cen\nwe ~wen\naddr a\nwdata d\ndone ready\nfail error\ntie mode 1\nopen busy\n",
+    "unique_if.v": RIGHT.replace("        if (&word) next_state = READ_UP;", "        unique if (&word) next_state = READ_UP; else next_state = FILL;"),
+    "pulled.v": changed((FAIL, "  tri1 t;\n  assign fail = wrong & ~reset & t;\n")),
+    "falls_late.v": changed((FAIL, "  reg [9:0] since;\n  always @(posedge clk) since <= reset ? 0 : since + 1;\n  assign fail = wrong & ~reset & since != 1000;\n")),
+    "counts.v": COUNTS,
     "nothing.v": "module m(input clk);\nendmodule\n",
     "unclosed.v": "module m(input clk);" + "(*a" * 8000 + "\n",
 }
@@ -138,6 +159,15 @@ CALLS: List[Tuple[str, List[str], int, str, str]] = [
     audited("pipelined.v", 0, "ever after, 1 cycle later than the rule\n", "", "--fail-late", "1"),
     audited("pipelined_twice.v", 1, "audit: conforms but for done, 1 cycle late, fail is ", "", "--fail-late", "1"),
     audited("pipelined_forgets.v", 1, "audit: conforms but for done, 1 cycle late, fail is ", "", "--fail-late", "1"),
+    audited("unique_if.v", 1, "audit: refused", "audit: 'unique_if.v':50: Yosys doesn't read `unique if`"),
+    audited("pulled.v", 1, "audit: refused", "audit: 'pulled.v':20: Yosys has no net that pulls (tri1)"),
+    audited("falls_late.v", 0, "fail is exact to cycle 106\n", ""),
+    audited("falls_late.v", 1, "fail is exact to cycle 106\n", "", "--strict"),
+    audited("kept.v", 0, EXACT, "", "--strict"),
+    audited("counts.v", 1, "a model checker may know: vidlakost formal counts.v examples/mats_plus.m", ""),
+    ("yosys", ["tools/formal", "counts.v", *TEST], 0, "each port is in each cycle as it has to be\n", ""),
+    ("yosys", ["tools/formal", *IDLE], 1, "differs in cycle 1\n", ""),
+    ("yosys", ["tools/formal", "pinned.v", *TEST, "--pins", "pinned.pins"], 0, "each port is in each cycle", ""),
     ("yosys", ["tools/plain", "out.v", "nothing.v"], 1, "", "plain: no module of the sources has anything in it"),
     audited("nothing.v", 1, "audit: refused", "audit: no module of the sources has anything in it"),
     ("yosys", ["tools/plain", "out.v", "unclosed.v"], 1, "", "plain: yosys refuses it: unclosed.v:1: ERROR"),

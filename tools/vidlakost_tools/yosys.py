@@ -10,7 +10,7 @@ import shutil
 import subprocess
 from typing import Any, Mapping
 
-from vidlakost_tools import simulation, two_meanings
+from vidlakost_tools import simulation, two_meanings, unread
 from vidlakost_tools.text import LARGE_BYTES, SOURCE_BYTES, Path, lines_of, read_bytes, shown
 from vidlakost_tools.tool import ToolError, identifier, telling
 from vidlakost_tools.vhdl import is_vhdl
@@ -477,7 +477,13 @@ def read(files: list[str], options: Mapping[str, Any], folder: pathlib.Path) -> 
     # of its cells would take the place of each such cell
     reading = f"read_verilog -sv -icells -nodpi {sources_of(files)}\nwrite_rtlil {quoted(given)}\n{libraries_of(options)}"
     reading += f"select -assert-none $*\nhierarchy -check {top_of(options)}\n"
-    said = run(f"{reading}write_rtlil {quoted(raw)}\n", folder, "-q", "-E", str(folder / OPENED))
+    try:
+        said = run(f"{reading}write_rtlil {quoted(raw)}\n", folder, "-q", "-E", str(folder / OPENED))
+    except ToolError as error:
+        why = next((why for file, source in with_included(files) for why in unread.reasons(file, blanked(source)[0])), None)
+        if why is None:
+            raise
+        raise ToolError(f"{why}\n{error}", error.status) from error
     refuse_rounded(said)
     whole = raw.read_bytes().decode("utf-8", "surrogateescape")
     two_meanings.refuse_off(options.get("--liberty", []), whole)
