@@ -2,6 +2,7 @@
 from __future__ import annotations
 
 import dataclasses
+import hashlib
 import os
 import pathlib
 import re
@@ -40,7 +41,14 @@ sums = {{ echo "$(SIM) $(MORE) $(LINTED) $(MADE)"; sha256sum -- $(2); \\
   test ! -e $(1).read || (cd $(dir $(1)) && xargs sha256sum -- <$(notdir $(1)).read); }} 2>&1
 kept = $(call sums,$(1),$(2)) | cmp -s - $(1).sums
 again = rm -f -- $(1).sums $(1).read
-done = $(call sums,$(1),$(2)) >$(1).sums
+# what a model opens while it runs no compiler tells: beside such a model a step is run each time
+opens = test -e $(1).read && (cd $(dir $(1)) && xargs grep -qE '[$$](readmem|fopen|sdf_annotate|system)' <$(notdir $(1)).read)
+done = {{ $(call opens,$(1)) || $(call sums,$(1),$(2)) >$(1).sums; }}
+
+# the steps are those of this chip file as it was when the makefile was written
+FORCE:
+	@cd $(ROOT) && echo "{sum}  {chip}" | sha256sum -c --status 2>/dev/null || \
+	  {{ echo "{name}: {chip} is another than the one that this makefile is of: run vidlakost flow again" >&2; exit 1; }}
 
 # in a folder with files.f: the testbench, sound and with what it plants; each passes where its last line says so, and only there
 ifeq ($(SIM),verilator)
@@ -175,6 +183,10 @@ class Flow:
         """A file of --model, whose whole name was looked at, as a recipe names it from the folder that the tool runs in."""
         return plain(os.path.relpath(path, os.path.realpath(".")))
 
+    def from_chip(self, path: str) -> str:
+        """A file of --model as the tools that run in the folder of the whole are told it."""
+        return os.path.relpath(path, os.path.realpath(self.folder / "chip"))
+
     def controllers(self, memories: list[Memory]) -> list[str]:
         return [f"{self.folder_of(memory.name)}/{memory.name}_bist.v" for memory in memories]
 
@@ -218,7 +230,7 @@ class Flow:
         names = [system.name_of(number) for number in range(len(system.chips))]
         modules = [f"{system.name}_system.v", *(f"{placed.word.name}_collar.v" for placed in self.collars()), *(f"{name}.v" for name in names)]
         written = [*modules, *own, f"{system.name}_system_tb.sv", "files.f", *(f"{name}.chip" for name in names if system.is_list)]
-        macros = [*own, *(os.path.relpath(file, os.path.realpath(self.folder / "chip")) for file in self.vendors)]
+        macros = [*own, *map(self.from_chip, self.vendors)]
         return TOP.format(
             name=system.name,
             words=" ".join([self.chip_file, *self.pins]),
@@ -260,6 +272,7 @@ class Flow:
             mark=MARK,
             name=self.system.name,
             chip=plain(self.chip_file),
+            sum=hashlib.sha256(pathlib.Path(self.chip_file).read_bytes()).hexdigest(),
             root=self.root,
             out=self.out,
             reports=reports,
@@ -270,7 +283,8 @@ class Flow:
         return "".join([head, *self.compiled(), *self.collared(), self.whole(), self.pages()])
 
     def lint(self) -> str:
-        """What Verilator is told of files that somebody else wrote."""
+        """What Verilator is told of files that somebody else wrote, each named as its call names it."""
         # what is no matter of style has to be named
-        lines = [f'lint_off {rule}-file "{file}"' for file in self.vendors for rule in ("", "-rule MULTIDRIVEN ")]
+        files = map(self.from_chip, self.vendors)
+        lines = [f'lint_off {rule}-file "{file}"' for file in files for rule in ("", "-rule MULTIDRIVEN ")]
         return "\n".join(["// made by vidlakost flow", "`verilator_config", *lines, ""])

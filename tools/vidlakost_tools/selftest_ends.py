@@ -161,7 +161,25 @@ def steps(bench: Bench) -> None:
     is_seen(bench, model.with_name("inner.vh"), "module other; initial #400 $finish; endmodule\n")
     for part in ("rest", "chip"):
         is_seen(bench, folder / part / ours, ended((folder / part / ours).read_text()))
+    chip = folder.parent / "two.chip"
+    is_seen(bench, chip, chip.read_text().replace("c.m", "access.m", 1))
     bench.look(["make", "-C", "steps/made", f"LAUNCHER={bench.folder}/none", "SIM=iverilog", f"MORE=-I{bench.folder}/steps/vendor"], 0, "", "")
+
+
+def opened(bench: Bench) -> None:
+    """A model that reads a file while it runs is simulated each time, since no compiler tells that file."""
+    if not all(map(shutil.which, ("make", "iverilog"))) or not (bench.folder / "steps" / "made").exists():
+        return
+    model = next((bench.folder / "steps" / "vendor").glob("*.v"))
+    before = model.read_text()
+    reads = '  reg [0:0] flipped [0:0];\n  initial $readmemb("flipped.bin", flipped);\n'
+    written(model, re.sub(r"^( *assign q = .*);", rf"{reads}\1 ^ flipped[0];", before, count=1, flags=re.MULTILINE))
+    folders = [bench.folder / "steps" / "made" / name for name in ("late", "chip")]
+    for folder in folders:
+        written(folder / "flipped.bin", "0\n")
+    is_done(bench, "a model that reads a file")
+    is_seen(bench, folders[0] / "flipped.bin", "1\n")
+    written(model, before)
 
 
 # ports whose widths no number tells, in a model of the macro of ram.pins
@@ -191,4 +209,4 @@ def ends(bench: Bench) -> None:
     other_sizes(bench)
 
 
-PARTS = (ends, steps)
+PARTS = (ends, steps, opened)
