@@ -45,6 +45,8 @@ CONTENTS = [
     '  parameter NAME = {"kept", ".hex"};\n  initial $readmemh(NAME, m);\n',
     "  localparam [63:0] NAME = 64'h6b6570742e686578;\n  initial $readmemh(NAME, m);\n",
 ]
+# in a branch that isn't taken, where Yosys opens nothing
+UNTOLD = '  parameter NAME = "kept";\n  generate if (0) begin initial $readmemh({NAME, ".hex"}, m); end endgenerate\n'
 OUTPUTS = ("kept.hex", "./kept.hex", "kept.link", "kept.hard")
 
 
@@ -81,6 +83,17 @@ def named_by_verilog(bench: Bench) -> None:
         is_kept(bench, content)
 
 
+def untold_by_verilog(bench: Bench) -> None:
+    """What a source may read by a name that nobody tells stays; a module that was written before gives way."""
+    (bench.folder / "reads.v").write_text(READS.format(UNTOLD))
+    told = "'reads.v':4: what it reads has no name in quotes, and may be 'kept.hex'"
+    bench.look(["tools/plain", "kept.hex", "reads.v"], 2, "", f"plain: {told}")
+    bench.look(["tools/audit", "reads.v", "c.m", "s.mem", "--vcd", "kept.hex"], 2, "", f"audit: {told}")
+    is_kept(bench, UNTOLD)
+    for _ in range(2):
+        bench.look(["tools/plain", "made.v", "reads.v"], 0, "", "plain: made.v is what Yosys makes")
+
+
 def named_files(bench: Bench) -> None:
     if not shutil.which("yosys"):
         print("yosys is not installed, so no source names a file")
@@ -89,6 +102,7 @@ def named_files(bench: Bench) -> None:
     (bench.folder / "kept.link").symlink_to("kept.hex")
     os.link(bench.folder / "kept.hex", bench.folder / "kept.hard")
     named_by_verilog(bench)
+    untold_by_verilog(bench)
     if shutil.which("ghdl"):
         named_by_vhdl(bench)
     else:

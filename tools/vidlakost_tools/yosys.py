@@ -389,6 +389,25 @@ def included(files: list[str]) -> list[str]:
     return list(found)
 
 
+# what a memory holds at first, read by a name that is no text in quotes alone
+READ_BY_NAME = re.compile(r'\$readmem(?![hb]\s*\(\s*"[^"\n]*"\s*,)')
+
+
+def refuse_untold(out: str | None, files: list[str], begin: str) -> None:
+    """Refuses to write over what a source may read by a name that is put together: in a branch that isn't taken nobody tells
+    which file that is. A file that begins as an output does holds no memory."""
+    if out is None or not os.path.isfile(out) or not os.path.getsize(out):
+        return
+    with open(out, "rb") as file:
+        if file.read(len(begin)) == begin.encode():
+            return
+    sources = with_included([name for name in files if not is_vhdl(name)])
+    for name, source in sources:
+        for match in (match for text in blanked(source, but_texts=True) for match in READ_BY_NAME.finditer(text)):
+            place = f"{shown(name)}:{source.count(chr(10), 0, match.start()) + 1}"
+            raise ToolError(f"{place}: what it reads has no name in quotes, and may be {shown(out)}: take that away, or write another")
+
+
 def named_in(file: str, text: str) -> list[pathlib.Path]:
     """What is there of that which a text in quotes names in a source, from here or from its folder."""
     names = dict.fromkeys(match[1] for match in QUOTED.finditer(text))
