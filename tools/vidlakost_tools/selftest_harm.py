@@ -137,9 +137,10 @@ def missing_tools(bench: Bench) -> None:
     for status in ("0", "1"):
         call = ["tools/summary", "c.m", "s.mem", "--cells"]
         bench.look(call, 1, "", "summary: yosys fails: no reason is given", PATH=path, SILENT=status)
-    (silent / "hungry").write_text(f"#!{shutil.which('python3')}\nimport vidlakost_tools\nraise MemoryError\n")
-    (silent / "hungry").chmod(0o755)
-    bench.look(["mute/hungry"], 9, "", "vidlakost: there was no memory", PYTHONPATH=str(bench.folder / "tools"))
+    for raised in ("MemoryError", "ImportError('select.so: failed to map segment from shared object')"):
+        (silent / "hungry").write_text(f"#!{shutil.which('python3')}\nimport vidlakost_tools\nraise {raised}\n")
+        (silent / "hungry").chmod(0o755)
+        bench.look(["mute/hungry"], 9, "", "vidlakost: there was no memory", PYTHONPATH=str(bench.folder / "tools"))
 
 
 # ---- what is left
