@@ -194,6 +194,9 @@ def other_sizes(bench: Bench) -> None:
     bench.is_so(not (bench.folder / "sizes").exists(), "a collar for a model of another size was written")
     (bench.folder / "sized.v").write_text(MODEL.format(4))
     bench.look(words, 0, "sizes/s_collar.v", "")
+    (bench.folder / "sized.v").write_text(MODEL.format(4).replace("input wen", "input wen, input cen"))
+    bench.look(words, 0, "sizes/s_collar.v", "collar: nothing drives cen of ram, which no line of ram.pins names")
+    (bench.folder / "sized.v").write_text(MODEL.format(4))
     bench.run(["./vidlakost", "compile", "c.m", "latency.mem", "empty.list", "sizes/s_bist.v", "report"])
     done = bench.run(["bash", "-c", ICARUS.format(folder="sizes", files="-c files.f")])
     told = "a of the model has 4 bits, and 2 by the pins and the description" in done.stdout

@@ -5,6 +5,7 @@ from __future__ import annotations
 import pathlib
 import re
 
+from vidlakost_tools.liberty import Found
 from vidlakost_tools.macro_pins import Macro, literal, widths_of
 from vidlakost_tools.port_list import Ports
 from vidlakost_tools.text import SOURCE_BYTES, read_described, shown
@@ -52,11 +53,23 @@ def number_of(value: str) -> int | None:
     return found[1] if found else int(value) if re.fullmatch("[0-9]{1,9}", value) else None
 
 
+def ports_of(macro: Macro, file: str) -> list[Found]:
+    """The ports of a model, with the parameters that the pins give it."""
+    given = {name: number for name, value in macro.parameters for number in [number_of(value)] if number is not None}
+    return Ports(file, read_described(file, SOURCE_BYTES), macro.name, given).ports()
+
+
+def undriven(macro: Macro, file: str) -> list[str]:
+    """What there is to say of inputs of a model that no line of the pins names, as the enable that somebody forgot."""
+    named_pins = {name for pin in macro.pins for name, _ in widths_of(pin)}
+    names = [port.name for port in ports_of(macro, file) if port.way == "input" and port.name not in named_pins]
+    return [f"nothing drives {', '.join(names)} of {macro.name}, which no line of {macro.path} names"] if names else []
+
+
 def refuse_other_ports(macro: Macro, file: str) -> None:
     """Refuses a model in which a pin is a port of another width or another direction. A width that no number tells is looked at by
     the collar itself, in its testbench."""
-    given = {name: number for name, value in macro.parameters for number in [number_of(value)] if number is not None}
-    ports = {port.name: port for port in Ports(file, read_described(file, SOURCE_BYTES), macro.name, given).ports()}
+    ports = {port.name: port for port in ports_of(macro, file)}
     for pin in macro.pins:
         for name, width in widths_of(pin):
             port = ports.get(name)
