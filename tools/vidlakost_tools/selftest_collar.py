@@ -138,6 +138,7 @@ CALLS: List[Tuple[str, List[str], int, str, str]] = [
     ("", ["tools/liberty", "few.lib", "RAM8X4", "cells", "--pin", "CSB=no"], 2, "", "liberty: --pin names a pin and what it is"),
     ("", ["tools/liberty", "few.lib", "RAM8X4", "cells", "--pin", "X=en"], 2, "", "liberty: --pin 'X=en': there is no such pin"),
     ("", ["tools/liberty", "few.lib", "RAM8X4", "cells", "--pin", "Q=en"], 2, "", "liberty: --pin 'Q=en': Q is an output"),
+    ("", ["tools/liberty", "few.lib", "RAM8X4", "cells", "--pin", "A=wdata"], 2, "", "liberty: --pin 'A=wdata': the library says"),
     ("", ["tools/collar", "s.mem", "--macro", "unsure.pins", "unsure"], 2, "", "collar: unsure.pins:3: this stands on the name"),
     ("", ["tools/liberty", "s.mem", "a", "header"], 2, "", "liberty: s.mem:1: 'library' is missing"),
     ("", ["tools/hold", "hold.m", "pause.mem", "holds"], 0, "holds/p_hold.v\nholds/p_hold.md\nholds/p_hold_tb.sv\n", ""),
