@@ -42,6 +42,11 @@ def linked(folder: pathlib.Path) -> list[Figure]:
     return counted("bench/linked")
 
 
+def design(folder: pathlib.Path) -> list[Figure]:
+    """Short marches searched anew."""
+    return counted("bench/design")
+
+
 def memories(folder: pathlib.Path) -> list[Figure]:
     """Refusals of random descriptions, and commands, beside a plain model."""
     return counted("bench/memories")

@@ -13,8 +13,8 @@ from vidlakost_tools.design.instances import DecoderInstance, Instance
 from vidlakost_tools.design.parts import Limits, Part, Parts, is_complete, length, opened, pauses, trimmed, with_pauses
 from vidlakost_tools.design.survivors import Survivors
 
-# how many operations a march may have, or what is added to one
-LONGEST = 160
+# how many operations a search goes to, and how many a march may have
+LONGEST, MOST = 160, 256
 # how many elements the search of all shorter marches tries, unless it is to go on to its end
 TRIED = 8_000_000
 # how many marches of a length are looked at where one is chosen, and by how many operations they may be longer than the first
@@ -71,6 +71,11 @@ class Finder:
         return length(self.wish.behind)
 
     @property
+    def longest(self) -> int:
+        """How many operations the search goes to."""
+        return min(LONGEST, MOST - self.given)
+
+    @property
     def kept(self) -> int:
         """The elements that stay as they are."""
         return len(self.wish.behind)
@@ -97,7 +102,7 @@ class Finder:
         survivors = Survivors(plain, self.wish.decoder)
         for elements in (2, 4):
             blocks = Blocks(survivors, self.limits, self.wish.width // 2 + 1, elements)
-            most = length(self.best) if self.best else LONGEST
+            most = length(self.best) if self.best else self.longest
             parts = blocks.run(most + 1, lambda count, least: self.progress.at(f"blocks of {elements}, {count}n"))
             parts = trimmed(survivors, parts) if parts else None
             whole = with_pauses(self.survivors, parts) if parts and self.survivors.pauses else parts
@@ -106,7 +111,7 @@ class Finder:
 
     def free(self, seed: int) -> None:
         """Marches of any form."""
-        most = LONGEST if self.best is None else length(self.best) - self.given
+        most = self.longest if self.best is None else length(self.best) - self.given
         beam = Beam(self.survivors, self.limits, self.wish.width, self.wish.behind, seed)
         first = 0
         for marches in beam.run(most, lambda count, least: self.progress.at(f"{self.given + count}n")):

@@ -1,0 +1,143 @@
+"""The short marches of `examples/shortest`: their reader, and their part of the gallery."""
+from __future__ import annotations
+
+import dataclasses
+import functools
+import pathlib
+from typing import Iterator, List, Sequence, Set
+
+from vidlakost_tools.decoder import decoded
+from vidlakost_tools.linked import linked
+from vidlakost_tools.march import elements_of, length_of
+from vidlakost_tools.program import ROOT, with_text
+from vidlakost_tools.report import Report, judged
+from vidlakost_tools.text import lines_of, read_text
+from vidlakost_tools.tool import ToolError
+
+FILE = ROOT / "examples" / "shortest"
+MARCHES = ROOT / "examples" / "marches"
+# every primitive
+LIST = "all\nDRF\ndyn1\ndyn2\n"
+# what a march covers beside a list, and the column that the tables have for it
+BESIDE = {"-": "", "decoder": "AF", "linked": "LF"}
+TITLE = "## Shortest marches"
+INTRODUCTION = f"""
+{TITLE}
+
+How short a march of a list can be, as `vidlakost design` finds it: `examples/shortest` has the marches, each of which the program says to cover its list. Where the length is the least one, the search tried all shorter marches, and none covers the static primitives of the list and what it loses over pauses. That is a test of the search, and not a proof. Elsewhere the table has the shortest march that was found, and how long one is at least. AF has the faults of the address decoder, LF the linked faults. The last column has the shortest march of the literature that is here and covers the same.
+
+| List | Length | At least | March | Of the literature |
+|---|---|---|---|---|
+"""
+SAME = """
+The next table has for each march of the literature the shortest one that was found to cover the same unlinked faults: static, over a pause, of two operations, and of the address decoder where all five are. Several of these marches were made for linked faults or stuck-open cells, which no list has, and a shorter one then loses what they were made for.
+
+| March | Length | Shortest | At least | March of the same |
+|---|---|---|---|---|
+"""
+
+
+@dataclasses.dataclass
+class Entry:
+    """A march: the words of its list (or `as` and the file of a march that covers the same), what it covers beside that, how
+    many operations a search of all shorter ones shows to be needed, and its text."""
+
+    words: List[str]
+    beside: str
+    least: int
+    march: str
+
+    @property
+    def file(self) -> str:
+        """The march that covers the same; none where the words are those of a list."""
+        return self.words[1] if self.words[0] == "as" else ""
+
+    @property
+    def length(self) -> str:
+        return length_of(elements_of(self.march))
+
+    @property
+    def is_shortest(self) -> bool:
+        return sum(len(element.operations) for element in elements_of(self.march)) == self.least
+
+    @property
+    def at_least(self) -> str:
+        # that a march has an operation need not be told
+        return "shortest" if self.is_shortest else f"{self.least}n" if self.least > 1 else ""
+
+    def names(self) -> List[str]:
+        """The primitives that it covers, as the program reads the list or judges the other march."""
+        if self.file:
+            return [it.primitive for it in everything(MARCHES / self.file).verdicts if it.covered]
+        return [it.primitive for it in with_text("any(w0)", functools.partial(of_list, "\n".join(self.words))).verdicts]
+
+    def look(self) -> None:
+        """Ends with an error where the program says that something escapes."""
+        names = "\n".join(self.names())
+        escapes = [it.primitive for it in with_text(self.march, functools.partial(of_list, names)).escapes]
+        if self.beside == "decoder":
+            escapes += [it.primitive for it in with_text(self.march, decoded).escapes]
+        if self.beside == "linked":
+            escapes += [it.primitive for it in with_text(self.march, linked).escapes]
+        if escapes:
+            raise ToolError(f"{FILE}: {self.march} of {' '.join(self.words)} does not cover {escapes[0]}")
+
+
+def of_list(text: str, march: pathlib.Path) -> Report:
+    return with_text(text + "\n", lambda faults: judged(march, faults))
+
+
+def everything(march: pathlib.Path) -> Report:
+    return of_list(LIST, march)
+
+
+@dataclasses.dataclass
+class Published:
+    """A march of the literature: its file, its name, its length, and what it covers."""
+
+    file: str
+    name: str
+    length: str
+    operations: int
+    covered: Set[str]
+    has_decoder: bool
+    has_links: bool
+
+    def covers(self, names: Set[str], beside: str) -> bool:
+        return names <= self.covered and (beside != "decoder" or self.has_decoder) and (beside != "linked" or self.has_links)
+
+
+def entries() -> List[Entry]:
+    """The lines of the file."""
+    made = []
+    for number, line in enumerate(lines_of(read_text(FILE)), 1):
+        if line and not line.startswith("#"):
+            parts = [part.strip() for part in line.split("|")]
+            if len(parts) != 4 or parts[1] not in BESIDE or not parts[2].isdecimal():
+                raise ToolError(f"{FILE}:{number}: the line has not a list, `-`, `decoder` or `linked`, a number and a march")
+            made.append(Entry(parts[0].split(), parts[1], int(parts[2]), parts[3]))
+    return made
+
+
+def listed(found: Sequence[Entry], marches: Sequence[Published]) -> Iterator[str]:
+    """The rows of lists."""
+    for it in found:
+        names = set(it.names())
+        same = [march for march in marches if march.covers(names, it.beside)]
+        least = [march for march in same if march.operations == min(other.operations for other in same)]
+        literature = ", ".join([*(march.name for march in least), least[0].length]) if least else ""
+        words = " ".join([*it.words, *([BESIDE[it.beside]] if BESIDE[it.beside] else [])])
+        yield f"| {words} | {it.length} | {it.at_least} | `{it.march}` | {literature} |"
+
+
+def section(marches: Sequence[Published]) -> str:
+    """The part of the gallery."""
+    found = entries()
+    for it in found:
+        it.look()
+    by_file = {march.file: march for march in marches}
+    rows = [*listed([it for it in found if not it.file], marches)]
+    same = [
+        f"| {by_file[it.file].name} | {by_file[it.file].length} | {it.length} | {it.at_least} | `{it.march}` |" for it in found if it.file
+    ]
+    return INTRODUCTION + "\n".join(rows) + "\n" + SAME + "\n".join(same) + "\n"
