@@ -150,7 +150,8 @@ def controllers(bench: Bench) -> None:
         controller(bench, edits)
         for words in (["tools/plain", "edited.plain.v", "edited.v"], ["tools/formal", "edited.v", *judged]):
             done = bench.run(words)
-            refused = "two drivers" in done.stderr or "multiple conflicting drivers" in done.stderr
+            reasons = ("two drivers", "multiple conflicting drivers", "two blocks set it")
+            refused = any(reason in done.stderr for reason in reasons)
             bench.is_so(done.returncode == 1 and refused, f"{what}: {words[0]} says {done.stdout!r} {done.stderr!r}")
         bench.look(["tools/foreign", "edited.v", *judged], 14, "", "foreign: verilog N")
     for edits, said in UNSEEN:
