@@ -1,6 +1,17 @@
 //! Verdicts on linked faults: two fault primitives with the same victim, of which the second can hide what the first
 //! did, for arrays of every size from three cells on.
 //!
+//! ```
+//! use linked_faults::{is_linked, least_escape, links};
+//! use march_syntax::read_march;
+//!
+//! let march = read_march(b"{any(w0);up(r0,w1);down(r1,w0)}")?;
+//! let links = links(rt.alloc())?;
+//! assert!(rt; links.len() == 600 && is_linked(&links[0]));
+//! assert!(rt; least_escape(&march, &links[0]).is_none());
+//! assert!(rt; least_escape(&march, &links[599]).is_some());
+//! ```
+//!
 //! It never speaks of one primitive alone.
 #![tactic(auto)]
 
