@@ -2,7 +2,7 @@
 from __future__ import annotations
 
 import dataclasses
-from typing import List, Optional, Tuple
+from typing import List, Optional
 
 from vidlakost_tools.decoder import decoded
 from vidlakost_tools.design.finder import Finder
@@ -59,8 +59,8 @@ class Answers:
 
 
 def commands(words: Words) -> List[str]:
-    asked: List[Tuple[str, object]] = [("judge", True), ("decoder", words.decoder), ("linked", words.linked), ("inword", words.in_word)]
-    return [command for command, is_asked in asked if is_asked]
+    asked = {"judge": True, "decoder": words.decoder, "linked": words.linked, "inword": words.in_word is not None}
+    return [command for command, is_asked in asked.items() if is_asked]
 
 
 def said_of(command: str, march: object, words: Words) -> Said:

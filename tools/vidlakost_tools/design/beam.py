@@ -70,8 +70,8 @@ class Beam:
             for down in (False, True):
                 behind = applied(state, self.survivors.table((operation,), down, node.due))
                 due = left_by((operation,), node.due)
-                count = node.elements + 1 + paused
-                yield Node(behind, due, state, node.due, down, (operation,), done, count, node.pauses + paused)
+                elements, pauses_so_far = node.elements + 1 + paused, node.pauses + paused
+                yield Node(behind, due, state, node.due, down, (operation,), done, elements, pauses_so_far)
 
     def longer(self, node: Node) -> Iterator[Node]:
         """The marches with one more operation."""

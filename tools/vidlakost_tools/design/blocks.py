@@ -5,7 +5,7 @@ opposite ones. Many of the marches of the literature have this form; few enough 
 from __future__ import annotations
 
 import random
-from typing import Any, NamedTuple, Tuple
+from typing import NamedTuple, Tuple
 
 from vidlakost_tools.design.beam import Watch, weight
 from vidlakost_tools.design.instances import OPERATIONS, READ, left_by
@@ -75,7 +75,7 @@ class Blocks:
         """The shortest march of the form that it finds, if it has fewer than `most` operations."""
         first = Part("up", ("w0",))
         state = self.survivors.begun(first.operations)
-        layer: list[Any] = [Block(state, (first,), (operation,), downs) for operation in OPERATIONS for downs in DIRECTIONS[:2]]
+        layer = [Block(state, (first,), (operation,), downs) for operation in OPERATIONS for downs in DIRECTIONS[:2]]
         if self.limits.operations < 2 or self.limits.elements <= self.elements:
             return None
         for length in range(1 + self.elements, most, self.elements):

@@ -276,7 +276,8 @@ def difficulty(instance: Instance, number: int) -> Optional[int]:
         return None
     if link.acts_on_aggressor:
         return 1 if operation == READ else 0
-    hides = operation == READ and link.primitive.answer != link.primitive.after and link.primitive.answer == link.primitive.victim.state
+    right, after = link.primitive.victim.state, link.primitive.after
+    hides = operation == READ and after != right and link.primitive.answer == right
     if link.primitive.aggressor is not None:
         return 0 if hides else 1 if operation != READ else 3
     return 2 if hides or operation != READ else 4

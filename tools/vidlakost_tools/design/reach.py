@@ -26,7 +26,9 @@ def can_cover(name: str, operations: int) -> bool:
         state, due = todo.pop()
         if not any(state):
             return True
-        behinds = [(applied(state, survivors.table(it, down, due)), left_by(it, due)) for it in elements for down in (False, True)]
+        behinds = [
+            (applied(state, survivors.table(it, down, due)), left_by(it, due)) for it in elements for down in (False, True)
+        ]
         if survivors.pauses:
             behinds.append((survivors.paused(state, due), due))
         for made in behinds:

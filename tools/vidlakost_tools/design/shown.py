@@ -74,7 +74,8 @@ def length_told(answers: Answers) -> str:
 def why(answers: Answers, said: Said, name: str) -> str:
     """Why the march does not cover something."""
     if said.command == "inword":
-        return "March SS does not cover it inside such a word" if answers.finder.best else "no march was found that covers it inside a word too"
+        is_found = answers.finder.best is not None
+        return "March SS does not cover it inside such a word" if is_found else "no march was found that covers it there too"
     if name.split(" ")[0] in answers.beyond:
         most = answers.words.limits.operations
         return f"no march whose elements have at most {most} operation{'s' if most > 1 else ''} covers it"

@@ -54,7 +54,8 @@ class LinkMasks:
             for bit in BITS
         ]
         self.closing = mask(lambda it: not it.links[number].acts)
-        self.pausing = [mask(lambda it: it.links[number].acts == ["t"] and it.links[number].primitive.victim.state == bit) for bit in BITS]
+        pausing = mask(lambda it: it.links[number].acts == ["t"])
+        self.pausing = [pausing & state for state in self.state]
         self.visited = [
             [self.union(self.at[:cell]), self.union(self.at[cell + 1 :])] for cell in range(cells)
         ]

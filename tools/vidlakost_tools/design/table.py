@@ -137,7 +137,6 @@ def section(marches: Sequence[Published]) -> str:
         it.look()
     by_file = {march.file: march for march in marches}
     rows = [*listed([it for it in found if not it.file], marches)]
-    same = [
-        f"| {by_file[it.file].name} | {by_file[it.file].length} | {it.length} | {it.at_least} | `{it.march}` |" for it in found if it.file
-    ]
+    pairs = [(by_file[it.file], it) for it in found if it.file]
+    same = [f"| {march.name} | {march.length} | {it.length} | {it.at_least} | `{it.march}` |" for march, it in pairs]
     return INTRODUCTION + "\n".join(rows) + "\n" + SAME + "\n".join(same) + "\n"

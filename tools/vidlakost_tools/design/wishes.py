@@ -51,9 +51,8 @@ class Words:
     @classmethod
     def of(cls, faults: str, options: Dict[str, Any]) -> "Words":
         made = cls(faults, options.get("--behind"), "--any" in options)
-        made.limits = Limits(
-            number(options, "--operations", MOST_OPERATIONS, MOST_OPERATIONS), number(options, "--elements", MOST_ELEMENTS, MOST_ELEMENTS)
-        )
+        operations = number(options, "--operations", MOST_OPERATIONS, MOST_OPERATIONS)
+        made.limits = Limits(operations, number(options, "--elements", MOST_ELEMENTS, MOST_ELEMENTS))
         made.decoder, made.linked = "--decoder" in options, "--linked" in options
         made.in_word, made.width = options.get("--inword"), number(options, "--width", 300, 100_000)
         if "--time" in options:
