@@ -18,12 +18,13 @@ PLAIN = re.compile(r"[A-Za-z0-9_./+@][A-Za-z0-9_./+@-]*")
 
 HEAD = """{mark}: every step of {name}, from {chip}
 # make -j runs it, and its status is that of the whole; SIM is iverilog or verilator, LAUNCHER the command vidlakost, MORE
-# what a simulator is told besides, as a -D that a vendor's model wants.
+# what a simulator is told besides, as a -D that a vendor's model wants; what is planted in the whole runs in PARTS at once.
 ROOT := {root}
 OUT := {out}
 LAUNCHER ?= vidlakost
 SIM ?= $(if $(shell command -v iverilog),iverilog,verilator)
 MORE ?=
+PARTS ?= 1
 SHELL := /bin/bash
 .SHELLFLAGS := -o pipefail -c
 LINTED := $(shell command -v verilator)
@@ -59,8 +60,13 @@ else
 build = iverilog -g2012 $(MORE) -M $(2).read -o tb -c files.f
 run = vvp -n tb
 endif
-simulate = $(build) && for more in "" +planted; do \\
-  $(run) $$more | tee run.log && tail -n 1 run.log | grep -qx "$(1): passed" || {{ echo "$(1): not passed"; exit 1; }}; done
+passed = {{ tail -n 1 $(2) | grep -qx "$(1): passed" || {{ echo "$(1): not passed"; exit 1; }}; }}
+sound = $(run) | tee run.log && $(call passed,$(1),run.log)
+simulate = $(build) && $(sound) && $(run) +planted | tee run.log && $(call passed,$(1),run.log)
+# what is planted, side by side, each run with a log of its own
+shares = $$(seq 0 $$(($(PARTS) - 1)))
+sides = {{ rm -f run_*.log; for part in $(shares); do $(run) +planted +parts=$(PARTS) +part=$$part >run_$$part.log & done; wait; \\
+  for part in $(shares); do cat run_$$part.log; $(call passed,$(1),run_$$part.log); done; }}
 
 reports: {reports} reports.html{testers}
 collars: {collars}
@@ -93,7 +99,8 @@ chip/made: FORCE
 
 chip/passed: chip/made FORCE
 	@$(call kept,$@,{written}) || {{ $(call again,$@); \\
-	  (cd chip && $(call simulate,{name}_system_tb,passed)) && touch $@ && $(call done,$@,{written}); }}
+	  (cd chip && $(call build,{name}_system_tb,passed) && $(call sound,{name}_system_tb) && $(call sides,{name}_system_tb)) && \\
+	  touch $@ && $(call done,$@,{written}); }}
 
 # what is installed looks at the whole; a model of a vendor's is left out of it
 chip/lint.txt: chip/made FORCE

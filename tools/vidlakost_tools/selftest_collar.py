@@ -265,8 +265,21 @@ def systems(bench: Bench) -> None:
             done = bench.run(["bash", "-c", f"cd {name} && " + call.format(name=name)])
             bench.is_so(f"{name}: passes" in done.stdout and not done.stderr, f"{name}: {done.stdout}{done.stderr}")
             if name == "six" or bench.is_long:
+                shares(bench, f"cd {name} && " + call.format(name=name), name)
                 done = bench.run(["bash", "-c", f"cd {name} && " + call.format(name=name) + " +planted"])
                 bench.is_so(not done.returncode and all(map(done.stdout.__contains__, told)), f"{name}: {done.stdout}{done.stderr}")
+
+
+def shares(bench: Bench, call: str, name: str) -> None:
+    """The faults of one memory alone, those of one part in three, and what is neither."""
+    for more, is_passed, told in (
+        ("+planted=gray_39" if name == "soc" else "+planted=gray", True, "a wrong bit at gray"),
+        ("+planted +parts=3 +part=1", True, "is found"),
+        ("+planted=other", False, "no memory is named other"),
+        ("+planted +parts=3 +part=3", False, "+part below it"),
+    ):
+        done = bench.run(["bash", "-c", f"{call} {more}"])
+        bench.is_so((done.returncode == 0) == is_passed and told in done.stdout, f"{name} {more}: {done.stdout}{done.stderr}")
 
 
 # memories whose names a chip's module could use inside
@@ -285,7 +298,7 @@ def odd_names(bench: Bench) -> None:
     if shutil.which("iverilog"):
         call = "cd inner && iverilog -g2012 -Wall -Wno-timescale -o tb -c files.f && vvp -n tb && vvp -n tb +planted | tail -n 2"
         done = bench.run(["bash", "-c", call])
-        told = "inner: passes\n{0}inner: words in which every two bits differ pass\n{0}".format("inner_system_tb: passed\n")
+        told = "inner: passes\n{0}inner: of the words in which every two bits differ number 2 passes\n{0}".format("inner_system_tb: passed\n")
         bench.is_so(done.stdout == told and not done.stderr, f"top: {done.stdout}{done.stderr}")
 
 
@@ -311,6 +324,10 @@ def flows(bench: Bench) -> None:
         bench.is_so(is_right, f"flow: {done.stdout}{done.stderr}")
     if bench.is_long and YOSYS.is_dir():
         of_yosys(bench, make)
+    for parts, status in ((3, 0), (99, 2)):
+        (bench.folder / "all" / "chip" / "passed.sums").unlink()
+        done = bench.run([*make, "all", "chip/passed", "SIM=iverilog", f"PARTS={parts}"])
+        bench.is_so(done.returncode == status, f"flow in {parts} parts: {done.stdout}{done.stderr}")
     bench.run(["tools/flow", "weak.chip", "s.pins", "weak"])
     done = bench.run([*make, "weak"])
     bench.is_so(done.returncode == 2 and "every step" not in done.stdout, f"flow: {done.stdout}{done.stderr}")
