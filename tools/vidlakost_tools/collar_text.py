@@ -490,7 +490,7 @@ class Collar:
         return [f"      if ({there} !== {value})", f"        $fatal(1, {said});"]
 
     def commanded(self) -> dict[str, str]:
-        """Nets with what the self-test commands, worked out once more: `en` and `we`, and the lanes by their pins."""
+        """Nets with what the self-test commands, worked out once more: `en` and `we`, and lanes of pins."""
         macro, half = self.macro, halves(self.word)[0][0]
         go, nets = self.net("lanes_go") if macro.masks else "", {}
         for name in ("en", "we"):
@@ -499,7 +499,7 @@ class Collar:
             nets[name] = self.delayed(f"w_{name}", source, 1, macro.before, name == "en")
         for number, pin in enumerate(collar_lanes.lane_pins(macro) if go else []):
             source = f"({go} ? {self.net(f'l_lanes_{number}')} : {{{pin.width}{{1'b1}}}})"
-            nets[pin.name] = self.delayed(f"w_lanes_{number}", source, pin.width, macro.before, False)
+            nets[f"lanes of {pin.name}"] = self.delayed(f"w_lanes_{number}", source, pin.width, macro.before, False)
         return nets
 
     def commands_at(self, pin: Pin, nets: dict[str, str]) -> str:
@@ -513,7 +513,7 @@ class Collar:
                 on = f"({en} & (~{second}{'' if both else f' | {we}'}))"
         is_plain = macro.has("en", second=pin.is_second)
         value = {"en": on, "we": we if is_plain else f"({on} & {we})", "read": f"({on} & ~{we})", "write": f"({on} & {we})"}
-        lanes = nets.get(pin.name, f"{{{pin.width}{{1'b1}}}}")
+        lanes = nets.get(f"lanes of {pin.name}", f"{{{pin.width}{{1'b1}}}}")
         return lanes if pin.kind == "mask" else f"({{{pin.width}{{{value[pin.kind]}}}}} & {lanes})"
 
     def module(self) -> str:

@@ -42,7 +42,7 @@ class Maker:
 
     def name(self) -> str:
         """A name such as data sheets have, also one that a collar could use inside."""
-        inner = "s_en t_addr m_a bist_en phase memory lanes word i place lane answer first_word".split()
+        inner = "en we w_en s_en t_addr m_a bist_en phase memory lanes word i place lane answer first_word".split()
         while True:
             plain = f"{self.chance.choice('ABCDQaz_')}{self.chance.randrange(99)}x"
             found = self.chance.choice(inner) if self.maybe(0.3) else plain
