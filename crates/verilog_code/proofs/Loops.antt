@@ -31,11 +31,11 @@ one_settled meaning v xs first i d x vs more ys lt is e ex so =
     ∙ so
 
 -- one more value that is put
-pub one_put : {A : Type 0} (xs : List A) (first i : ℕ) (z : A) (vs more ys : List A) → i < length xs → more ≡ put vs (first + i) (get_or xs i z) → put_all (first + i) (drop i xs) vs ≡ ys → put_all (first + (i + 1)) (drop (i + 1) xs) more ≡ ys
-one_put xs first i z vs more ys lt e so =
+pub one_put : {A : Type 0} (xs : List A) (first i : ℕ) (d : A) (vs more ys : List A) → i < length xs → d ≡ get_or xs i d → more ≡ put vs (first + i) d → put_all (first + i) (drop i xs) vs ≡ ys → put_all (first + (i + 1)) (drop (i + 1) xs) more ≡ ys
+one_put xs first i d vs more ys lt is e so =
     ap (put_all (first + (i + 1)) (drop (i + 1) xs)) e
-    ∙ ap (λ k. put_all k (drop (i + 1) xs) (put vs (first + i) (get_or xs i z))) (let k : first + (i + 1) ≡ first + i + 1 = omega arith in k)
-    ∙ ap (λ l. put_all (first + i) l vs) (sym (drop-cons xs i z lt ∙ ap (λ j. get_or xs i z ∷ drop j xs) (sym (add-one i))))
+    ∙ ap (λ k. put_all k (drop (i + 1) xs) (put vs (first + i) d)) (let k : first + (i + 1) ≡ first + i + 1 = omega arith in k)
+    ∙ ap (λ l. put_all (first + i) l vs) (sym (next_of xs i d lt is))
     ∙ so
 
 -- all values are put

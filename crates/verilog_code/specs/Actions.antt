@@ -47,8 +47,3 @@ branch_run = fold-Branch Run BranchRun action_layer branch_layer
 -- what actions in order do
 abbrev pub actions_run : List Action → Run
 actions_run as' = run_all (map action_run as')
-
--- what blocks in order do
-abbrev pub run_blocks : List (List Run) → Run
-run_blocks [] vs old = old
-run_blocks (b ∷ bs) vs old = run_blocks bs vs (run_all b vs old)

@@ -51,11 +51,14 @@ open_action_layer (Set n x) = record {
   forget = λ old. put old n None;
 }
 open_action_layer (If c a b) = record {
-  run = λ vs old. by_number (open_meaning vs c.value) (λ v. cond (truth v) (open_run_all a.items vs old) (open_run_all b.items vs old)) (forget_all b.items (forget_all a.items old));
+  run = λ vs old. by_number (open_meaning vs c.value)
+      (λ v. cond (truth v) (open_run_all a.items vs old) (open_run_all b.items vs old))
+      (forget_all b.items (forget_all a.items old));
   forget = λ old. forget_all b.items (forget_all a.items old);
 }
 open_action_layer (Case x bs d) = record {
-  run = λ vs old. by_number (open_meaning vs x.value) (λ v. open_run_branch v bs.items (open_run_all d.items) vs old) (forget_all d.items (forget_branches bs.items old));
+  run = λ vs old. by_number (open_meaning vs x.value) (λ v. open_run_branch v bs.items (open_run_all d.items) vs old)
+      (forget_all d.items (forget_branches bs.items old));
   forget = λ old. forget_all d.items (forget_branches bs.items old);
 }
 
@@ -68,11 +71,6 @@ open_action = fold-Action OpenDoing OpenBranch open_action_layer open_branch_lay
 abbrev pub open_branch : Branch → OpenBranch
 open_branch = fold-Branch OpenDoing OpenBranch open_action_layer open_branch_layer
 
--- what blocks in order do
-abbrev pub open_run_blocks : List (List OpenDoing) → OpenValues → OpenValues → OpenValues
-open_run_blocks [] vs old = old
-open_run_blocks (b ∷ bs) vs old = open_run_blocks bs vs (open_run_all b vs old)
-
 -- ---- what single actions do
 
 abbrev pub open_set : ℕ → Code → OpenDoing
@@ -83,7 +81,8 @@ open_set n c = record {
 
 abbrev pub open_if : Code → List OpenDoing → List OpenDoing → OpenDoing
 open_if c a b = record {
-  run = λ vs old. by_number (open_meaning vs c) (λ v. cond (truth v) (open_run_all a vs old) (open_run_all b vs old)) (forget_all b (forget_all a old));
+  run = λ vs old. by_number (open_meaning vs c) (λ v. cond (truth v) (open_run_all a vs old) (open_run_all b vs old))
+      (forget_all b (forget_all a old));
   forget = λ old. forget_all b (forget_all a old);
 }
 

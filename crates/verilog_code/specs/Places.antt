@@ -15,3 +15,8 @@ put_all k (x ∷ xs) vs = put_all (k + 1) xs (put vs k x)
 abbrev pub settled : {A : Type 0} → (List A → Code → A) → ℕ → List Code → List A → List A
 settled meaning k [] vs = vs
 settled meaning k (c ∷ cs) vs = settled meaning (k + 1) cs (put vs k (meaning vs c))
+
+-- what blocks in order do to the next values, by what actions in order do
+abbrev pub run_blocks : {A D : Type 0} → (List D → List A → List A → List A) → List (List D) → List A → List A → List A
+run_blocks run_all [] vs old = old
+run_blocks run_all (b ∷ bs) vs old = run_blocks run_all bs vs (run_all b vs old)

@@ -69,7 +69,8 @@ pub fn act_all(actions: &[Action], values: &[u64], next: &mut [u64])
 // Does the first branch with this label, if there is one.
 #[cycle(act)]
 fn act_branch(subject: u64, branches: &[Branch], values: &[u64], next: &mut [u64]) -> bool
-    ensures { (d : Run) → cond result next.new (d values.now next.new) ≡ run_branch subject (map branch_run branches.now) d values.now next.old }
+    ensures { (d : Run) → cond result next.new (d values.now next.new)
+        ≡ run_branch subject (map branch_run branches.now) d values.now next.old }
 {
     for branch in branches {
         if has_label(&branch.labels, subject) {

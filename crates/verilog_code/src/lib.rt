@@ -19,9 +19,9 @@
 pub mod action;
 mod cells;
 pub mod code;
+pub mod net_value;
 pub mod open_action;
 pub mod open_code;
 pub(crate) mod open_operators;
-pub mod open_run;
 pub mod run;
 pub mod step;

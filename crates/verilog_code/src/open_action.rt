@@ -95,7 +95,9 @@ fn act_branch(
     values: &[Option<u64>],
     next: &mut [Option<u64>],
 ) -> bool
-    ensures { (d : OpenValues → OpenValues → OpenValues) → cond result next.new (d values.now next.new) ≡ open_run_branch subject (map open_branch branches.now) d values.now next.old }
+    ensures { (d : OpenValues → OpenValues → OpenValues)
+        → cond result next.new (d values.now next.new)
+        ≡ open_run_branch subject (map open_branch branches.now) d values.now next.old }
 {
     for branch in branches {
         if has_label(&branch.labels, subject) {
