@@ -47,8 +47,10 @@ fn run_sweep(
     is_down: bool,
 ) -> Option<Miss>
     requires places { FitsPlace prim.now places (length cells.old) }
-    ensures cells { cells.new ≡ (run_of prim.now places cells.old (steps_of (address_visits element ops.now (addresses (direction_of is_down) (length cells.old))))).cells }
-    ensures miss { result ≡ (run_of prim.now places cells.old (steps_of (address_visits element ops.now (addresses (direction_of is_down) (length cells.old))))).miss }
+    ensures cells { cells.new ≡ (run_of prim.now places cells.old
+        (steps_of (address_visits element ops.now (addresses (direction_of is_down) (length cells.old))))).cells }
+    ensures miss { result ≡ (run_of prim.now places cells.old
+        (steps_of (address_visits element ops.now (addresses (direction_of is_down) (length cells.old))))).miss }
 {
     let size = cells.len();
     for place in 0..size {
@@ -72,8 +74,12 @@ pub(crate) fn run_element(
     requires places { FitsPlace prim.now places (length cells.old) }
     requires there { element < length march.now }
     requires within { element < 64 }
-    ensures cells { cells.new ≡ (run_of prim.now places cells.old (element_visits element (element_at march.now element) (direction_at directions element) (length cells.old))).cells }
-    ensures miss { result ≡ (run_of prim.now places cells.old (element_visits element (element_at march.now element) (direction_at directions element) (length cells.old))).miss }
+    ensures cells { cells.new ≡ (run_of prim.now places cells.old
+        (element_visits element (element_at march.now element) (direction_at directions element)
+        (length cells.old))).cells }
+    ensures miss { result ≡ (run_of prim.now places cells.old
+        (element_visits element (element_at march.now element) (direction_at directions element)
+        (length cells.old))).miss }
 {
     if march.is_pause(element) {
         pause_cells(prim, places, cells);

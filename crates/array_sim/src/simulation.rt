@@ -27,8 +27,10 @@ fn run_elements(
     directions: u64,
 ) -> Option<Miss>
     requires places { FitsPlace prim.now places (length cells.old) }
-    ensures cells { cells.new ≡ (run_of prim.now places cells.old (visits march.now (directions_of directions (length march.now)) (length cells.old))).cells }
-    ensures miss { result ≡ (run_of prim.now places cells.old (visits march.now (directions_of directions (length march.now)) (length cells.old))).miss }
+    ensures cells { cells.new ≡ (run_of prim.now places cells.old
+        (visits march.now (directions_of directions (length march.now)) (length cells.old))).cells }
+    ensures miss { result ≡ (run_of prim.now places cells.old
+        (visits march.now (directions_of directions (length march.now)) (length cells.old))).miss }
 {
     for element in 0..march.len() {
         if let Some(miss) = run_element(prim, places, cells, march, element, directions) {
@@ -49,10 +51,17 @@ pub fn simulate(
 ) -> Option<Miss>
     requires places { FitsPlace instance.now.prim (places_of instance.now) (length cells.old) }
     requires fits { FitsWord march.now directions }
-    ensures caught { IsSome result ↔ IsCaught march.now (directions_of directions (length march.now)) instance.now.prim (places_of instance.now) cells.old }
-    ensures first { IfSome result (λ miss. IsFirstMiss instance.now.prim (places_of instance.now) (close_of instance.now.prim (places_of instance.now) cells.old) (visits march.now (directions_of directions (length march.now)) (length cells.old)) miss) }
-    ensures passed { result ≡ None → cells.new ≡ cells_after march.now (directions_of directions (length march.now)) instance.now.prim (places_of instance.now) cells.old }
-    ensures stopped { IfSome result (λ miss. StopsAt instance.now.prim (places_of instance.now) (close_of instance.now.prim (places_of instance.now) cells.old) (visits march.now (directions_of directions (length march.now)) (length cells.old)) miss cells.new) }
+    ensures caught { IsSome result ↔ IsCaught march.now (directions_of directions (length march.now)) instance.now.prim
+        (places_of instance.now) cells.old }
+    ensures first { IfSome result (λ miss. IsFirstMiss instance.now.prim (places_of instance.now)
+        (close_of instance.now.prim (places_of instance.now) cells.old)
+        (visits march.now (directions_of directions (length march.now)) (length cells.old)) miss) }
+    ensures passed { result ≡ None → cells.new
+        ≡ cells_after march.now (directions_of directions (length march.now)) instance.now.prim
+        (places_of instance.now) cells.old }
+    ensures stopped { IfSome result (λ miss. StopsAt instance.now.prim (places_of instance.now)
+        (close_of instance.now.prim (places_of instance.now) cells.old)
+        (visits march.now (directions_of directions (length march.now)) (length cells.old)) miss cells.new) }
 {
     let places = Places {
         agg: instance.agg,

@@ -1,7 +1,7 @@
 -- A fault that is detected is detected beside whatever else is wrong with the decoder: as long as no read differs, the two cells go through what they go
 -- through alone.
 use Rattle.std.proofs.Common.{◌≡◌, ◌≢◌, ◌+◌, ℕ, Bool, true, false, cond, eqb, nat_lt, Option, Some, None, List, [], ◌∷◌, ◌++◌, length, refl, ap, sym, subst, ◌∙◌, ⊎_elim}
-use Rattle.std.proofs.lemmas.List.{map-append, get_or-set_other}
+use Rattle.std.proofs.lemmas.List.{get_or-set_other}
 use Rattle.std.proofs.lemmas.Bool.Decides.{eqb_tells}
 use Rattle.std.specs.Option.{option_and_then}
 use Rattle.std.specs.Prelude.{slice_set}
@@ -11,7 +11,7 @@ use Rattle.march_core.specs.declared.operation.Op.{Op}
 use Rattle.march_core.specs.March.{MarchElement, pause, sweep}
 use Rattle.march_core.specs.inner.Addresses.{steps_of}
 use Rattle.march_core.specs.Operation.{is_wrong_of}
-use Rattle.march_core.specs.Visits.{MarchStep, visiting, Direction, cell_visits, address_visits, addresses, visits, visits_from}
+use Rattle.march_core.specs.Visits.{MarchStep, Direction, cell_visits, address_visits, addresses, visits, visits_from}
 use Rattle.array_sim.specs.Run.{act_of}
 use Rattle.cell_machine.specs.declared.pair.Pair.{Pair}
 use Rattle.cell_machine.specs.declared.pair.Side.{Side}
@@ -24,7 +24,7 @@ use Rattle.decoder_faults.specs.declared.fault.DecoderFault.{DecoderFault}
 use Rattle.decoder_faults.specs.Decoding.{AddressPair, FitsPair, Decoder, Reach, no_cell, one_cell, two_cells, Spares, HasFault, act_through, answer_through}
 use Rattle.decoder_faults.specs.Detection.{cells_behind, is_wrong_there, IsCaught}
 use Rattle.decoder_faults.specs.inner.Pairs.{side_reach, pair_act, pair_reply, machine_of}
-use Rattle.decoder_faults.proofs.Runs.{run_by, run_append, differs_where}
+use Rattle.array_sim.proofs.RunsBy.{visits_split, run_by, run_append, differs_where}
 use Rattle.decoder_faults.proofs.Seen.{seen, placed, x_reaches, y_reaches, length-act_through, answer_seen, act_seen}
 
 abbrev run : Decoder → List Bool → List MarchStep → Option (List Bool)
@@ -109,10 +109,6 @@ spared_visit decoder at n e k z spares (op ∷ ops) cells size =
     let rest = spared_visit decoder at n e (k + 1) z spares ops next (length-act_through (decoder z) cells act ∙ size) in
     spared_first at n (is_wrong_of op (answer_through (decoder z) cells act)) (Some (seen at cells)) (run decoder next rest_steps)
     (subst (λ (q : Pair). Follows at n (Some q) (run decoder next rest_steps)) (spared_pair at (decoder z) cells act spares) rest)
-
-visits_split : (e z : ℕ) (ops : List Op) (xs : List ℕ)
-    → steps_of (address_visits e ops (z ∷ xs)) ≡ steps_of (cell_visits e z 0 ops) ++ steps_of (address_visits e ops xs)
-visits_split e z ops xs = map-append visiting (cell_visits e z 0 ops) (address_visits e ops xs)
 
 element_visit : (decoder : Decoder) (fault : DecoderFault) (at : AddressPair) (n : ℕ) → FitsPair at n → HasFault decoder fault at n
     → (e : ℕ) (ops : List Op) (xs : List ℕ) (cells : List Bool) → AllBelow n xs → length cells ≡ n

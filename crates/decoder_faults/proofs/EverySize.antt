@@ -11,8 +11,8 @@ use Rattle.decoder_faults.specs.Decoding.{AddressPair, FitsPair, reach_of}
 use Rattle.decoder_faults.specs.Detection.{cells_behind, is_wrong_there, IsCaught, DetectsDecoderAt}
 use Rattle.decoder_faults.specs.inner.Pairs.{machine_of}
 use Rattle.decoder_faults.specs.inner.Searching.{addresses_in, start_in, LetsThrough}
-use Rattle.decoder_faults.proofs.Passing.{Shows, run, march_visit}
-use Rattle.decoder_faults.proofs.Runs.{differs_where, right_where}
+use Rattle.decoder_faults.proofs.Passing.{run, march_visit}
+use Rattle.array_sim.proofs.RunsBy.{Shows, differs_where, right_where}
 use Rattle.decoder_faults.proofs.Seen.{seen}
 use Rattle.decoder_faults.proofs.Words.{through_run, through_fits}
 
@@ -21,9 +21,9 @@ abbrev pub own_run : DecoderFault → AddressPair → List MarchElement → List
 own_run fault at march ds content = pair_run (machine_of fault) (nat_lt at.x at.y) (seen at content) march ds
 
 shown : (fault : DecoderFault) (at : AddressPair) (n : ℕ) → FitsPair at n → (march : List MarchElement) (ds : List Direction) (content : List Bool) → IsMarch march → length content ≡ n
-    → Shows at (own_run fault at march ds content) (run fault at content (visits march ds (length content))) (λ c. length c ≡ n)
+    → Shows (seen at) (own_run fault at march ds content) (run fault at content (visits march ds (length content))) (λ c. length c ≡ n)
 shown fault at n fits march ds content is size =
-    subst (λ k. Shows at (own_run fault at march ds content) (run fault at content (visits march ds k)) (λ c. length c ≡ n)) (sym size)
+    subst (λ k. Shows (seen at) (own_run fault at march ds content) (run fault at content (visits march ds k)) (λ c. length c ≡ n)) (sym size)
     (march_visit fault at n fits march ds 0 None (last_after None (all_ops march)) content (consistent_scan (all_ops march) is.consistent) size (λ y yn yx yy bit is. cc))
 
 -- no read differs exactly where the two cells get through
@@ -31,9 +31,9 @@ pub passes_where : (fault : DecoderFault) (at : AddressPair) (n : ℕ) → FitsP
     → (q : Pair) → own_run fault at march ds content ≡ Some q → IsCaught march ds (reach_of fault at) content → ⊥
 passes_where fault at n fits march ds content is size q e caught =
     go (run fault at content (visits march ds (length content))) refl
-    (subst (λ r. Shows at r (run fault at content (visits march ds (length content))) (λ c. length c ≡ n)) e (shown fault at n fits march ds content is size))
+    (subst (λ r. Shows (seen at) r (run fault at content (visits march ds (length content))) (λ c. length c ≡ n)) e (shown fault at n fits march ds content is size))
   where
-    go : (o : Option (List Bool)) → run fault at content (visits march ds (length content)) ≡ o → Shows at (Some q) o (λ c. length c ≡ n) → ⊥
+    go : (o : Option (List Bool)) → run fault at content (visits march ds (length content)) ≡ o → Shows (seen at) (Some q) o (λ c. length c ≡ n) → ⊥
     go None ends s = s
     go (Some c) ends s = right_where (cells_behind (reach_of fault at)) (is_wrong_there (reach_of fault at)) content c (visits march ds (length content)) ends caught
 
@@ -41,9 +41,9 @@ pub caught_where : (fault : DecoderFault) (at : AddressPair) (n : ℕ) → FitsP
     → own_run fault at march ds content ≡ None → IsCaught march ds (reach_of fault at) content
 caught_where fault at n fits march ds content is size e =
     go (run fault at content (visits march ds (length content))) refl
-    (subst (λ r. Shows at r (run fault at content (visits march ds (length content))) (λ c. length c ≡ n)) e (shown fault at n fits march ds content is size))
+    (subst (λ r. Shows (seen at) r (run fault at content (visits march ds (length content))) (λ c. length c ≡ n)) e (shown fault at n fits march ds content is size))
   where
-    go : (o : Option (List Bool)) → run fault at content (visits march ds (length content)) ≡ o → Shows at None o (λ c. length c ≡ n) → IsCaught march ds (reach_of fault at) content
+    go : (o : Option (List Bool)) → run fault at content (visits march ds (length content)) ≡ o → Shows (seen at) None o (λ c. length c ≡ n) → IsCaught march ds (reach_of fault at) content
     go None ends s = differs_where (cells_behind (reach_of fault at)) (is_wrong_there (reach_of fault at)) content (visits march ds (length content)) ends
     go (Some c) ends s = absurd s
 

@@ -11,7 +11,7 @@ use Rattle.pair_tracker.specs.Pairs.{pair_run}
 use Rattle.pair_tracker.specs.Reached.{is_wanted, word_to}
 use Rattle.pair_tracker.specs.Survivors.{IsLeastOf}
 use Rattle.escape_array.specs.Escapes.{content_number}
-use Rattle.escape_array.proofs.LeastArray.{same_content}
+use Rattle.escape_array.proofs.LeastArray.{content_below, same_content}
 use Rattle.decoder_faults.specs.declared.fault.DecoderFault.{DecoderFault}
 use Rattle.decoder_faults.specs.declared.escape.DecoderEscape.{DecoderEscape}
 use Rattle.cell_machine.specs.Pairs.{pair_of}
@@ -26,15 +26,6 @@ use Rattle.decoder_faults.proofs.EverySize.{caught_where, through_unless, fits_i
 use Rattle.decoder_faults.proofs.Meeting.{gets_nowhere, gets_through}
 use Rattle.decoder_faults.proofs.Seen.{seen}
 use Rattle.decoder_faults.proofs.Words.{GetsThrough, least_whole, some_word, through_fits, through_within, run_through}
-
-pub content_below : (content : List Bool) → length content ≡ 2 → content_number content < 4
-content_below [] e = cc
-content_below (x ∷ []) e = cc
-content_below (true ∷ true ∷ []) e = omega arith
-content_below (true ∷ false ∷ []) e = omega arith
-content_below (false ∷ true ∷ []) e = omega arith
-content_below (false ∷ false ∷ []) e = omega arith
-content_below (x ∷ y ∷ z ∷ rest) e = absurd (omega arith)
 
 -- the content of two cells that a pair stands for
 abbrev cells_for : Bool → Pair → List Bool

@@ -1,4 +1,3 @@
-pub mod Runs
 pub mod Seen
 pub mod Passing
 pub mod Words

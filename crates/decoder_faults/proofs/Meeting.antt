@@ -21,7 +21,8 @@ use Rattle.decoder_faults.specs.declared.fault.DecoderFault.TheVariants.{NoCell,
 use Rattle.decoder_faults.specs.Conditions.{turned_by, shown_bit, is_x_first, has_read, does_show, catches, some_element}
 use Rattle.decoder_faults.specs.inner.Pairs.{machine_of}
 use Rattle.decoder_faults.proofs.Elements.{Held, caught_by, Ends, sides_by, sweep_ends}
-use Rattle.decoder_faults.proofs.Words.{GetsThrough, all_between, least_whole}
+use Rattle.pair_tracker.proofs.Passing.{all_between}
+use Rattle.decoder_faults.proofs.Words.{GetsThrough, least_whole}
 
 -- whether a direction visits x first
 abbrev x_first_in : Bool → Direction → Bool

@@ -1,10 +1,8 @@
 -- A run on a whole array, seen from the two cells of the fault: while every read of another cell is right, the two cells go through what they go
 -- through alone.
 use Rattle.std.proofs.Common.{◌≡◌, ◌≢◌, ◌+◌, ◌<◌, ℕ, Bool, true, false, cond, ◌||◌, eqb, nat_lt, Option, Some, None, List, [], ◌∷◌, ◌++◌, length, refl, ap, sym, subst, ◌∙◌, ⊎_elim}
-use Rattle.std.proofs.lemmas.List.{map-append}
 use Rattle.std.proofs.lemmas.Bool.{eq-eqb}
 use Rattle.std.proofs.lemmas.Bool.Decides.{eqb_tells}
-use Rattle.std.specs.Option.{option_and_then}
 use Rattle.fault_core.specs.declared.primitive.Act.{Act}
 use Rattle.fault_core.specs.Cells.{cell, plain_cells}
 use Rattle.march_core.specs.declared.operation.Op.{Op}
@@ -12,7 +10,7 @@ use Rattle.march_core.specs.March.{MarchElement, pause, sweep, all_ops}
 use Rattle.march_core.specs.inner.Addresses.{steps_of}
 use Rattle.march_core.specs.inner.Scan.{after_op, is_right, scan_of}
 use Rattle.march_core.specs.Operation.{is_wrong_of}
-use Rattle.march_core.specs.Visits.{MarchStep, visiting, Direction, cell_visits, address_visits, addresses, visits_from}
+use Rattle.march_core.specs.Visits.{MarchStep, Direction, cell_visits, address_visits, addresses, visits_from}
 use Rattle.array_sim.specs.Run.{act_of}
 use Rattle.cell_machine.specs.declared.pair.Pair.{Pair}
 use Rattle.cell_machine.specs.declared.pair.Side.{Side}
@@ -26,57 +24,21 @@ use Rattle.decoder_faults.specs.declared.fault.DecoderFault.{DecoderFault}
 use Rattle.decoder_faults.specs.Decoding.{AddressPair, FitsPair, Reach, reach_of, one_cell, act_through, answer_through}
 use Rattle.decoder_faults.specs.Detection.{cells_behind, is_wrong_there}
 use Rattle.decoder_faults.specs.inner.Pairs.{side_reach, pair_act, pair_reply, machine_of}
-use Rattle.decoder_faults.proofs.Runs.{run_by, run_append}
+use Rattle.array_sim.proofs.RunsBy.{run_by, Shows, shows_less, shows_parts, first_visit, Passes, visits_split}
 use Rattle.decoder_faults.proofs.Seen.{seen, placed, reach_here, reach_elsewhere, plain_there, plainly_answered, length-act_through, answer_seen, act_seen, act_leaves}
 
 -- what these steps leave of an array with the fault, unless a read differs
 abbrev pub run : DecoderFault → AddressPair → List Bool → List MarchStep → Option (List Bool)
 run fault at cells steps = run_by (cells_behind (reach_of fault at)) (is_wrong_there (reach_of fault at)) cells steps
 
--- a run of the two cells is what the run of the array shows of them
-abbrev pub Shows : AddressPair → Option Pair → Option (List Bool) → (List Bool → Type 0) → Type 0
-Shows at None None Left = Unit {0}
-Shows at None (Some c) Left = ⊥
-Shows at (Some q) None Left = ⊥
-Shows at (Some q) (Some c) Left = (seen at c ≡ q) × Left c
-
-shows_less : (at : AddressPair) (r : Option Pair) (o : Option (List Bool)) (K L : List Bool → Type 0) → ((c : List Bool) → K c → L c) → Shows at r o K → Shows at r o L
-shows_less at None None K L f s = tt
-shows_less at None (Some c) K L f s = absurd s
-shows_less at (Some q) None K L f s = absurd s
-shows_less at (Some q) (Some c) K L f s = (s.0, f c s.1)
-
-shows_on : (at : AddressPair) (r : Option Pair) (o : Option (List Bool)) (f : Pair → Option Pair) (g : List Bool → Option (List Bool)) (K L : List Bool → Type 0)
-    → Shows at r o K → ((c : List Bool) → K c → Shows at (f (seen at c)) (g c) L) → Shows at (option_and_then f r) (option_and_then g o) L
-shows_on at None None f g K L s k = tt
-shows_on at None (Some c) f g K L s k = absurd s
-shows_on at (Some q) None f g K L s k = absurd s
-shows_on at (Some q) (Some c) f g K L s k = subst (λ (r : Pair). Shows at (f r) (g c) L) s.0 (k c s.1)
-
--- steps in two parts
-shows_parts : (fault : DecoderFault) (at : AddressPair) (cells : List Bool) (xs ys : List MarchStep) (r : Option Pair) (f : Pair → Option Pair) (K L : List Bool → Type 0)
-    → Shows at r (run fault at cells xs) K → ((c : List Bool) → K c → Shows at (f (seen at c)) (run fault at c ys) L)
-    → Shows at (option_and_then f r) (run fault at cells (xs ++ ys)) L
-shows_parts fault at cells xs ys r f K L s k =
-    subst (λ (o : Option (List Bool)). Shows at (option_and_then f r) o L) (sym (run_append (cells_behind (reach_of fault at)) (is_wrong_there (reach_of fault at)) cells xs ys))
-    (shows_on at r (run fault at cells xs) f (λ c. run fault at c ys) K L s k)
-
 -- the length stays, and so does each cell but the two
 record Keeps (at : AddressPair) (n : ℕ) (before after : List Bool) : Type 0 where
   size : length after ≡ n
   others : (z : ℕ) → z ≢ at.x → z ≢ at.y → cell after z ≡ cell before z
 
--- the first visit, by the test of its answer
-first_visit : (at : AddressPair) (told wrong : Bool) (r : Option Pair) (o : Option (List Bool)) (K L : List Bool → Type 0)
-    → wrong ≡ told → ((c : List Bool) → K c → L c) → Shows at r o K → Shows at (cond told None r) (cond wrong None o) L
-first_visit at true true r o K L e f h = tt
-first_visit at true false r o K L e f h = cc
-first_visit at false true r o K L e f h = cc
-first_visit at false false r o K L e f h = shows_less at r o K L f h
-
 -- the visits of an element to one of the two addresses
 own_visit : (fault : DecoderFault) (at : AddressPair) (n : ℕ) → FitsPair at n → (e k : ℕ) (s : Side) (ops : List Op) (cells : List Bool) → length cells ≡ n
-    → Shows at (ops_run (machine_of fault) (seen at cells) s ops) (run fault at cells (steps_of (cell_visits e (place_of at.x at.y s) k ops))) (Keeps at n cells)
+    → Shows (seen at) (ops_run (machine_of fault) (seen at cells) s ops) (run fault at cells (steps_of (cell_visits e (place_of at.x at.y s) k ops))) (Keeps at n cells)
 own_visit fault at n fits e k s [] cells size = (refl, record { size = size; others = λ z zx zy. refl })
 own_visit fault at n fits e k s (op ∷ ops) cells size =
     let z : ℕ = place_of at.x at.y s in
@@ -88,10 +50,10 @@ own_visit fault at n fits e k s (op ∷ ops) cells size =
     let rest_steps : List MarchStep = steps_of (cell_visits e z (k + 1) ops) in
     let next_size : length next ≡ n = length-act_through (reach_of fault at z) cells act ∙ size in
     let rest = own_visit fault at n fits e (k + 1) s ops next next_size in
-    let moved : Shows at (ops_run (machine_of fault) (pair_act (side_reach fault s) (seen at cells) act) s ops) (run fault at next rest_steps) (Keeps at n next) =
-    subst (λ (q : Pair). Shows at (ops_run (machine_of fault) q s ops) (run fault at next rest_steps) (Keeps at n next))
+    let moved : Shows (seen at) (ops_run (machine_of fault) (pair_act (side_reach fault s) (seen at cells) act) s ops) (run fault at next rest_steps) (Keeps at n next) =
+    subst (λ (q : Pair). Shows (seen at) (ops_run (machine_of fault) q s ops) (run fault at next rest_steps) (Keeps at n next))
     (ap (seen at) next_is ∙ act_seen at n fits (side_reach fault s) cells act size) rest in
-    first_visit at (is_wrong_of op (pair_reply (side_reach fault s) (seen at cells) act)) (is_wrong_of op (answer_through (reach_of fault at z) cells act))
+    first_visit (seen at) (is_wrong_of op (pair_reply (side_reach fault s) (seen at cells) act)) (is_wrong_of op (answer_through (reach_of fault at z) cells act))
     (ops_run (machine_of fault) (pair_act (side_reach fault s) (seen at cells) act) s ops) (run fault at next rest_steps) (Keeps at n next) (Keeps at n cells)
     (ap (is_wrong_of op) (ap (λ r. answer_through r cells act) is ∙ answer_seen at (side_reach fault s) cells act))
     (λ c kept. record {
@@ -100,16 +62,10 @@ own_visit fault at n fits e k s (op ∷ ops) cells size =
     })
     moved
 
--- what the visits of an element to another address leave: only its cell may change, and it holds what was written last
-record Passes (n z : ℕ) (next : Option Bool) (before after : List Bool) : Type 0 where
-  size : length after ≡ n
-  others : (y : ℕ) → y ≢ z → cell after y ≡ cell before y
-  held : (bit : Bool) → next ≡ Some bit → cell after z ≡ bit
-
 -- the visits of an element to an address that is neither of the two
 other_visit : (fault : DecoderFault) (at : AddressPair) (n e k z : ℕ) → z < n → z ≢ at.x → z ≢ at.y
     → (ops : List Op) (last next : Option Bool) (cells : List Bool) → length cells ≡ n → scan_of last ops ≡ Some next → ((bit : Bool) → last ≡ Some bit → cell cells z ≡ bit)
-    → Shows at (Some (seen at cells)) (run fault at cells (steps_of (cell_visits e z k ops))) (Passes n z next cells)
+    → Shows (seen at) (Some (seen at cells)) (run fault at cells (steps_of (cell_visits e z k ops))) (Passes n z next cells)
 other_visit fault at n e k z within zx zy [] last next cells size scanned held =
     let same : last ≡ next = cc in
     (refl, record { size = size; others = λ y ne. refl; held = λ bit is. held bit (same ∙ is) })
@@ -131,10 +87,10 @@ other_visit fault at n e k z within zx zy (op ∷ ops) last next cells size scan
     let first : run fault at cells (steps_of (cell_visits e z k (op ∷ ops))) ≡ run fault at after rest_steps =
     ap (λ b. cond b None (run fault at told rest_steps)) right ∙ ap (λ c. run fault at c rest_steps) step in
     let pair : seen at after ≡ seen at cells = same_pair at.x at.y after cells (stays at.x (λ h. zx (sym h))) (stays at.y (λ h. zy (sym h))) in
-    let moved : Shows at (Some (seen at cells)) (run fault at after rest_steps) (Passes n z next after) =
-    subst (λ (q : Pair). Shows at (Some q) (run fault at after rest_steps) (Passes n z next after)) pair rest in
-    subst (λ (o : Option (List Bool)). Shows at (Some (seen at cells)) o (Passes n z next cells)) (sym first)
-    (shows_less at (Some (seen at cells)) (run fault at after rest_steps) (Passes n z next after) (Passes n z next cells)
+    let moved : Shows (seen at) (Some (seen at cells)) (run fault at after rest_steps) (Passes n z next after) =
+    subst (λ (q : Pair). Shows (seen at) (Some q) (run fault at after rest_steps) (Passes n z next after)) pair rest in
+    subst (λ (o : Option (List Bool)). Shows (seen at) (Some (seen at cells)) o (Passes n z next cells)) (sym first)
+    (shows_less (seen at) (Some (seen at cells)) (run fault at after rest_steps) (Passes n z next after) (Passes n z next cells)
     (λ c left. record { size = left.size; others = λ y ne. left.others y ne ∙ stays y ne; held = left.held }) moved)
 
 -- what the visits of an element leave
@@ -142,27 +98,23 @@ record Leaves (at : AddressPair) (n : ℕ) (next : Option Bool) (cells : List Bo
   size : length cells ≡ n
   agrees : Agrees at.x at.y n [] None next cells
 
-visits_split : (e z : ℕ) (ops : List Op) (xs : List ℕ)
-    → steps_of (address_visits e ops (z ∷ xs)) ≡ steps_of (cell_visits e z 0 ops) ++ steps_of (address_visits e ops xs)
-visits_split e z ops xs = map-append visiting (cell_visits e z 0 ops) (address_visits e ops xs)
-
 -- the visits of an element to these addresses
 element_visit : (fault : DecoderFault) (at : AddressPair) (n : ℕ) → FitsPair at n → (e : ℕ) (ops : List Op) (last next : Option Bool) → scan_of last ops ≡ Some next
     → (xs : List ℕ) (cells : List Bool) → Distinct xs → AllBelow n xs → length cells ≡ n → Agrees at.x at.y n xs last next cells
-    → Shows at (sides_run (machine_of fault) (seen at cells) (sides_of at.x at.y xs) ops) (run fault at cells (steps_of (address_visits e ops xs))) (Leaves at n next)
+    → Shows (seen at) (sides_run (machine_of fault) (seen at cells) (sides_of at.x at.y xs) ops) (run fault at cells (steps_of (address_visits e ops xs))) (Leaves at n next)
 element_visit fault at n fits e ops last next scanned [] cells distinct below size agrees =
     (refl, record { size = size; agrees = λ y yn yx yy bit is. agrees y yn yx yy bit is })
 element_visit fault at n fits e ops last next scanned (z ∷ xs) cells distinct below size agrees =
     let rest : List Side = sides_of at.x at.y xs in
     let front : List MarchStep = steps_of (cell_visits e z 0 ops) in
     let behind : List MarchStep = steps_of (address_visits e ops xs) in
-    let Goal : List Side → Type 0 = λ ss. Shows at (sides_run (machine_of fault) (seen at cells) ss ops) (run fault at cells (front ++ behind)) (Leaves at n next) in
+    let Goal : List Side → Type 0 = λ ss. Shows (seen at) (sides_run (machine_of fault) (seen at cells) ss ops) (run fault at cells (front ++ behind)) (Leaves at n next) in
     let own : (s : Side) → z ≡ place_of at.x at.y s → (z ≢ at.x → z ≢ at.y → ⊥) → Goal (s ∷ rest) =
     λ s is one.
-    let first : Shows at (ops_run (machine_of fault) (seen at cells) s ops) (run fault at cells front) (Keeps at n cells) =
-    subst (λ y. Shows at (ops_run (machine_of fault) (seen at cells) s ops) (run fault at cells (steps_of (cell_visits e y 0 ops))) (Keeps at n cells)) (sym is)
+    let first : Shows (seen at) (ops_run (machine_of fault) (seen at cells) s ops) (run fault at cells front) (Keeps at n cells) =
+    subst (λ y. Shows (seen at) (ops_run (machine_of fault) (seen at cells) s ops) (run fault at cells (steps_of (cell_visits e y 0 ops))) (Keeps at n cells)) (sym is)
     (own_visit fault at n fits e 0 s ops cells size) in
-    shows_parts fault at cells front behind (ops_run (machine_of fault) (seen at cells) s ops) (λ q. sides_run (machine_of fault) q rest ops) (Keeps at n cells) (Leaves at n next) first
+    shows_parts (seen at) (cells_behind (reach_of fault at)) (is_wrong_there (reach_of fault at)) cells front behind (ops_run (machine_of fault) (seen at cells) s ops) (λ q. sides_run (machine_of fault) q rest ops) (Keeps at n cells) (Leaves at n next) first
     (λ c kept. element_visit fault at n fits e ops last next scanned xs c distinct.1 below.1 kept.size
     (agrees_off at.x at.y n z xs last next cells c agrees (λ y yn yx yy ne. kept.others y yx yy) (λ bit zx zy is. absurd (one zx zy)) distinct.0)) in
     let whole : Goal (sides_of at.x at.y (z ∷ xs)) =
@@ -176,20 +128,20 @@ element_visit fault at n fits e ops last next scanned (z ∷ xs) cells distinct 
     let held : (bit : Bool) → last ≡ Some bit → cell cells z ≡ bit =
     λ bit is. agrees z below.0 h.1 g.1 bit (ap (λ b. cond (b || contains z xs) last next) (eq-eqb z z refl) ∙ is) in
     rw g.0
-    (shows_parts fault at cells front behind (Some (seen at cells)) (λ q. sides_run (machine_of fault) q rest ops) (Passes n z next cells) (Leaves at n next)
+    (shows_parts (seen at) (cells_behind (reach_of fault at)) (is_wrong_there (reach_of fault at)) cells front behind (Some (seen at cells)) (λ q. sides_run (machine_of fault) q rest ops) (Passes n z next cells) (Leaves at n next)
     (other_visit fault at n e 0 z below.0 h.1 g.1 ops last next cells size scanned held)
     (λ c left. element_visit fault at n fits e ops last next scanned xs c distinct.1 below.1 left.size
     (agrees_off at.x at.y n z xs last next cells c agrees (λ y yn yx yy ne. left.others y ne) (λ bit zx zy is. left.held bit is) distinct.0))))
     (eqb_tells z at.y)))
     (eqb_tells z at.x) in
-    subst (λ (steps : List MarchStep). Shows at (sides_run (machine_of fault) (seen at cells) (sides_of at.x at.y (z ∷ xs)) ops) (run fault at cells steps) (Leaves at n next))
+    subst (λ (steps : List MarchStep). Shows (seen at) (sides_run (machine_of fault) (seen at cells) (sides_of at.x at.y (z ∷ xs)) ops) (run fault at cells steps) (Leaves at n next))
     (sym (visits_split e z ops xs)) whole
 
 -- the steps of the elements from one on
 pub march_visit : (fault : DecoderFault) (at : AddressPair) (n : ℕ) → FitsPair at n
     → (es : List MarchElement) (ds : List Direction) (k : ℕ) (last end : Option Bool) (cells : List Bool) → scan_of last (all_ops es) ≡ Some end
     → length cells ≡ n → Agrees at.x at.y n [] None last cells
-    → Shows at (pair_run (machine_of fault) (nat_lt at.x at.y) (seen at cells) es ds) (run fault at cells (visits_from k es ds n)) (λ c. length c ≡ n)
+    → Shows (seen at) (pair_run (machine_of fault) (nat_lt at.x at.y) (seen at cells) es ds) (run fault at cells (visits_from k es ds n)) (λ c. length c ≡ n)
 march_visit fault at n fits [] ds k last end cells scanned size agrees = (refl, size)
 march_visit fault at n fits (e ∷ es) [] k last end cells scanned size agrees = (refl, size)
 march_visit fault at n fits (pause ∷ es) (d ∷ ds) k last end cells scanned size agrees = march_visit fault at n fits es ds (k + 1) last end cells scanned size agrees
@@ -200,9 +152,9 @@ march_visit fault at n fits (sweep order ops ∷ es) (d ∷ ds) k last end cells
     let steps : List MarchStep = steps_of (address_visits k ops (addresses d n)) in
     let before : Agrees at.x at.y n (addresses d n) last mid cells =
     λ y yn yx yy bit is. agrees y yn yx yy bit (ap (λ b. cond b last mid) (sym (addresses_all d n y yn)) ∙ is) in
-    let first = subst (λ ss. Shows at (sides_run (machine_of fault) (seen at cells) ss ops) (run fault at cells steps) (Leaves at n mid))
+    let first = subst (λ ss. Shows (seen at) (sides_run (machine_of fault) (seen at cells) ss ops) (run fault at cells steps) (Leaves at n mid))
     (addresses_sides at.x at.y n d fits.apart fits.x_within fits.y_within)
     (element_visit fault at n fits k ops last mid parts.1 (addresses d n) cells (addresses_distinct d n) (addresses_below d n) size before) in
-    shows_parts fault at cells steps (visits_from (k + 1) es ds n) (sides_run (machine_of fault) (seen at cells) (sides_in below d) ops)
+    shows_parts (seen at) (cells_behind (reach_of fault at)) (is_wrong_there (reach_of fault at)) cells steps (visits_from (k + 1) es ds n) (sides_run (machine_of fault) (seen at cells) (sides_in below d) ops)
     (λ q. pair_run (machine_of fault) below q es ds) (Leaves at n mid) (λ c. length c ≡ n) first
     (λ c left. march_visit fault at n fits es ds (k + 1) mid end c parts.2 left.size left.agrees)

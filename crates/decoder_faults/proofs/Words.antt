@@ -1,38 +1,23 @@
 -- The words in which the two cells get through a march are the directions in which an array does.
-use Rattle.std.proofs.Common.{◌≡◌, ◌-◌, ◌<◌, ◌^◌, ℕ, Bool, true, cond, Some, None, List, [], ◌∷◌, length, take, refl, ap, sym, subst, ◌∙◌, arith}
+use Rattle.std.proofs.Common.{◌≡◌, ◌<◌, ◌^◌, ℕ, Bool, true, cond, Some, None, List, length, refl, ap, sym, subst, ◌∙◌, arith}
 use Rattle.std.specs.Bool.{IsTrue}
-use Rattle.std.proofs.lemmas.List.{take_all}
-use Rattle.march_core.specs.March.{MarchElement, IsMarch, order_of}
-use Rattle.march_core.specs.Visits.{Direction, allows, is_direction, directions_of, FitsWord}
+use Rattle.march_core.specs.March.{MarchElement, IsMarch}
+use Rattle.march_core.specs.Visits.{Direction, is_direction, directions_of, FitsWord}
 use Rattle.cell_machine.specs.declared.pair.Pair.{Pair}
 use Rattle.pair_tracker.specs.Legs.{elements_between, directions_between}
-use Rattle.pair_tracker.specs.Pairs.{Machine, sides_in, element_run, pair_run}
+use Rattle.pair_tracker.specs.Pairs.{Machine, pair_run}
 use Rattle.pair_tracker.specs.Reached.{is_wanted, word_to}
 use Rattle.pair_tracker.specs.Survivors.{IsLeastOf}
 use Rattle.pair_tracker.specs.Tracking.{end_of, LeadsTo}
 use Rattle.pair_tracker.specs.Ways.{can_reach, ways_to, led_by, ways_word}
-use Rattle.pair_tracker.proofs.LeastWords.{open_and_then, least_words}
+use Rattle.pair_tracker.proofs.Passing.{all_between}
+use Rattle.pair_tracker.proofs.LeastWords.{fitting_is, least_words}
 use Rattle.pair_tracker.proofs.Reaching.{ways_least}
 use Rattle.pair_tracker.proofs.Words.{directions_from_first, span_fits, span_from_rest, rest_from_span}
 
 -- some word leads from a pair through the whole march
 abbrev pub GetsThrough : Machine → Bool → List MarchElement → Pair → ℕ → Type 0
 GetsThrough m below march q word = LeadsTo (is_wanted None) m below march 0 (length march) q word
-
-pub all_between : (march : List MarchElement) → elements_between march 0 (length march) ≡ march
-all_between march =
-    let all : length march - 0 ≡ length march = omega arith in
-    ap (λ n. take n march) all ∙ take_all (length march) march (omega arith)
-
--- the run in directions that the orders leave open
-fitting_is : (m : Machine) (below : Bool) (es : List MarchElement) (q : Pair) (ds : List Direction)
-    → led_by (end_of m below) es q ds ≡ cond (is_direction es ds) (pair_run m below q es ds) None
-fitting_is m below [] q [] = refl
-fitting_is m below [] q (d ∷ ds) = refl
-fitting_is m below (x ∷ es) q [] = refl
-fitting_is m below (x ∷ es) q (d ∷ ds) =
-    open_and_then (is_direction es ds) (λ r. led_by (end_of m below) es r ds) (λ r. pair_run m below r es ds) (allows (order_of x) d) (element_run m q x (sides_in below d))
-    (λ r. fitting_is m below es r ds)
 
 -- the least word of the whole march
 pub least_whole : (m : Machine) (below : Bool) (march : List MarchElement) (q : Pair) → IsMarch march

@@ -33,7 +33,7 @@ pub struct DecoderEscape {
 ///
 /// Single elements decide: it is None exactly where one of them catches the fault with x below y, and one with x above.
 /// Each fault is caught where an element that goes up turns a bit, and one that goes down turns the other.
-pub fn least_escape(march: &March, fault: DecoderFault) -> Option<DecoderEscape>
+pub fn least_decoder_escape(march: &March, fault: DecoderFault) -> Option<DecoderEscape>
     ensures verdict { IsVerdict march.now fault result }
     ensures each_size { (size : ℕ) → 2 ≤ size → IsVerdictAt size march.now fault result }
     ensures among_others { result ≡ None → DetectsAmong march.now fault }
@@ -41,7 +41,7 @@ pub fn least_escape(march: &March, fault: DecoderFault) -> Option<DecoderEscape>
     ensures by_elements { is_some result ≡ not (meets march.now fault) }
     ensures classic { (bit : Bool) → IsTrue (turns_up_and_down bit march.now) → result ≡ None }
 {
-    recall(march);
+    march.known();
     match least_in(march, fault, true) {
         Some(escape) => Some(escape),
         None => least_in(march, fault, false),
@@ -52,7 +52,7 @@ pub fn least_escape(march: &March, fault: DecoderFault) -> Option<DecoderEscape>
 fn least_in(march: &March, fault: DecoderFault, is_below: bool) -> Option<DecoderEscape>
     ensures { MatchOption result (NoneBefore march.now fault is_below 4) (λ e. IsLeastIn march.now fault is_below e) }
 {
-    recall(march);
+    march.known();
     let search = Search {
         march,
         fault,
@@ -114,11 +114,4 @@ fn escape_at(
         content,
         directions,
     }
-}
-
-/// Says as a fact what every march is.
-fn recall(march: &March)
-    ensures { IsMarch march.now }
-{
-    let _elements = march.len();
 }

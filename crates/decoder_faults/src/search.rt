@@ -39,10 +39,12 @@ pub(crate) fn word_from(
 ) -> Option<u64>
     requires within { i ≤ length search.now.march.now }
     requires dead { KnowsOf search.now.march.now search.now.fault search.now.is_below dead_ends.old }
-    ensures word { result ≡ word_behind (word_to (is_wanted None) (machine_of search.now.fault) search.now.is_below search.now.march.now i (length search.now.march.now)) start }
+    ensures word { result ≡ word_behind (word_to (is_wanted None)
+        (machine_of search.now.fault) search.now.is_below search.now.march.now i (length search.now.march.now)) start }
     ensures dead { KnowsOf search.now.march.now search.now.fault search.now.is_below dead_ends.new }
     ensures kept { StaysDead dead_ends.old dead_ends.new }
-    ensures noted { result ≡ None → i < length search.now.march.now → (q : Pair) → start ≡ Some q → is_dead dead_ends.new i (pair_number q) ≡ true }
+    ensures noted { result ≡ None → i < length search.now.march.now → (q : Pair) → start ≡ Some q
+        → is_dead dead_ends.new i (pair_number q) ≡ true }
 {
     let pair = start?;
     if i >= search.march.len() {

@@ -13,15 +13,15 @@ use Rattle.linked_faults.specs.Detection.{cells_behind, is_wrong_there, IsCaught
 use Rattle.linked_faults.specs.Escapes.{cells_of}
 use Rattle.linked_faults.specs.inner.Threes.{Trio, three_at, three_run}
 use Rattle.linked_faults.specs.inner.Searching.{spots_at, LetsThrough}
-use Rattle.linked_faults.proofs.Passing.{Shows, run, march_visit}
-use Rattle.linked_faults.proofs.Runs.{differs_where, right_where}
+use Rattle.linked_faults.proofs.Passing.{run, march_visit}
+use Rattle.array_sim.proofs.RunsBy.{Shows, differs_where, right_where}
 use Rattle.linked_faults.proofs.Seen.{IsTrio, FitsThree, place_at, spots_from}
 use Rattle.linked_faults.proofs.Words.{through_fits}
 
 shown : (link : Link) (s : Spots) (t : Trio) (n : ℕ) → IsTrio t n → FitsThree s → (march : List MarchElement) (ds : List Direction) (content : List Bool) → IsMarch march → length content ≡ n
-    → Shows t (three_run link s (three_at t content) march ds) (run link (spots_from t s) content (visits march ds (length content))) (λ c. length c ≡ n)
+    → Shows (three_at t) (three_run link s (three_at t content) march ds) (run link (spots_from t s) content (visits march ds (length content))) (λ c. length c ≡ n)
 shown link s t n is fits march ds content is_march size =
-    subst (λ k. Shows t (three_run link s (three_at t content) march ds) (run link (spots_from t s) content (visits march ds k)) (λ c. length c ≡ n)) (sym size)
+    subst (λ k. Shows (three_at t) (three_run link s (three_at t content) march ds) (run link (spots_from t s) content (visits march ds k)) (λ c. length c ≡ n)) (sym size)
     (march_visit link s t n is fits march ds 0 None (last_after None (all_ops march)) content (consistent_scan (all_ops march) is_march.consistent) size (λ y yn out bit h. cc))
 
 -- no read differs exactly where the three cells get through
@@ -29,9 +29,9 @@ pub passes_where : (link : Link) (s : Spots) (t : Trio) (n : ℕ) → IsTrio t n
     → (q : Three) → three_run link s (three_at t content) march ds ≡ Some q → IsCaught march ds link (spots_from t s) content → ⊥
 passes_where link s t n is fits march ds content is_march size q e caught =
     go (run link (spots_from t s) content (visits march ds (length content))) refl
-    (subst (λ r. Shows t r (run link (spots_from t s) content (visits march ds (length content))) (λ c. length c ≡ n)) e (shown link s t n is fits march ds content is_march size))
+    (subst (λ r. Shows (three_at t) r (run link (spots_from t s) content (visits march ds (length content))) (λ c. length c ≡ n)) e (shown link s t n is fits march ds content is_march size))
   where
-    go : (o : Option (List Bool)) → run link (spots_from t s) content (visits march ds (length content)) ≡ o → Shows t (Some q) o (λ c. length c ≡ n) → ⊥
+    go : (o : Option (List Bool)) → run link (spots_from t s) content (visits march ds (length content)) ≡ o → Shows (three_at t) (Some q) o (λ c. length c ≡ n) → ⊥
     go None ends h = h
     go (Some c) ends h = right_where (cells_behind link (spots_from t s)) (is_wrong_there link (spots_from t s)) content c (visits march ds (length content)) ends caught
 
@@ -39,9 +39,9 @@ pub caught_where : (link : Link) (s : Spots) (t : Trio) (n : ℕ) → IsTrio t n
     → three_run link s (three_at t content) march ds ≡ None → IsCaught march ds link (spots_from t s) content
 caught_where link s t n is fits march ds content is_march size e =
     go (run link (spots_from t s) content (visits march ds (length content))) refl
-    (subst (λ r. Shows t r (run link (spots_from t s) content (visits march ds (length content))) (λ c. length c ≡ n)) e (shown link s t n is fits march ds content is_march size))
+    (subst (λ r. Shows (three_at t) r (run link (spots_from t s) content (visits march ds (length content))) (λ c. length c ≡ n)) e (shown link s t n is fits march ds content is_march size))
   where
-    go : (o : Option (List Bool)) → run link (spots_from t s) content (visits march ds (length content)) ≡ o → Shows t None o (λ c. length c ≡ n)
+    go : (o : Option (List Bool)) → run link (spots_from t s) content (visits march ds (length content)) ≡ o → Shows (three_at t) None o (λ c. length c ≡ n)
         → IsCaught march ds link (spots_from t s) content
     go None ends h = differs_where (cells_behind link (spots_from t s)) (is_wrong_there link (spots_from t s)) content (visits march ds (length content)) ends
     go (Some c) ends h = absurd h

@@ -1,6 +1,5 @@
 pub mod Numbers
 pub mod Words
-pub mod Runs
 pub mod Seen
 pub mod Seats
 pub mod Passing

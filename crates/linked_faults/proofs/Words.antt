@@ -1,12 +1,11 @@
 -- The words in which the three cells get through a march are the directions in which an array does.
-use Rattle.std.proofs.Common.{◌≡◌, ◌-◌, ◌<◌, ◌≤◌, ◌^◌, ℕ, Bool, true, false, cond, Some, None, List, [], ◌∷◌, length, take, refl, ap, sym, subst, ◌∙◌, arith}
+use Rattle.std.proofs.Common.{◌≡◌, ◌<◌, ◌≤◌, ◌^◌, ℕ, Bool, true, false, cond, Some, None, List, [], ◌∷◌, length, refl, ap, sym, subst, ◌∙◌, arith}
 use Rattle.std.specs.Bool.{IsTrue}
-use Rattle.std.proofs.lemmas.List.{take_all}
 use Rattle.march_core.specs.March.{MarchElement, IsMarch, order_of}
 use Rattle.march_core.specs.Visits.{Direction, allows, is_direction, directions_of, FitsWord}
-use Rattle.pair_tracker.specs.Legs.{elements_between}
 use Rattle.pair_tracker.specs.Survivors.{IsLeastOf}
 use Rattle.pair_tracker.specs.Ways.{can_reach, ways_to, led_by, ways_word}
+use Rattle.pair_tracker.proofs.Passing.{all_between}
 use Rattle.pair_tracker.proofs.LeastWords.{open_and_then, holds_if}
 use Rattle.pair_tracker.proofs.Reaching.{Ends, ways_lead, ways_least}
 use Rattle.pair_tracker.proofs.Wording.{IsWordOf, is_word, word_again, words_ordered, fits_length}
@@ -16,11 +15,6 @@ use Rattle.linked_faults.specs.declared.link.Spots.{Spots}
 use Rattle.linked_faults.specs.declared.three.Three.{Three}
 use Rattle.linked_faults.specs.inner.Threes.{element_run, three_run, end_of}
 use Rattle.linked_faults.specs.inner.Searching.{any_end, word_to, LetsThrough}
-
-all_between : (march : List MarchElement) → elements_between march 0 (length march) ≡ march
-all_between march =
-    let all : length march - 0 ≡ length march = omega arith in
-    ap (λ n. take n march) all ∙ take_all (length march) march (omega arith)
 
 -- the run in directions that the orders leave open
 fitting_is : (link : Link) (at : Spots) (es : List MarchElement) (q : Three) (ds : List Direction)

@@ -20,7 +20,8 @@ pairs_of firsts seconds is_shared = flat_map (λ p. map (λ q. record { first = 
 
 -- every two primitives, of one cell or of two, in the order LF1, LF2aa, LF2av, LF2va, LF3
 abbrev pub pairs_among : List Primitive → List Primitive → List Link
-pairs_among one two = pairs_of one one false ++ pairs_of two two true ++ pairs_of two one false ++ pairs_of one two false ++ pairs_of two two false
+pairs_among one two = pairs_of one one false ++ pairs_of two two true ++ pairs_of two one false
+    ++ pairs_of one two false ++ pairs_of two two false
 
 abbrev pub pair_table : List Link
 pair_table = pairs_among one_cell_table two_cell_table

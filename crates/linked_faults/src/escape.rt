@@ -24,13 +24,13 @@ pub struct LinkEscape {
 /// content and for every choice of directions. For each single size from 3 the verdict is the same. Else the least
 /// array of three cells that passes. Where the two are linked, no act is both's. All
 /// places that two primitives can have are those of some three cells.
-pub fn least_escape(march: &March, link: &Link) -> Option<LinkEscape>
+pub fn least_linked_escape(march: &March, link: &Link) -> Option<LinkEscape>
     ensures verdict { IsVerdict march.now link.now result }
     ensures each_size { (size : ℕ) → 3 ≤ size → IsVerdictAt size march.now link.now result }
     ensures one_acts { IsLinked link.now → NeverBoth link.now }
     ensures places { HaveSpots link.now }
 {
-    recall(march);
+    march.known();
     least_found(march, link)
 }
 
@@ -51,7 +51,7 @@ fn least_in(march: &March, link: &Link, order: u8) -> Option<LinkEscape>
     requires { order < 6 }
     ensures { MatchOption result (NoneBefore march.now link.now order 8) (λ e. IsLeastIn march.now link.now order e) }
 {
-    recall(march);
+    march.known();
     let spots = spots_in(link, order);
     let search = Search { march, link, spots };
     let mut dead_ends = DeadEnds::unknown();
@@ -133,11 +133,4 @@ fn content_of(number: u8) -> Three
         y: rest >= 2,
         z: rest % 2 == 1,
     }
-}
-
-/// Says as a fact what every march is.
-fn recall(march: &March)
-    ensures { IsMarch march.now }
-{
-    let _elements = march.len();
 }

@@ -2,14 +2,14 @@
 //! did, for arrays of every size from three cells on.
 //!
 //! ```
-//! use linked_faults::{is_linked, least_escape, links};
+//! use linked_faults::{is_linked, least_linked_escape, links};
 //! use march_syntax::read_march;
 //!
 //! let march = read_march(b"{any(w0);up(r0,w1);down(r1,w0)}")?;
 //! let links = links(rt.alloc())?;
 //! assert!(rt; links.len() == 600 && is_linked(&links[0]));
-//! assert!(rt; least_escape(&march, &links[0]).is_none());
-//! assert!(rt; least_escape(&march, &links[599]).is_some());
+//! assert!(rt; least_linked_escape(&march, &links[0]).is_none());
+//! assert!(rt; least_linked_escape(&march, &links[599]).is_some());
 //! ```
 //!
 //! It never speaks of one primitive alone.
@@ -22,7 +22,7 @@ mod search;
 mod table;
 mod three;
 
-pub use escape::{LinkEscape, least_escape};
+pub use escape::{LinkEscape, least_linked_escape};
 pub use link::{Link, Spots, first_places, second_places};
 pub use linked::is_linked;
 pub use table::{LinkKind, kind_of, links};

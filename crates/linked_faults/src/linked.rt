@@ -97,14 +97,7 @@ pub(crate) fn is_passed(link: &Link) -> bool
 pub fn is_linked(link: &Link) -> bool
     ensures { (result ≡ true) ↔ IsLinked link.now }
 {
-    recall(&link.first);
-    recall(&link.second);
+    link.first.known();
+    link.second.known();
     is_passed(link)
-}
-
-/// Says as a fact what every primitive is.
-fn recall(prim: &Prim)
-    ensures { IsPrimitive prim.now }
-{
-    let _agg = prim.agg();
 }

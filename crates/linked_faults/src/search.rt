@@ -42,7 +42,8 @@ pub(crate) fn word_from(
     ensures word { result ≡ word_behind (word_to search.now.link.now search.now.spots search.now.march.now i) start }
     ensures dead { KnowsOf search.now.march.now search.now.link.now search.now.spots dead_ends.new }
     ensures kept { StaysDead dead_ends.old dead_ends.new }
-    ensures noted { result ≡ None → i < length search.now.march.now → (q : Three) → start ≡ Some q → is_dead dead_ends.new i (three_number q) ≡ true }
+    ensures noted { result ≡ None → i < length search.now.march.now → (q : Three) → start ≡ Some q
+        → is_dead dead_ends.new i (three_number q) ≡ true }
 {
     let cells = start?;
     if i >= search.march.len() {

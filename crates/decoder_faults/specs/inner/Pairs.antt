@@ -42,4 +42,9 @@ pair_reply reach q other = None
 
 abbrev pub machine_of : DecoderFault → Machine
 machine_of fault =
-    record { step = λ q on act. pair_act (side_reach fault on) q act; answer = λ q on act. pair_reply (side_reach fault on) q act; pause = λ q. q }
+    record {
+      step = λ q on act. pair_act (side_reach fault on) q act;
+      answer = λ q on act. pair_reply
+          (side_reach fault on) q act;
+      pause = λ q. q;
+    }

@@ -34,7 +34,8 @@ KnowsOf march fault below dead = AreDeadEnds (is_wanted None) (machine_of fault)
 -- no content before this one is let through
 abbrev pub NoneBefore : List MarchElement → DecoderFault → Bool → ℕ → Type 0
 NoneBefore march fault below number =
-    (content : List Bool) → length content ≡ 2 → content_number content < number → (word : ℕ) → LetsThrough march fault below content word → ⊥
+    (content : List Bool) → length content ≡ 2 → content_number content < number → (word : ℕ)
+    → LetsThrough march fault below content word → ⊥
 
 -- the array of the least content that is let through, with its least word
 pub record IsLeastIn (march : List MarchElement) (fault : DecoderFault) (below : Bool) (e : DecoderEscape) : Type 0 where

@@ -8,7 +8,7 @@ use Rattle.decoder_faults.proofs.escape.least_in.Goals as goal
 pub returns-in-Some : goal.returns-in-Some
 returns-in-Some c =
     let march = c.args.march.now in
-    least_found march c.args.fault c.args.is_below c.content_of-content.result c.in-Some.directions c.escape_at.result c.recall.ensures c.content_of-content.ensures.each_cell
+    least_found march c.args.fault c.args.is_below c.content_of-content.result c.in-Some.directions c.escape_at.result c.known.ensures c.content_of-content.ensures.each_cell
     (subst (NoneBefore march c.args.fault c.args.is_below) (sym c.content_of-content.ensures.number) c.loop-number.invariant.none)
     (sym (c.in-Some.ensures.word ∙ ap (word_to (is_wanted None) (machine_of c.args.fault) c.args.is_below march 0 (length march)) c.start_in-start.ensures))
     c.escape_at.ensures.fault c.escape_at.ensures.addresses c.escape_at.ensures.content c.escape_at.ensures.directions
@@ -18,7 +18,7 @@ loop-number-preserved c =
     let march = c.args.march.now in
     record {
       none =
-          none_so_far march c.args.fault c.args.is_below c.loop-number.number c.content_of-content.result c.recall.ensures c.content_of-content.ensures.each_cell
+          none_so_far march c.args.fault c.args.is_below c.loop-number.number c.content_of-content.result c.known.ensures c.content_of-content.ensures.each_cell
           c.content_of-content.ensures.number c.loop-number.invariant.none
           (sym (c.in_default.ensures.word ∙ ap (word_to (is_wanted None) (machine_of c.args.fault) c.args.is_below march 0 (length march)) c.start_in-start.ensures));
       known = c.in_default.ensures.dead;

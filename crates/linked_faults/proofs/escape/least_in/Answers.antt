@@ -7,7 +7,7 @@ pub returns-in-Some : goal.returns-in-Some
 returns-in-Some c =
     let march = c.args.march.now in
     let link = c.args.link.now in
-    least_here march link c.args.order c.loop-number.number c.content_of-content.result c.in-Some.directions _ c.recall.ensures
+    least_here march link c.args.order c.loop-number.number c.content_of-content.result c.in-Some.directions _ c.known.ensures
     c.content_of-content.ensures c.loop-number.invariant.none
     (sym (c.in-Some.ensures.word ∙ ap (λ s. word_to link s march 0 c.content_of-content.result) c.spots_in-spots.ensures.spots))
     refl c.spots_in-spots.ensures.spots refl refl
@@ -18,7 +18,7 @@ loop-number-preserved c =
     let link = c.args.link.now in
     record {
       none =
-          none_so_far march link c.args.order c.loop-number.number c.content_of-content.result c.recall.ensures
+          none_so_far march link c.args.order c.loop-number.number c.content_of-content.result c.known.ensures
           c.content_of-content.ensures c.loop-number.invariant.none
           (sym (c.in_default.ensures.word ∙ ap (λ s. word_to link s march 0 c.content_of-content.result) c.spots_in-spots.ensures.spots));
       known = subst (λ s. KnowsOf march link s c.word_from.new.dead_ends) c.spots_in-spots.ensures.spots c.in_default.ensures.dead;

@@ -4,11 +4,11 @@ use Rattle.decoder_faults.specs.Detection.{DetectsAmong}
 use Rattle.decoder_faults.proofs.Classic.{detects_all}
 use Rattle.decoder_faults.proofs.Lines.{lines_detected}
 use Rattle.decoder_faults.proofs.Least.{judged_below, judged_above}
-use Rattle.decoder_faults.proofs.escape.least_escape.Goals as goal
+use Rattle.decoder_faults.proofs.escape.least_decoder_escape.Goals as goal
 
 pub returns-in-Some : goal.returns-in-Some
 returns-in-Some c =
-    let judged = judged_below c.args.march.now c.args.fault c.in-Some.escape c.recall.ensures c.in-Some.ensures in
+    let judged = judged_below c.args.march.now c.args.fault c.in-Some.escape c.known.ensures c.in-Some.ensures in
     record {
       verdict = judged.0;
       each_size = judged.1;
@@ -20,7 +20,7 @@ returns-in-Some c =
 
 pub returns-in-None : goal.returns-in-None
 returns-in-None c =
-    let judged = judged_above c.args.march.now c.args.fault c.least_in-in-None.result c.recall.ensures c.in-None.ensures c.least_in-in-None.ensures in
+    let judged = judged_above c.args.march.now c.args.fault c.least_in-in-None.result c.known.ensures c.in-None.ensures c.least_in-in-None.ensures in
     record {
       verdict = judged.0;
       each_size = judged.1;

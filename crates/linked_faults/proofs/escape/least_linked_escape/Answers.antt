@@ -1,13 +1,13 @@
 use Rattle.linked_faults.proofs.Both.{never_both}
 use Rattle.linked_faults.proofs.Least.{judged}
 use Rattle.linked_faults.proofs.Places.{have_spots}
-use Rattle.linked_faults.proofs.escape.least_escape.Goals as goal
+use Rattle.linked_faults.proofs.escape.least_linked_escape.Goals as goal
 
 pub returns-clause-verdict : goal.returns-clause-verdict
-returns-clause-verdict c = (judged c.args.march.now c.args.link.now c.least_found.result c.recall.ensures c.least_found.ensures).0
+returns-clause-verdict c = (judged c.args.march.now c.args.link.now c.least_found.result c.known.ensures c.least_found.ensures).0
 
 pub returns-clause-each_size : goal.returns-clause-each_size
-returns-clause-each_size c = (judged c.args.march.now c.args.link.now c.least_found.result c.recall.ensures c.least_found.ensures).1
+returns-clause-each_size c = (judged c.args.march.now c.args.link.now c.least_found.result c.known.ensures c.least_found.ensures).1
 
 pub returns-clause-one_acts : goal.returns-clause-one_acts
 returns-clause-one_acts c = never_both c.args.link.now
