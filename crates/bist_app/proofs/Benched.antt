@@ -1,5 +1,5 @@
 -- What a run against the first box leaves.
-use Rattle.bist_app.proofs.Common.{◌≡◌, ◌<◌, ◌*◌, ◌+◌, ◌%◌, ◌/◌, ◌^◌, ◌∙◌, ℕ, zero, suc, false, List, [], ◌∷◌, length, map, replicate, Option, None, Some, is_some, Bool, Result, Ok, Err, IfOk, IfErr, bit_xor, refl, sym, ap, ap₂, subst, arith, MarchElement, Description, Planted, Chip, shape_of, planted_chip, Tells, TellsChip, TellsScript, TellsNothing, Told, pattern, filled_chip, blank, AllRight, IsPlain, PassesAlone, run_word, Seen, IsFirstRead, EndsSelfTest, IsSeenOf, IsWrongRead, SelfTest, ModuleTree, Plan, Refusal, Done, done_of, plain, OrNoMemory, range_with_len, length-replicate, one-le-pow, mod-eq_of_lt, closed_words, IfOk-weaker}
+use Rattle.bist_app.proofs.Common.{◌≡◌, ◌<◌, ◌*◌, ◌+◌, ◌%◌, ◌/◌, ◌^◌, ◌∙◌, ℕ, zero, suc, false, List, [], ◌∷◌, length, map, replicate, Option, None, Some, is_some, Bool, Result, Ok, Err, IfOk, IfErr, bit_xor, refl, sym, ap, ap₂, subst, arith, MarchElement, Description, Planted, Chip, shape_of, planted_chip, Tells, TellsChip, TellsScript, TellsNothing, Told, pattern, filled_chip, blank, AllRight, IsPlain, PassesAlone, run_word, Seen, IsFirstRead, EndsSelfTest, IsSeenOf, IsWrongRead, SelfTest, ModuleTree, Effects, Refusal, Done, done_of, plain, OrNoMemory, range_with_len, length-replicate, one-le-pow, mod-eq_of_lt, closed_words, IfOk-weaker}
 use Rattle.word_device.specs.declared.shape.Shape.{Shape}
 use Rattle.bench.specs.Endings.{Runs}
 use Rattle.bist_app.specs.declared.benching.RunEnd.{RunEnd}
@@ -74,7 +74,7 @@ benched_of march d planted tells done r = record {
   outputs = ap (λ (x : Done). x.outputs) r.done_is;
 }
 
-pub tested : {B : Type 0} (tells : B → Tells) (items : List B) (mo : ModuleTree) (march : List MarchElement) (d : Description) (planted : Option Planted) (r : Result Plan Refusal)
+pub tested : {B : Type 0} (tells : B → Tells) (items : List B) (mo : ModuleTree) (march : List MarchElement) (d : Description) (planted : Option Planted) (r : Result Effects Refusal)
     → SelfTest mo march d → IfOk r (λ plan. (b : B) (rest : List B) → items ≡ b ∷ rest → RunsBeside mo march d (ready d planted (tells b)) (done_of plan))
     → IfOk r (λ plan. (b : B) (rest : List B) → items ≡ b ∷ rest → IsBenched march d planted (tells b) (done_of plan))
 tested tells items mo march d planted (Ok plan) test h = λ b rest e. benched_of march d planted (tells b) (done_of plan) ((h b rest e).self_test test)
@@ -83,11 +83,11 @@ tested tells items mo march d planted (Err e) test h = tt
 -- ---- what commands leave
 
 -- a plan, or want of memory
-pub or_no_memory : (P : Done → Type 0) (r : Result Plan Refusal) → IfErr r (λ e. e ≡ Refusal.NoMemory) → IfOk r (λ plan. P (done_of plan)) → OrNoMemory P (plain r)
+pub or_no_memory : (P : Done → Type 0) (r : Result Effects Refusal) → IfErr r (λ e. e ≡ Refusal.NoMemory) → IfOk r (λ plan. P (done_of plan)) → OrNoMemory P (plain r)
 or_no_memory P (Ok plan) wants h = h
 or_no_memory P (Err e) wants h = subst (λ (x : Refusal). OrNoMemory P (Err x)) (sym wants) tt
 
-pub file_benched : {B : Type 0} (f : B → Told) (items : List B) (mo : ModuleTree) (march : List MarchElement) (d : Description) (r : Result Plan Refusal) → 0 < length items
+pub file_benched : {B : Type 0} (f : B → Told) (items : List B) (mo : ModuleTree) (march : List MarchElement) (d : Description) (r : Result Effects Refusal) → 0 < length items
     → IfErr r (λ e. e ≡ Refusal.NoMemory) → IfOk r (λ plan. (b : B) (rest : List B) → items ≡ b ∷ rest → RunsBeside mo march d (ready d None (f b).tells) (done_of plan))
     → LeavesBenchFile mo march d (map f items) (plain r)
 unfolding LeavesBenchFile
@@ -108,7 +108,7 @@ none_found march d tells done chip passes r is =
     let seen = subst (λ (t : Tells). IsSeen march d None t r.seen) is r.is_seen in
     r.found ∙ none_seen march d (run_word march d (benched_chip d None)) r.seen (passes (benched_chip d None) (plain_chip d)) seen
 
-pub benched : {B : Type 0} (f : B → Told) (items : List B) (march : List MarchElement) (d : Description) (r : Result Plan Refusal) → 0 < length items → PassesAlone march d
+pub benched : {B : Type 0} (f : B → Told) (items : List B) (march : List MarchElement) (d : Description) (r : Result Effects Refusal) → 0 < length items → PassesAlone march d
     → IfErr r (λ e. e ≡ Refusal.NoMemory) → IfOk r (λ plan. (b : B) (rest : List B) → items ≡ b ∷ rest → IsBenched march d None (f b).tells (done_of plan))
     → LeavesBench march d (map f items) (plain r)
 unfolding LeavesBench

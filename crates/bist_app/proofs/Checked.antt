@@ -1,5 +1,5 @@
 -- What the check of a module's open run leaves.
-use Rattle.bist_app.proofs.Common.{◌≡◌, ℕ, List, Some, None, Result, Ok, Err, IfOk, IfErr, refl, sym, subst, ModuleTree, MarchElement, Description, Refusal, Plan, Done, done_of, plain, HasPorts, PortAnswer}
+use Rattle.bist_app.proofs.Common.{◌≡◌, ℕ, List, Some, None, Result, Ok, Err, IfOk, IfErr, refl, sym, subst, ModuleTree, MarchElement, Description, Refusal, Effects, Done, done_of, plain, HasPorts, PortAnswer}
 use Rattle.arrayvec.specs.ArrayString.{ArrayString}
 use Rattle.port_check.specs.declared.answer.CheckFault.{CheckFault}
 use Rattle.port_check.specs.Answers.{IsAnswer}
@@ -26,7 +26,7 @@ unfolding HasPorts
 wrong_ports mo march d name h = (Ok tt, h.0, (Err (Refusal.Verilog (VerilogRefusal.WrongPort name)), h.1, refl))
 
 -- the plan of an answer, or want of memory
-pub planned : (mo : ModuleTree) (march : List MarchElement) (d : Description) (answer : PortAnswer) (r : Result Plan Refusal) → Refuses march d mo.ports None → IsAnswer mo march d answer
+pub planned : (mo : ModuleTree) (march : List MarchElement) (d : Description) (answer : PortAnswer) (r : Result Effects Refusal) → Refuses march d mo.ports None → IsAnswer mo march d answer
     → IfOk r (λ plan. done_of plan ≡ check_done answer) → IfErr r (λ refusal. refusal ≡ Refusal.NoMemory) → ChecksRun mo march d (plain r)
 planned mo march d answer (Ok plan) passes is done wants = answered mo march d answer (done_of plan) passes is done
 planned mo march d answer (Err refusal) passes is done wants = subst (λ (e : Refusal). ChecksRun mo march d (Err e)) (sym wants) (wanting mo march d passes)

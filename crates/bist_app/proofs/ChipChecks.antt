@@ -1,5 +1,5 @@
 -- The checks of a chip and of its units, one behind another.
-use Rattle.bist_app.proofs.Common.{◌≡◌, ◌∙◌, ◌≤◌, ◌<◌, ◌+◌, ◌∷◌, [], ℕ, zero, suc, All, List, length, map, Option, Result, Ok, Err, IfOk, refl, sym, ap, subst, arith, Files, Description, IsMemory, ChipDescription, UnitDescription, IsChip, unit_of, TestUnit, memories, weights, Refusal, Plan, Done, done_of, plain, Words, NamesWords, GivesMemory, FileMemory, UnitMemory, HasForm, length-map}
+use Rattle.bist_app.proofs.Common.{◌≡◌, ◌∙◌, ◌≤◌, ◌<◌, ◌+◌, ◌∷◌, [], ℕ, zero, suc, All, List, length, map, Option, Result, Ok, Err, IfOk, refl, sym, ap, subst, arith, Files, Description, IsMemory, ChipDescription, UnitDescription, IsChip, unit_of, TestUnit, memories, weights, Refusal, Effects, Done, done_of, plain, Words, NamesWords, GivesMemory, FileMemory, UnitMemory, HasForm, length-map}
 use Rattle.std.proofs.Math.Path.{ap₂}
 use Rattle.chip_desc.specs.declared.chip.ChipUnit.{ChipUnit}
 use Rattle.bist_app.specs.declared.units.UnitTable.{UnitTable}
@@ -101,6 +101,6 @@ chip_named files words done form (Ok chip, f, tests) =
     units_named files chip done words (omega (arith, count)) tests
 chip_named files words done form (Err e, f, same) = absurd (not_refused same)
 
-pub named_plan : (files : Option Files) (words : Words) (r : Result Plan Refusal) → HasForm chip_form words → DecidesChip files words (plain r) → IfOk r (λ p. NamesWords words (done_of p).outputs)
+pub named_plan : (files : Option Files) (words : Words) (r : Result Effects Refusal) → HasForm chip_form words → DecidesChip files words (plain r) → IfOk r (λ p. NamesWords words (done_of p).outputs)
 named_plan files words (Ok p) form decides = chip_named files words (done_of p) form decides
 named_plan files words (Err e) form decides = tt

@@ -12,7 +12,7 @@ pub use Rattle.bist_endings.specs.Then.{OrNoMemory, SaysOwn, Then}
 pub use Rattle.bist_endings.specs.OneOutcome.{Answer, AreDone, HasOneAnswerButNames, HasOneOutcome, HasOneValue, IsSettledRefusal, answer_of}
 pub use Rattle.bist_endings.specs.Conclude.{Ends, NamesWords, RefusalEnds, SaysAfterWrites, WritesInOrder}
 pub use Rattle.bist_endings.specs.declared.ending.Refusal.{Refusal}
-pub use Rattle.bist_endings.specs.declared.ending.Plan.{Plan}
+pub use Rattle.bist_endings.specs.declared.ending.Effects.{Effects}
 pub use Rattle.bist_endings.specs.declared.ending.InputRefusal.{InputRefusal}
 pub use Rattle.bist_endings.specs.declared.concluding.WriteStop.{WriteStop}
 pub use Rattle.bist_endings.proofs.Settling.{Concludes, IsTold, NeverUsage, Settles, leaves_conclude, narrows, none_conclude, outcome_settles, own_said, own_settles, then_concludes, then_settles, where_settles}

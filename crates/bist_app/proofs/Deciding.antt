@@ -1,7 +1,7 @@
 -- A run is what was decided and how that ended: to decide only reads.
-use Rattle.bist_app.proofs.Common.{◌≡◌, ℕ, List, Option, Result, Ok, Err, sym, subst, Files, HostState, OnlyReads, Rose, Refusal, Plan, WriteStop, Done, plain, Words, Ends, HasReadCause, HasCause, Boxes, Decides, Runs}
+use Rattle.bist_app.proofs.Common.{◌≡◌, ℕ, List, Option, Result, Ok, Err, sym, subst, Files, HostState, OnlyReads, Rose, Refusal, Effects, WriteStop, Done, plain, Words, Ends, HasReadCause, HasCause, Boxes, Decides, Runs}
 
-plain_cause : (files : Option Files) (rose : Type 0) (r : Result Plan Refusal) → HasReadCause files rose r → HasReadCause files rose (plain r)
+plain_cause : (files : Option Files) (rose : Type 0) (r : Result Effects Refusal) → HasReadCause files rose r → HasReadCause files rose (plain r)
 plain_cause files rose (Ok plan) c = tt
 plain_cause files rose (Err (Refusal.ReadFailed p)) c = c
 plain_cause files rose (Err (Refusal.Absent p)) c = c
@@ -17,7 +17,7 @@ whatever_reads words (Ok done) old new reads n (Err (WriteStop.Failed p), writes
 whatever_reads words (Ok done) old new reads n (Err WriteStop.NoMemory, writes, says) = (Err WriteStop.NoMemory, writes, says)
 whatever_reads words (Err refusal) old new reads n ends = ends
 
-pub decided_and_ended : (words : Words) (boxes left : Boxes) (old between new : HostState) (r : Result Plan Refusal) (n : ℕ) → OnlyReads old between
+pub decided_and_ended : (words : Words) (boxes left : Boxes) (old between new : HostState) (r : Result Effects Refusal) (n : ℕ) → OnlyReads old between
     → Decides old.files boxes left words (plain r) → HasCause old between r → new.read_faults ≡ between.read_faults → Ends words (plain r) between new n
     → Runs words boxes left old new n
 decided_and_ended words boxes left old between new r n kept decides cause reads ends =

@@ -1,5 +1,5 @@
 -- What is made is written to files that the words name.
-use Rattle.bist_app.proofs.Common.{◌≡◌, ◌++◌, ◌∙◌, ℕ, List, [], ap, sym, subst, arith, length, codes, append_assoc, Done, Words, NamesWords, HasForm, decimal, Result, Ok, Err, IfOk, Plan, done_of, Item, MarchElement, Description}
+use Rattle.bist_app.proofs.Common.{◌≡◌, ◌++◌, ◌∙◌, ℕ, List, [], ap, sym, subst, arith, length, codes, append_assoc, Done, Words, NamesWords, HasForm, decimal, Result, Ok, Err, IfOk, Effects, done_of, Item, MarchElement, Description}
 use Rattle.memory_desc.specs.Printed.{printed}
 use Rattle.made_inputs.specs.MadeMarch.{made_march, line_of}
 use Rattle.made_inputs.specs.MadeList.{made_text, made_items}
@@ -37,7 +37,7 @@ line_joined before first second third elements operations commands covered count
     in_line l a x b y c = simp append_assoc
 
 -- what is made of the inputs of a number
-pub made_from : {E : Type 0} (number : ℕ) (d : Description) (march : List MarchElement) (items : List Item) (listed : List ℕ) (result : Result Plan E)
+pub made_from : {E : Type 0} (number : ℕ) (d : Description) (march : List MarchElement) (items : List Item) (listed : List ℕ) (result : Result Effects E)
     → march ≡ made_march number → items ≡ made_items → listed ≡ made_text → IsMadeMemory number d
     → IfOk result (λ plan. IsMadeOf march d items listed (done_of plan)) → IfOk result (λ plan. IsMade number (done_of plan))
 made_from number d march items listed (Err e) is_march is_items is_listed memory h = tt

@@ -13,6 +13,7 @@ pub mod BenchFaultFacts
 pub mod BenchAllFacts
 pub mod CheckFacts
 pub mod ChipFacts
+pub mod ShowFacts
 use Rattle.bist_app.proofs.Table.BenchAllFacts.{bench_all_facts}
 use Rattle.bist_app.proofs.Table.BenchFacts.{bench_facts}
 use Rattle.bist_app.proofs.Table.BenchFaultFacts.{bench_fault_facts}
@@ -26,6 +27,7 @@ use Rattle.bist_app.proofs.Table.InWordFacts.{in_word_facts}
 use Rattle.bist_app.proofs.Table.JudgeFacts.{judge_facts}
 use Rattle.bist_app.proofs.Table.LinkedFacts.{linked_facts}
 use Rattle.bist_app.proofs.Table.MakeFacts.{make_facts}
+use Rattle.bist_app.proofs.Table.ShowFacts.{show_facts}
 use Rattle.bist_app.proofs.Table.SimFacts.{sim_facts}
 use Rattle.bist_app.proofs.Table.VectorsFacts.{vectors_facts}
 use Rattle.bist_app.proofs.Common.{row_of, Command}
@@ -45,3 +47,4 @@ facts_of Command.BenchFault = bench_fault_facts
 facts_of Command.BenchAll = bench_all_facts
 facts_of Command.Check = check_facts
 facts_of Command.Chip = chip_facts
+facts_of Command.Show = show_facts

@@ -53,7 +53,8 @@ done_text (Some cycle) = decimal cycle
 abbrev pub seen_text : ℕ → Option Seen → List ℕ
 seen_text bits None = []
 seen_text bits (Some seen) =
-    codes " cycle " ++ decimal seen.cycle ++ codes " expected " ++ word_text bits seen.expected ++ codes " returned " ++ word_text bits seen.returned
+    codes " cycle " ++ decimal seen.cycle ++ codes " expected " ++ word_text bits seen.expected ++ codes " returned "
+    ++ word_text bits seen.returned
 
 abbrev pub fail_text : Bool → List ℕ
 fail_text false = codes "fail 0 done "

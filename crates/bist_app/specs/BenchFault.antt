@@ -6,7 +6,7 @@ use Rattle.march_core.specs.March.{MarchElement}
 use Rattle.fault_core.specs.Primitive.{Primitive}
 use Rattle.array_sim.specs.Detection.{Detects}
 use Rattle.memory_desc.specs.Descriptions.{Description}
-use Rattle.word_device.specs.declared.device.Place.{Place}
+use Rattle.word_device.specs.declared.device.BitPlace.{BitPlace}
 use Rattle.word_device.specs.declared.device.Planted.{Planted}
 use Rattle.word_device.specs.Ports.{Chip}
 use Rattle.word_device.specs.Boxes.{Tells, TellsChip}
@@ -58,10 +58,10 @@ abbrev pub FitsPlaces : Description → FaultShape → Result (Unit {0}) Refusal
 FitsPlaces d shape = PassesWhere (ArePlaces d shape) (Refusal.Device DeviceRefusal.BadPlace)
 
 -- the instance that the words name
-abbrev pub place_in : NamedPlace → Place
+abbrev pub place_in : NamedPlace → BitPlace
 place_in place = record { word = place.word; bit = place.bit }
 
-abbrev pub aggressor_in : Option NamedPlace → Option Place
+abbrev pub aggressor_in : Option NamedPlace → Option BitPlace
 aggressor_in None = None
 aggressor_in (Some place) = Some (place_in place)
 

@@ -58,7 +58,8 @@ DecidesFileRun files boxes left words mo =
 
 -- the checks of `benchfile` in their order
 abbrev pub DecidesBenchFile : Option Files → Boxes → Boxes → Words → Result Done Refusal → Type 0
-DecidesBenchFile files boxes left words = Before boxes left (InputModule Parenthesised files words 1) (λ mo. DecidesFileRun files boxes left words mo)
+DecidesBenchFile files boxes left words = Before boxes left (InputModule Parenthesised files words 1)
+    (λ mo. DecidesFileRun files boxes left words mo)
 
 -- ---- the row
 

@@ -29,7 +29,8 @@ at_text cycle port = decimal cycle ++ codes " port " ++ port
 abbrev pub check_line : PortAnswer → List ℕ
 check_line (PortAnswer.Conforms cycles) = numbered_line (codes "conforms ") cycles
 check_line (PortAnswer.Differs cycle port expected got) =
-    codes "differs cycle " ++ at_text cycle port.bytes ++ codes " expected " ++ decimal expected ++ codes " got " ++ decimal got ++ codes "\n"
+    codes "differs cycle " ++ at_text cycle port.bytes ++ codes " expected " ++ decimal expected ++ codes " got "
+    ++ decimal got ++ codes "\n"
 check_line (PortAnswer.Unknown cycle port) = codes "unknown cycle " ++ at_text cycle port.bytes ++ codes "\n"
 
 -- no file, and the line; the status is 1 exactly where the module isn't seen to conform

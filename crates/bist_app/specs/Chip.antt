@@ -55,7 +55,8 @@ HasOwnNames chip ds (Err other) = ⊥
 
 -- how many units there are, in how many groups they are tested, and the first cycle in which every test is over
 abbrev pub chip_line : ℕ → ℕ → ℕ → List ℕ
-chip_line units groups cycle = codes "chip units " ++ decimal units ++ codes " groups " ++ decimal groups ++ codes " done " ++ decimal cycle ++ codes "\n"
+chip_line units groups cycle = codes "chip units " ++ decimal units ++ codes " groups " ++ decimal groups
+    ++ codes " done " ++ decimal cycle ++ codes "\n"
 
 -- The file that the second word names has a text that spells one chip and no other. It has this name and the ports of these memories, and
 -- tests them within the budget, in the groups of the first fit, of which the line tells. Its modules show on `wdata` what each read expects

@@ -75,4 +75,5 @@ pub record IsCompilation (words : Words) (files files' : Files) (said said' : Op
 abbrev pub LeavesCompilation : Words → HostState → HostState → ℕ → Type 0
 LeavesCompilation words old new status =
     IfSome old.files (λ files.
-    word words 0 ≡ codes "compile" → status ≤ 1 → (files' : Files) × (new.files ≡ Some files') × IsCompilation words files files' old.said new.said status)
+    word words 0 ≡ codes "compile" → status ≤ 1 → (files' : Files) × (new.files ≡ Some files')
+    × IsCompilation words files files' old.said new.said status)

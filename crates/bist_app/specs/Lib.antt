@@ -18,6 +18,7 @@ pub mod InWord
 pub mod Headline
 pub mod Conformance
 pub mod Make
+pub mod Show
 pub mod Run
 pub mod Answer
 pub mod inner

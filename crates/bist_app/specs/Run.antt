@@ -23,6 +23,7 @@ use Rattle.bist_app.specs.BenchFault.{bench_fault_row}
 use Rattle.bist_app.specs.BenchAll.{bench_all_row}
 use Rattle.bist_app.specs.Check.{check_row}
 use Rattle.bist_app.specs.Chip.{chip_row}
+use Rattle.bist_app.specs.Show.{show_row}
 
 -- the table of the commands
 abbrev pub row_of : Command → Row
@@ -40,6 +41,7 @@ row_of Command.BenchFault = bench_fault_row
 row_of Command.BenchAll = bench_all_row
 row_of Command.Check = check_row
 row_of Command.Chip = chip_row
+row_of Command.Show = show_row
 
 -- for private contracts alone: the command of a name
 abbrev pub command_named : List ℕ → Option Command
@@ -58,6 +60,7 @@ command_named text =
     if bytes_eq text (codes "benchall") then Some Command.BenchAll else
     if bytes_eq text (codes "check") then Some Command.Check else
     if bytes_eq text (codes "chip") then Some Command.Chip else
+    if bytes_eq text (codes "show") then Some Command.Show else
     None
 
 -- the words have the form of this command
@@ -90,4 +93,5 @@ Decides files boxes left words outcome =
 -- what a run answers and leaves
 abbrev pub Runs : Words → Boxes → Boxes → HostState → HostState → ℕ → Type 0
 Runs words boxes left old new status =
-    (outcome : Result Done Refusal) × Decides old.files boxes left words outcome × HasCause old new outcome × Ends words outcome old new status
+    (outcome : Result Done Refusal) × Decides old.files boxes left words outcome × HasCause old new outcome
+    × Ends words outcome old new status

@@ -51,7 +51,8 @@ HasBox (box ∷ boxes) (Err other) = ⊥
 unfoldable pub FitsRoom : Description → Boxes → Result (Unit {0}) Refusal → Type 0
 FitsRoom d [] result = ⊥
 FitsRoom d (box ∷ boxes) (Ok _) = d.words ≤ box.room
-FitsRoom d (box ∷ boxes) (Err (Refusal.Device (DeviceRefusal.TooSmall words room))) = (box.room < d.words) × (words ≡ d.words) × (room ≡ box.room)
+FitsRoom d (box ∷ boxes) (Err (Refusal.Device (DeviceRefusal.TooSmall words room))) = (box.room < d.words)
+    × (words ≡ d.words) × (room ≡ box.room)
 FitsRoom d (box ∷ boxes) (Err other) = ⊥
 
 -- ---- the boxes that are left
@@ -64,5 +65,7 @@ LeavesFirst boxes left (Err Refusal.NoMemory) = (left ≡ boxes) ⊎ (left ≡ d
 LeavesFirst boxes left (Err other) = left ≡ boxes
 
 -- a check before any box is called, and the rest where it gives a value: where it refuses, all boxes are as before
-abbrev pub Before : {A : Type 0} → Boxes → Boxes → (Result A Refusal → Type 0) → (A → Result Done Refusal → Type 0) → Result Done Refusal → Type 0
-Before {A} boxes left first rest result = (r : Result A Refusal) × first r × MatchResult r (λ a. rest a result) (λ e. (result ≡ Err e) × (left ≡ boxes))
+abbrev pub Before : {A : Type 0} → Boxes → Boxes → (Result A Refusal → Type 0) → (A → Result Done Refusal → Type 0)
+    → Result Done Refusal → Type 0
+Before {A} boxes left first rest result = (r : Result A Refusal) × first r
+    × MatchResult r (λ a. rest a result) (λ e. (result ≡ Err e) × (left ≡ boxes))

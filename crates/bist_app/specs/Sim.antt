@@ -73,7 +73,8 @@ FirstDiffers march directions prim at content (Some miss) =
 
 abbrev pub caught_line : Miss → List ℕ
 caught_line miss =
-    codes "caught element " ++ decimal miss.element ++ codes " address " ++ decimal miss.address ++ codes " operation " ++ decimal miss.op ++ codes "\n"
+    codes "caught element " ++ decimal miss.element ++ codes " address " ++ decimal miss.address ++ codes " operation "
+    ++ decimal miss.op ++ codes "\n"
 
 abbrev pub sim_line : Option Miss → List ℕ
 sim_line None = codes "passes\n"

@@ -53,4 +53,5 @@ pub record IsTestedChip (words : Words) (files files' : Files) (said said' : Opt
 abbrev pub LeavesTestedChip : Words → HostState → HostState → ℕ → Type 0
 LeavesTestedChip words old new status =
     IfSome old.files (λ files.
-    word words 0 ≡ codes "chip" → status ≤ 1 → (status ≡ 0) × ((files' : Files) × (new.files ≡ Some files') × IsTestedChip words files files' old.said new.said))
+    word words 0 ≡ codes "chip" → status ≤ 1 → (status ≡ 0)
+    × ((files' : Files) × (new.files ≡ Some files') × IsTestedChip words files files' old.said new.said))

@@ -14,7 +14,7 @@ ghost use Rattle.bist_app.specs.Bench.{LeavesBench, TestsBench, DecidesBench, be
 use crate::benching::test_beside;
 use crate::boxes::{fit_room, want_box};
 use crate::shared::fit_length;
-use bist_endings::{Plan, Refusal};
+use bist_endings::{Effects, Refusal};
 use bist_host::Host;
 use bist_inputs::{read_march_input, read_memory_input};
 use march_core::March;
@@ -22,13 +22,18 @@ use memory_desc::Memory;
 use std::alloc::Global;
 use word_device::{Device, unplanted_passes};
 
+// The places of the words.
+const MARCH: usize = 1;
+
+const MEMORY: usize = 2;
+
 /// The plan of the run, or want of memory.
 fn plan_bench(
     alloc: Global,
     march: &March,
     memory: &Memory,
     devices: &mut Vec<Box<dyn Device>>,
-) -> Result<Plan, Refusal>
+) -> Result<Effects, Refusal>
     requires short { IsShort march.now memory.now }
     requires some { 0 < vec_len devices.old }
     requires room { FirstHasRoom memory.now.words (map (λ b. told b) devices.old.items) }
@@ -47,9 +52,10 @@ fn test_bench(
     march: &March,
     memory: &Memory,
     devices: &mut Vec<Box<dyn Device>>,
-) -> Result<Plan, Refusal>
+) -> Result<Effects, Refusal>
     ensures own { IfErr result IsOwnRefusal }
-    ensures answer { TestsBench march.now memory.now (map (λ b. told b) devices.old.items) (map (λ b. told b) devices.new.items) (plain result) }
+    ensures answer { TestsBench march.now memory.now (map (λ b. told b) devices.old.items)
+        (map (λ b. told b) devices.new.items) (plain result) }
     ensures outputs { IfOk result (λ plan. (done_of plan).outputs ≡ []) }
 {
     fit_length(march, memory)?;
@@ -64,14 +70,15 @@ pub fn decide_bench<H: Host>(
     words: &[&str],
     host: &mut H,
     devices: &mut Vec<Box<dyn Device>>,
-) -> Result<Plan, Refusal>
+) -> Result<Effects, Refusal>
     requires { HasForm bench_form words.now }
     ensures kept { OnlyReads (H.state host.old) (H.state host.new) }
     ensures outputs { IfOk result (λ plan. NamesWords words.now (done_of plan).outputs) }
-    ensures answer { DecidesBench (H.state host.old).files (map (λ b. told b) devices.old.items) (map (λ b. told b) devices.new.items) words.now (plain result) }
+    ensures answer { DecidesBench (H.state host.old).files (map (λ b. told b) devices.old.items)
+        (map (λ b. told b) devices.new.items) words.now (plain result) }
     ensures cause { HasCause (H.state host.old) (H.state host.new) result }
 {
-    let march = read_march_input(host, words, 1)?;
-    let memory = read_memory_input(host, words, 2)?;
+    let march = read_march_input(host, words, MARCH)?;
+    let memory = read_memory_input(host, words, MEMORY)?;
     test_bench(alloc, &march, &memory, devices)
 }

@@ -12,7 +12,7 @@ ghost use Rattle.bist_app.specs.inner.BenchedBoxes.{SmallRoom};
 use crate::benching_all::bench_all;
 use crate::boxes::{room_of_box, want_box};
 use crate::shared::fit_length;
-use bist_endings::{DeviceRefusal, Plan, Refusal};
+use bist_endings::{DeviceRefusal, Effects, Refusal};
 use bist_host::Host;
 use bist_inputs::{read_march_input, read_memory_input};
 use march_core::March;
@@ -20,9 +20,15 @@ use memory_desc::Memory;
 use std::alloc::Global;
 use word_device::Device;
 
+// The places of the words.
+const MARCH: usize = 1;
+
+const MEMORY: usize = 2;
+
 /// The room of the first box that has none for so many words, if there is one.
 fn small_room(devices: &[Box<dyn Device>], words: u32) -> Option<u32>
-    ensures { MatchOption result (HaveRoom words (map (λ b. told b) devices.now)) (λ room. SmallRoom words (map (λ b. told b) devices.now) room) }
+    ensures { MatchOption result (HaveRoom words (map (λ b. told b) devices.now))
+        (λ room. SmallRoom words (map (λ b. told b) devices.now) room) }
 {
     match devices {
         [] => None,
@@ -57,9 +63,10 @@ fn test_all(
     march: &March,
     memory: &Memory,
     devices: &mut Vec<Box<dyn Device>>,
-) -> Result<Plan, Refusal>
+) -> Result<Effects, Refusal>
     ensures own { IfErr result IsOwnRefusal }
-    ensures answer { TestsAll march.now memory.now (map (λ b. told b) devices.old.items) (map (λ b. told b) devices.new.items) (plain result) }
+    ensures answer { TestsAll march.now memory.now (map (λ b. told b) devices.old.items)
+        (map (λ b. told b) devices.new.items) (plain result) }
     ensures outputs { IfOk result (λ plan. (done_of plan).outputs ≡ []) }
 {
     fit_length(march, memory)?;
@@ -74,14 +81,15 @@ pub fn decide_bench_all<H: Host>(
     words: &[&str],
     host: &mut H,
     devices: &mut Vec<Box<dyn Device>>,
-) -> Result<Plan, Refusal>
+) -> Result<Effects, Refusal>
     requires { HasForm bench_all_form words.now }
     ensures kept { OnlyReads (H.state host.old) (H.state host.new) }
     ensures outputs { IfOk result (λ plan. NamesWords words.now (done_of plan).outputs) }
-    ensures answer { DecidesBenchAll (H.state host.old).files (map (λ b. told b) devices.old.items) (map (λ b. told b) devices.new.items) words.now (plain result) }
+    ensures answer { DecidesBenchAll (H.state host.old).files (map (λ b. told b) devices.old.items)
+        (map (λ b. told b) devices.new.items) words.now (plain result) }
     ensures cause { HasCause (H.state host.old) (H.state host.new) result }
 {
-    let march = read_march_input(host, words, 1)?;
-    let memory = read_memory_input(host, words, 2)?;
+    let march = read_march_input(host, words, MARCH)?;
+    let memory = read_memory_input(host, words, MEMORY)?;
     test_all(alloc, &march, &memory, devices)
 }

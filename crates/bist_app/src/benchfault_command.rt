@@ -16,14 +16,25 @@ use crate::benching::test_beside;
 use crate::boxes::{fit_room, want_box};
 use crate::shared::fit_length;
 use crate::sim::fit_aggressor;
-use bist_endings::{DeviceRefusal, Plan, Refusal, number_of};
+use bist_endings::{DeviceRefusal, Effects, Refusal, number_of};
 use bist_host::Host;
 use bist_inputs::{give_prim, read_march_input, read_memory_input};
 use fault_core::Prim;
 use march_core::March;
 use memory_desc::Memory;
 use std::alloc::Global;
-use word_device::{Device, Place, Planted, closing, planted_fails};
+use word_device::{BitPlace, Device, Planted, closing, planted_fails};
+
+// The places of the words.
+const MARCH: usize = 1;
+
+const MEMORY: usize = 2;
+
+const FAULT: usize = 3;
+
+const AGGRESSOR: usize = 4;
+
+const VICTIM: usize = 5;
 
 /// A bit of a word of a memory, as words name it.
 #[derive(Clone, Copy)]
@@ -51,7 +62,8 @@ fn place_of(text: &str) -> Option<NamedPlace>
 
 /// The aggressor's place that a word names, or none.
 fn aggressor_place(text: &str) -> Option<Option<NamedPlace>>
-    ensures { MatchOption result ((place : Option NamedPlace) → IsAggressorPlace text.now place → ⊥) (λ place. IsAggressorPlace text.now place) }
+    ensures { MatchOption result ((place : Option NamedPlace) → IsAggressorPlace text.now place → ⊥)
+        (λ place. IsAggressorPlace text.now place) }
 {
     if text == "none" {
         return Some(None);
@@ -64,8 +76,8 @@ fn fault_shape(words: &[&str]) -> Option<FaultShape>
     requires { HasForm bench_fault_form words.now }
     ensures { MatchOption result ((shape : FaultShape) → IsFaultShape words.now shape → ⊥) (λ shape. IsFaultShape words.now shape) }
 {
-    let aggressor = aggressor_place(words[4])?;
-    let victim = place_of(words[5])?;
+    let aggressor = aggressor_place(words[AGGRESSOR])?;
+    let victim = place_of(words[VICTIM])?;
     Some(FaultShape { aggressor, victim })
 }
 
@@ -91,12 +103,12 @@ fn fit_places(shape: FaultShape, memory: &Memory) -> Result<(), Refusal>
     Err(Refusal::Device(DeviceRefusal::BadPlace))
 }
 
-fn place_in(place: NamedPlace, memory: &Memory) -> Place
+fn place_in(place: NamedPlace, memory: &Memory) -> BitPlace
     requires { IsWithin memory.now place }
     ensures { result ≡ place_in place }
 {
-    let _ = memory.words();
-    Place {
+    memory.known();
+    BitPlace {
         word: place.word as u32,
         bit: place.bit as u8,
     }
@@ -128,9 +140,10 @@ fn test_fault(
     prim: &Prim,
     shape: FaultShape,
     devices: &mut Vec<Box<dyn Device>>,
-) -> Result<Plan, Refusal>
+) -> Result<Effects, Refusal>
     ensures own { IfErr result IsOwnRefusal }
-    ensures answer { TestsFault march.now memory.now prim.now shape (map (λ b. told b) devices.old.items) (map (λ b. told b) devices.new.items) (plain result) }
+    ensures answer { TestsFault march.now memory.now prim.now shape (map (λ b. told b) devices.old.items)
+        (map (λ b. told b) devices.new.items) (plain result) }
     ensures outputs { IfOk result (λ plan. (done_of plan).outputs ≡ []) }
 {
     fit_aggressor(shape.aggressor.is_some(), prim)?;
@@ -140,8 +153,8 @@ fn test_fault(
     fit_room(devices, memory)?;
     let planted = planted_for(prim, shape, memory);
     // a chip in which it was just planted answers some read wrong, where the march detects the primitive
-    let _ = memory.words();
-    let _ = planted.prim.agg();
+    memory.known();
+    planted.prim.known();
     closing();
     planted_fails(march, memory);
     test_beside(alloc, march, memory, &Some(planted), devices)
@@ -154,16 +167,17 @@ fn run_fault<H: Host>(
     shape: FaultShape,
     host: &mut H,
     devices: &mut Vec<Box<dyn Device>>,
-) -> Result<Plan, Refusal>
+) -> Result<Effects, Refusal>
     requires { HasForm bench_fault_form words.now }
     ensures kept { OnlyReads (H.state host.old) (H.state host.new) }
     ensures outputs { IfOk result (λ plan. NamesWords words.now (done_of plan).outputs) }
-    ensures answer { RunsFault (H.state host.old).files (map (λ b. told b) devices.old.items) (map (λ b. told b) devices.new.items) words.now shape (plain result) }
+    ensures answer { RunsFault (H.state host.old).files (map (λ b. told b) devices.old.items)
+        (map (λ b. told b) devices.new.items) words.now shape (plain result) }
     ensures cause { HasCause (H.state host.old) (H.state host.new) result }
 {
-    let march = read_march_input(host, words, 1)?;
-    let memory = read_memory_input(host, words, 2)?;
-    let prim = give_prim(words[3].as_bytes())?;
+    let march = read_march_input(host, words, MARCH)?;
+    let memory = read_memory_input(host, words, MEMORY)?;
+    let prim = give_prim(words[FAULT].as_bytes())?;
     test_fault(alloc, &march, &memory, &prim, shape, devices)
 }
 
@@ -173,11 +187,12 @@ pub fn decide_fault<H: Host>(
     words: &[&str],
     host: &mut H,
     devices: &mut Vec<Box<dyn Device>>,
-) -> Result<Plan, Refusal>
+) -> Result<Effects, Refusal>
     requires { HasForm bench_fault_form words.now }
     ensures kept { OnlyReads (H.state host.old) (H.state host.new) }
     ensures outputs { IfOk result (λ plan. NamesWords words.now (done_of plan).outputs) }
-    ensures answer { DecidesFault (H.state host.old).files (map (λ b. told b) devices.old.items) (map (λ b. told b) devices.new.items) words.now (plain result) }
+    ensures answer { DecidesFault (H.state host.old).files (map (λ b. told b) devices.old.items)
+        (map (λ b. told b) devices.new.items) words.now (plain result) }
     ensures cause { HasCause (H.state host.old) (H.state host.new) result }
 {
     match fault_shape(words) {

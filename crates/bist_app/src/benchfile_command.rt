@@ -16,15 +16,23 @@ ghost use Rattle.bist_app.specs.BenchFile.{LeavesBenchFile, TestsFile, DecidesFi
 use crate::benching::run_beside;
 use crate::boxes::{fit_room, want_box};
 use crate::shared::fit_length;
-use bist_endings::{Plan, Refusal, VerilogRefusal};
+use bist_endings::{Effects, Refusal, VerilogRefusal};
 use bist_host::Host;
-use bist_inputs::{Style, read_design_input, read_march_input, read_memory_input};
+use bist_inputs::{read_design_input, read_march_input, read_memory_input};
 use march_core::March;
 use memory_desc::Memory;
 use self_test::wrong_port;
 use std::alloc::Global;
 use verilog_cycle::Design;
+use verilog_read::Style;
 use word_device::Device;
+
+// The places of the words.
+const MODULE: usize = 1;
+
+const MARCH: usize = 2;
+
+const MEMORY: usize = 3;
 
 /// Refuses ports that aren't those of a self-test of the memory.
 #[tactic(auto, unfolding(crate::specs::Shared::HasPorts))]
@@ -46,7 +54,7 @@ fn plan_benchfile(
     march: &March,
     memory: &Memory,
     devices: &mut Vec<Box<dyn Device>>,
-) -> Result<Plan, Refusal>
+) -> Result<Effects, Refusal>
     requires zero { design.old.registers ≡ zero_registers design.old.tree }
     requires short { IsShort march.now memory.now }
     requires ports { wrong_port memory.now design.old.tree.ports ≡ None }
@@ -67,10 +75,11 @@ fn test_design(
     march: &March,
     memory: &Memory,
     devices: &mut Vec<Box<dyn Device>>,
-) -> Result<Plan, Refusal>
+) -> Result<Effects, Refusal>
     requires zero { design.old.registers ≡ zero_registers design.old.tree }
     ensures own { IfErr result IsOwnRefusal }
-    ensures answer { TestsFile design.old.tree march.now memory.now (map (λ b. told b) devices.old.items) (map (λ b. told b) devices.new.items) (plain result) }
+    ensures answer { TestsFile design.old.tree march.now memory.now (map (λ b. told b) devices.old.items)
+        (map (λ b. told b) devices.new.items) (plain result) }
     ensures outputs { IfOk result (λ plan. (done_of plan).outputs ≡ []) }
 {
     fit_length(march, memory)?;
@@ -87,16 +96,17 @@ fn decide_design<H: Host>(
     host: &mut H,
     design: &mut Design,
     devices: &mut Vec<Box<dyn Device>>,
-) -> Result<Plan, Refusal>
+) -> Result<Effects, Refusal>
     requires shape { HasForm bench_file_form words.now }
     requires zero { design.old.registers ≡ zero_registers design.old.tree }
     ensures kept { OnlyReads (H.state host.old) (H.state host.new) }
     ensures outputs { IfOk result (λ plan. NamesWords words.now (done_of plan).outputs) }
-    ensures answer { DecidesFileRun (H.state host.old).files (map (λ b. told b) devices.old.items) (map (λ b. told b) devices.new.items) words.now design.old.tree (plain result) }
+    ensures answer { DecidesFileRun (H.state host.old).files (map (λ b. told b) devices.old.items)
+        (map (λ b. told b) devices.new.items) words.now design.old.tree (plain result) }
     ensures cause { HasCause (H.state host.old) (H.state host.new) result }
 {
-    let march = read_march_input(host, words, 2)?;
-    let memory = read_memory_input(host, words, 3)?;
+    let march = read_march_input(host, words, MARCH)?;
+    let memory = read_memory_input(host, words, MEMORY)?;
     test_design(alloc, design, &march, &memory, devices)
 }
 
@@ -106,14 +116,15 @@ pub fn decide_benchfile<H: Host>(
     words: &[&str],
     host: &mut H,
     devices: &mut Vec<Box<dyn Device>>,
-) -> Result<Plan, Refusal>
+) -> Result<Effects, Refusal>
     requires { HasForm bench_file_form words.now }
     ensures kept { OnlyReads (H.state host.old) (H.state host.new) }
     ensures outputs { IfOk result (λ plan. NamesWords words.now (done_of plan).outputs) }
-    ensures answer { DecidesBenchFile (H.state host.old).files (map (λ b. told b) devices.old.items) (map (λ b. told b) devices.new.items) words.now (plain result) }
+    ensures answer { DecidesBenchFile (H.state host.old).files (map (λ b. told b) devices.old.items)
+        (map (λ b. told b) devices.new.items) words.now (plain result) }
     ensures cause { HasCause (H.state host.old) (H.state host.new) result }
 {
-    let mut design = read_design_input(alloc, host, words, 1, Style::Parenthesised)?;
+    let mut design = read_design_input(alloc, host, words, MODULE, Style::Parenthesised)?;
     let plan = decide_design(alloc, words, host, &mut design, devices);
     drop(design);
     plan

@@ -20,11 +20,11 @@ ghost use Rattle.bist_app.specs.BenchFile.{zero_registers};
 ghost use Rattle.bist_app.specs.inner.RunsBeside.{FirstHasRoom, AreWords, CanPlant, RunsBeside};
 ghost use Rattle.bist_app.specs.inner.BenchedBoxes.{EndsRun};
 
-use crate::boxes::take_first;
+use crate::boxes::take_fitted;
 use crate::compile::module_text;
 use bench::{BenchEnd, Seen, bench};
 use bist_bits::NoMemory;
-use bist_endings::{Plan, Refusal};
+use bist_endings::{Effects, Refusal};
 use bist_text::{put, put_decimal, put_number_between, put_word};
 use march_core::March;
 use memory_desc::Memory;
@@ -129,14 +129,14 @@ fn put_end(line: &mut Vec<u8>, bits: u8, end: RunEnd) -> Result<(), NoMemory>
 }
 
 /// The plan of a run that ended so.
-fn end_plan(alloc: Global, bits: u8, end: RunEnd) -> Result<Plan, NoMemory>
+fn end_plan(alloc: Global, bits: u8, end: RunEnd) -> Result<Effects, NoMemory>
     requires bits { bits ≤ 64 }
     requires fits { AreWords bits end.first }
     ensures { IfOk result (λ plan. done_of plan ≡ benched_done bits end.fail end.done_cycle end.first) }
 {
     let mut line = Vec::new(alloc);
     put_end(&mut line, bits, end)?;
-    Ok(Plan {
+    Ok(Effects {
         found: end.fail,
         outputs: Vec::new(alloc),
         line,
@@ -162,7 +162,8 @@ pub fn run_design(
     requires ports { wrong_port memory.now design.old.tree.ports ≡ None }
     requires fitted { (told device).shape ≡ Some (memory_shape memory.now) }
     ensures runs { EndsRun design.old.tree march.now memory.now design.old.registers (told device).tells result }
-    ensures test { SelfTest design.old.tree march.now memory.now → EndsSelfTest march.now memory.now (told device).tells result.fail result.done_cycle result.first }
+    ensures test { SelfTest design.old.tree march.now memory.now
+        → EndsSelfTest march.now memory.now (told device).tells result.fail result.done_cycle result.first }
     ensures kept { design.new.tree ≡ design.old.tree }
 {
     match bench(design, march, memory, device) {
@@ -193,7 +194,7 @@ pub fn run_beside(
     memory: &Memory,
     planted: &Option<Planted>,
     devices: &mut Vec<Box<dyn Device>>,
-) -> Result<Plan, Refusal>
+) -> Result<Effects, Refusal>
     requires zero { design.old.registers ≡ zero_registers design.old.tree }
     requires short { IsShort march.now memory.now }
     requires ports { wrong_port memory.now design.old.tree.ports ≡ None }
@@ -201,11 +202,13 @@ pub fn run_beside(
     requires room { FirstHasRoom memory.now.words (map (λ b. told b) devices.old.items) }
     requires fits { CanPlant memory.now planted.now }
     ensures wants { IfErr result (λ refusal. refusal ≡ Refusal.NoMemory) }
-    ensures run { IfOk result (λ plan. (b : _) (rest : _) → devices.old.items ≡ b ∷ rest → RunsBeside design.old.tree march.now memory.now (ready memory.now planted.now (told b).tells) (done_of plan)) }
+    ensures run { IfOk result (λ plan. (b : _) (rest : _) → devices.old.items ≡ b ∷ rest
+        → RunsBeside design.old.tree march.now memory.now (ready memory.now planted.now (told b).tells)
+        (done_of plan)) }
     ensures outputs { IfOk result (λ plan. (done_of plan).outputs ≡ []) }
     ensures left { LeavesFirst (map (λ b. told b) devices.old.items) (map (λ b. told b) devices.new.items) (plain result) }
 {
-    let device = take_first(devices, memory, planted)?;
+    let device = take_fitted(devices, memory, planted)?;
     let bits = memory.bits();
     let end = run_design(design, march, memory, device);
     let plan = end_plan(alloc, bits, end)?;
@@ -219,13 +222,14 @@ pub fn test_beside(
     memory: &Memory,
     planted: &Option<Planted>,
     devices: &mut Vec<Box<dyn Device>>,
-) -> Result<Plan, Refusal>
+) -> Result<Effects, Refusal>
     requires short { IsShort march.now memory.now }
     requires some { 0 < vec_len devices.old }
     requires room { FirstHasRoom memory.now.words (map (λ b. told b) devices.old.items) }
     requires fits { CanPlant memory.now planted.now }
     ensures wants { IfErr result (λ refusal. refusal ≡ Refusal.NoMemory) }
-    ensures benched { IfOk result (λ plan. (b : _) (rest : _) → devices.old.items ≡ b ∷ rest → IsBenched march.now memory.now planted.now (told b).tells (done_of plan)) }
+    ensures benched { IfOk result (λ plan. (b : _) (rest : _) → devices.old.items ≡ b ∷ rest
+        → IsBenched march.now memory.now planted.now (told b).tells (done_of plan)) }
     ensures outputs { IfOk result (λ plan. (done_of plan).outputs ≡ []) }
     ensures left { LeavesFirst (map (λ b. told b) devices.old.items) (map (λ b. told b) devices.new.items) (plain result) }
 {

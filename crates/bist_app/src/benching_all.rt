@@ -11,9 +11,9 @@ ghost use Rattle.bist_app.specs.BenchAll.{HaveRoom, LeavesAll, LeavesNone, all_l
 ghost use Rattle.bist_app.specs.inner.BenchedBoxes.{IsEnd, CountsFailing};
 
 use crate::benching::{run_design, self_test_design};
-use crate::boxes::take_first;
+use crate::boxes::take_fitted;
 use bist_bits::NoMemory;
-use bist_endings::{Plan, Refusal, put_number};
+use bist_endings::{Effects, Refusal, put_number};
 use bist_text::put_number_between;
 use march_core::March;
 use memory_desc::Memory;
@@ -72,7 +72,7 @@ fn bench_boxes(
     let zeros = zeros_for(alloc, design)?;
     let mut failing = 0;
     while !devices.is_empty() {
-        let device = take_first(devices, memory, &None)?;
+        let device = take_fitted(devices, memory, &None)?;
         failing += usize::from(does_fail(design, &zeros, march, memory, device));
     }
     Ok(failing)
@@ -115,7 +115,7 @@ pub fn bench_all(
     march: &March,
     memory: &Memory,
     devices: &mut Vec<Box<dyn Device>>,
-) -> Result<Plan, Refusal>
+) -> Result<Effects, Refusal>
     requires short { IsShort march.now memory.now }
     requires some { 0 < length devices.old.items }
     requires rooms { HaveRoom memory.now.words (map (λ b. told b) devices.old.items) }
@@ -128,7 +128,7 @@ pub fn bench_all(
     let failing = failing_boxes(alloc, march, memory, devices)?;
     let mut line = Vec::new(alloc);
     put_failing(&mut line, count, failing)?;
-    Ok(Plan {
+    Ok(Effects {
         found: failing > 0,
         outputs: Vec::new(alloc),
         line,

@@ -64,7 +64,8 @@ fn want_of_box(fault: DeviceFault) -> NoMemory
 fn fit_box(device: &mut Box<dyn Device>, shape: &Shape) -> Result<(), NoMemory>
     requires shape { IsShape shape.now }
     requires room { shape.now.words ≤ (told device.old).room }
-    ensures ok { OnOk result (told device.new ≡ record (told device.old) { shape = Some shape.now; tells = after_fit shape.now (told device.old).tells }) }
+    ensures ok { OnOk result (told device.new
+        ≡ record (told device.old) { shape = Some shape.now; tells = after_fit shape.now (told device.old).tells }) }
     ensures err { OnErr result (told device.new ≡ told device.old) }
 {
     match device.fit(shape) {
@@ -91,7 +92,8 @@ fn fit_first(
     ensures taken { OnOk result (devices.new.items ≡ drop 1 devices.old.items) }
     ensures kept { OnErr result (map (λ b. told b) devices.new.items ≡ map (λ b. told b) devices.old.items) }
     ensures fitted { IfOk result (λ d. (told d).shape ≡ Some (memory_shape memory.now)) }
-    ensures tells { IfOk result (λ d. (b : _) (rest : _) → devices.old.items ≡ b ∷ rest → (told d).tells ≡ after_fit (memory_shape memory.now) (told b).tells) }
+    ensures tells { IfOk result (λ d. (b : _) (rest : _) → devices.old.items ≡ b ∷ rest
+        → (told d).tells ≡ after_fit (memory_shape memory.now) (told b).tells) }
 {
     let shape = shape_of(memory);
     fit_box(&mut devices[0], &shape)?;
@@ -111,7 +113,7 @@ fn plant_box(device: &mut Box<dyn Device>, memory: &Memory, planted: &Option<Pla
 
 /// Fits the first box with the memory's shape and takes it out of the list, planted with the instance, if there is one, and then filled with
 /// zeros. Want of memory leaves the list as it was.
-pub fn take_first(
+pub fn take_fitted(
     devices: &mut Vec<Box<dyn Device>>,
     memory: &Memory,
     planted: &Option<Planted>,
@@ -122,7 +124,8 @@ pub fn take_first(
     ensures taken { OnOk result (devices.new.items ≡ drop 1 devices.old.items) }
     ensures kept { OnErr result (map (λ b. told b) devices.new.items ≡ map (λ b. told b) devices.old.items) }
     ensures fitted { IfOk result (λ d. (told d).shape ≡ Some (memory_shape memory.now)) }
-    ensures tells { IfOk result (λ d. (b : _) (rest : _) → devices.old.items ≡ b ∷ rest → (told d).tells ≡ ready memory.now planted.now (told b).tells) }
+    ensures tells { IfOk result (λ d. (b : _) (rest : _) → devices.old.items ≡ b ∷ rest
+        → (told d).tells ≡ ready memory.now planted.now (told b).tells) }
 {
     let mut device = fit_first(devices, memory)?;
     plant_box(&mut device, memory, planted);

@@ -14,16 +14,24 @@ ghost use Rattle.bist_app.specs.Forms.{HasForm};
 ghost use Rattle.bist_app.specs.Check.{at_text, check_line, check_done, ChecksRun, DecidesRun, DecidesCheck, check_form};
 
 use bist_bits::NoMemory;
-use bist_endings::{Plan, Refusal, VerilogRefusal, put_number};
+use bist_endings::{Effects, Refusal, VerilogRefusal, put_number};
 use bist_host::Host;
-use bist_inputs::{Style, read_design_input, read_march_input, read_memory_input};
+use bist_inputs::{read_design_input, read_march_input, read_memory_input};
 use bist_text::{put, put_number_between};
 use march_core::March;
 use memory_desc::Memory;
 use port_check::{CheckFault, PortAnswer, check_run};
 use std::alloc::Global;
 use verilog_cycle::Design;
+use verilog_read::Style;
 use verilog_tree::Name;
+
+// The places of the words.
+const MODULE: usize = 1;
+
+const MARCH: usize = 2;
+
+const MEMORY: usize = 3;
 
 /// Appends a text, a cycle and a port.
 fn put_place(line: &mut Vec<u8>, text: &[u8], cycle: u64, port: &Name) -> Result<(), NoMemory>
@@ -62,7 +70,8 @@ fn answer_line(alloc: Global, answer: &PortAnswer) -> Result<Vec<u8>, NoMemory>
 
 /// Why nothing was run, as a refusal of the command.
 fn run_refusal(fault: CheckFault) -> Refusal
-    ensures answer { (mo : ModuleTree) (march : List MarchElement) (d : Description) → Refuses march d mo.ports (Some fault) → ChecksRun mo march d (Err result) }
+    ensures answer { (mo : ModuleTree) (march : List MarchElement) (d : Description)
+        → Refuses march d mo.ports (Some fault) → ChecksRun mo march d (Err result) }
     ensures own { IsOwnRefusal result }
 {
     match fault {
@@ -73,12 +82,12 @@ fn run_refusal(fault: CheckFault) -> Refusal
 }
 
 /// The plan of an answer, or want of memory.
-fn plan_answer(alloc: Global, answer: &PortAnswer) -> Result<Plan, Refusal>
+fn plan_answer(alloc: Global, answer: &PortAnswer) -> Result<Effects, Refusal>
     ensures done { IfOk result (λ plan. done_of plan ≡ check_done answer.now) }
     ensures wants { IfErr result (λ refusal. refusal ≡ Refusal.NoMemory) }
 {
     let line = answer_line(alloc, answer)?;
-    Ok(Plan {
+    Ok(Effects {
         found: !matches!(answer, PortAnswer::Conforms { .. }),
         outputs: Vec::new(alloc),
         line,
@@ -91,7 +100,7 @@ fn check_design(
     design: &Design,
     march: &March,
     memory: &Memory,
-) -> Result<Plan, Refusal>
+) -> Result<Effects, Refusal>
     ensures own { IfErr result IsOwnRefusal }
     ensures answer { ChecksRun design.now.tree march.now memory.now (plain result) }
     ensures outputs { IfOk result (λ plan. (done_of plan).outputs ≡ []) }
@@ -108,27 +117,31 @@ fn decide_run<H: Host>(
     words: &[&str],
     host: &mut H,
     design: &Design,
-) -> Result<Plan, Refusal>
+) -> Result<Effects, Refusal>
     requires { HasForm check_form words.now }
     ensures kept { OnlyReads (H.state host.old) (H.state host.new) }
     ensures outputs { IfOk result (λ plan. NamesWords words.now (done_of plan).outputs) }
     ensures answer { DecidesRun (H.state host.old).files words.now design.now.tree (plain result) }
     ensures cause { HasCause (H.state host.old) (H.state host.new) result }
 {
-    let march = read_march_input(host, words, 2)?;
-    let memory = read_memory_input(host, words, 3)?;
+    let march = read_march_input(host, words, MARCH)?;
+    let memory = read_memory_input(host, words, MEMORY)?;
     check_design(alloc, design, &march, &memory)
 }
 
 /// Checks whether the module of a file, which may be any with the ports of a self-test, issues the commands of the march.
-pub fn decide_check<H: Host>(alloc: Global, words: &[&str], host: &mut H) -> Result<Plan, Refusal>
+pub fn decide_check<H: Host>(
+    alloc: Global,
+    words: &[&str],
+    host: &mut H,
+) -> Result<Effects, Refusal>
     requires { HasForm check_form words.now }
     ensures kept { OnlyReads (H.state host.old) (H.state host.new) }
     ensures outputs { IfOk result (λ plan. NamesWords words.now (done_of plan).outputs) }
     ensures answer { DecidesCheck (H.state host.old).files words.now (plain result) }
     ensures cause { HasCause (H.state host.old) (H.state host.new) result }
 {
-    let design = read_design_input(alloc, host, words, 1, Style::ByPrecedence)?;
+    let design = read_design_input(alloc, host, words, MODULE, Style::ByPrecedence)?;
     let plan = decide_run(alloc, words, host, &design);
     drop(design);
     plan

@@ -16,13 +16,13 @@ ghost use Rattle.bist_app.specs.inner.ChipParts.{IsReady, PutSelfTests, CanStart
 use crate::parts::one_output;
 use crate::units::{UnitTable, no_units, read_units};
 use bist_bits::NoMemory;
-use bist_endings::{ChipRefusal, Output, Plan, Refusal, put_number};
+use bist_endings::{ChipRefusal, Effects, Output, Refusal, put_number};
 use bist_host::Host;
 use bist_inputs::read_chip_input;
 use bist_text::{put, put_number_between};
 use chip_desc::ChipDesc;
 use chip_plan::{end_of, first_fit, last_group};
-use chip_rtl::end_chip;
+use chip_rtl::append_top;
 use march_core::March;
 use memory_desc::Memory;
 use rtl_gen::generate;
@@ -30,6 +30,8 @@ use self_test::module_of;
 use std::alloc::Global;
 use verilog_emit::emit;
 
+// The places of the words.
+const CHIP: usize = 1;
 /// The word that names the file of the chip's modules.
 const VERILOG: usize = 2;
 
@@ -84,17 +86,19 @@ fn chip_file(
     table: &UnitTable,
 ) -> Result<Vec<Output>, NoMemory>
     requires { (us : List TestUnit) × IsReady chip.now table.now us × FirstFit chip.now.budget [] (weights us) groups.now }
-    ensures { IfOk result (λ outputs. (text : List ℕ) × MakesFile chip.now table.now groups.now text × (map written_of outputs.items ≡ (record { position = 2; bytes = text }) ∷ [])) }
+    ensures { IfOk result (λ outputs. (text : List ℕ) × MakesFile chip.now table.now groups.now text
+        × (map written_of outputs.items ≡ (record { position = 2; bytes = text }) ∷ [])) }
 {
     let mut text = self_tests(alloc, table)?;
-    end_chip(&mut text, alloc, chip.name(), groups, &table.memories)?;
+    append_top(&mut text, alloc, chip.name(), groups, &table.memories)?;
     one_output(alloc, VERILOG, text)
 }
 
 /// Appends the line of a chip.
 fn put_chip_line(line: &mut Vec<u8>, groups: &[u8], lengths: &[u64]) -> Result<(), NoMemory>
     requires { CanStart groups.now lengths.now }
-    ensures { OnOk result (line.new.items ≡ line.old.items ++ chip_line (length groups.now) (suc (last_group groups.now)) (end_of groups.now lengths.now)) }
+    ensures { OnOk result (line.new.items ≡ line.old.items
+        ++ chip_line (length groups.now) (suc (last_group groups.now)) (end_of groups.now lengths.now)) }
 {
     put_number(line, b"chip units ", groups.len())?;
     put_number(line, b" groups ", last_group(groups) as usize + 1)?;
@@ -103,7 +107,7 @@ fn put_chip_line(line: &mut Vec<u8>, groups: &[u8], lengths: &[u64]) -> Result<(
 
 /// The file and the line of a chip.
 #[tactic(auto, unfolding(crate::specs::Chip::LeavesChip))]
-fn plan_chip(alloc: Global, chip: &ChipDesc, table: &UnitTable) -> Result<Plan, Refusal>
+fn plan_chip(alloc: Global, chip: &ChipDesc, table: &UnitTable) -> Result<Effects, Refusal>
     requires { (us : List TestUnit) × IsReady chip.now table.now us }
     ensures answer { (us : List TestUnit) → IsReady chip.now table.now us → LeavesChip chip.now.name us chip.now.budget (plain result) }
     ensures own { IfErr result IsOwnRefusal }
@@ -112,7 +116,7 @@ fn plan_chip(alloc: Global, chip: &ChipDesc, table: &UnitTable) -> Result<Plan, 
     let mut line = Vec::new(alloc);
     put_chip_line(&mut line, &groups, &table.lengths)?;
     let outputs = chip_file(alloc, chip, &groups, table)?;
-    Ok(Plan {
+    Ok(Effects {
         found: false,
         outputs,
         line,
@@ -120,7 +124,7 @@ fn plan_chip(alloc: Global, chip: &ChipDesc, table: &UnitTable) -> Result<Plan, 
 }
 
 /// Reads the units of a chip, and tests them, where each has a name of its own.
-fn test_chip<H: Host>(alloc: Global, host: &mut H, chip: &ChipDesc) -> Result<Plan, Refusal>
+fn test_chip<H: Host>(alloc: Global, host: &mut H, chip: &ChipDesc) -> Result<Effects, Refusal>
     ensures kept { OnlyReads (H.state host.old) (H.state host.new) }
     ensures answer { TestsUnits (H.state host.old).files chip.now (plain result) }
     ensures cause { HasCause (H.state host.old) (H.state host.new) result }
@@ -132,13 +136,13 @@ fn test_chip<H: Host>(alloc: Global, host: &mut H, chip: &ChipDesc) -> Result<Pl
 }
 
 /// Tests the memories of a chip, each by its march, within the chip's budget.
-pub fn decide_chip<H: Host>(alloc: Global, words: &[&str], host: &mut H) -> Result<Plan, Refusal>
+pub fn decide_chip<H: Host>(alloc: Global, words: &[&str], host: &mut H) -> Result<Effects, Refusal>
     requires { HasForm chip_form words.now }
     ensures kept { OnlyReads (H.state host.old) (H.state host.new) }
     ensures outputs { IfOk result (λ plan. NamesWords words.now (done_of plan).outputs) }
     ensures answer { DecidesChip (H.state host.old).files words.now (plain result) }
     ensures cause { HasCause (H.state host.old) (H.state host.new) result }
 {
-    let chip = read_chip_input(host, words, 1)?;
+    let chip = read_chip_input(host, words, CHIP)?;
     test_chip(alloc, host, &chip)
 }

@@ -21,9 +21,10 @@ use crate::inword_command::decide_in_word;
 use crate::judge::decide_judge;
 use crate::linked_command::decide_linked;
 use crate::make::decide_make;
+use crate::show_command::decide_show;
 use crate::sim::decide_sim;
 use crate::vectors::decide_vectors;
-use bist_endings::{Plan, Refusal};
+use bist_endings::{Effects, Refusal};
 use bist_host::Host;
 use std::alloc::Global;
 use word_device::Device;
@@ -45,6 +46,7 @@ pub enum Command {
     BenchAll,
     Check,
     Chip,
+    Show,
 }
 
 /// The command of a name.
@@ -66,6 +68,7 @@ fn command_named(name: &str) -> Option<Command>
         "benchall" => Some(Command::BenchAll),
         "check" => Some(Command::Check),
         "chip" => Some(Command::Chip),
+        "show" => Some(Command::Show),
         _ => None,
     }
 }
@@ -89,6 +92,7 @@ fn is_formed(words: &[&str], command: Command) -> bool
         Command::BenchAll => has_form(words, "benchall", 3, 1, 3),
         Command::Check => has_form(words, "check", 4, 1, 4),
         Command::Chip => has_form(words, "chip", 3, 1, 3),
+        Command::Show => has_form(words, "show", 3, 2, 3),
     }
 }
 
@@ -112,10 +116,11 @@ pub fn decide<H: Host>(
     words: &[&str],
     host: &mut H,
     devices: &mut Vec<Box<dyn Device>>,
-) -> Result<Plan, Refusal>
+) -> Result<Effects, Refusal>
     ensures kept { OnlyReads (H.state host.old) (H.state host.new) }
     ensures outputs { IfOk result (λ plan. NamesWords words.now (done_of plan).outputs) }
-    ensures answer { Decides (H.state host.old).files (map (λ b. told b) devices.old.items) (map (λ b. told b) devices.new.items) words.now (plain result) }
+    ensures answer { Decides (H.state host.old).files (map (λ b. told b) devices.old.items)
+        (map (λ b. told b) devices.new.items) words.now (plain result) }
     ensures cause { HasCause (H.state host.old) (H.state host.new) result }
     ensures make { word words.now 0 ≡ codes "make" → (H.state host.new).read_faults ≡ (H.state host.old).read_faults }
 {
@@ -135,5 +140,6 @@ pub fn decide<H: Host>(
         Some(Command::BenchAll) => decide_bench_all(alloc, words, host, devices),
         Some(Command::Check) => decide_check(alloc, words, host),
         Some(Command::Chip) => decide_chip(alloc, words, host),
+        Some(Command::Show) => decide_show(alloc, words, host),
     }
 }

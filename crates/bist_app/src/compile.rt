@@ -13,7 +13,7 @@ ghost use Rattle.bist_app.specs.Compile.{IsSelfTestText, LeavesCompile, DecidesC
 use crate::parts::listed;
 use crate::reporting::report_list;
 use bist_bits::NoMemory;
-use bist_endings::{Output, Plan, Refusal};
+use bist_endings::{Effects, Output, Refusal};
 use bist_host::Host;
 use bist_inputs::{read_list_input, read_march_input, read_memory_input};
 use dynamic_core::Item;
@@ -23,6 +23,12 @@ use rtl_gen::generate;
 use std::alloc::Global;
 use verilog_emit::emit;
 
+// The places of the words.
+const MARCH: usize = 1;
+
+const MEMORY: usize = 2;
+
+const FAULTS: usize = 3;
 /// The word that names the module's file.
 const VERILOG: usize = 4;
 
@@ -44,7 +50,7 @@ fn plan_compile(
     march: &March,
     memory: &Memory,
     items: &[Item],
-) -> Result<Plan, Refusal>
+) -> Result<Effects, Refusal>
     ensures own { IfErr result IsOwnRefusal }
     ensures answer { LeavesCompile march.now memory.now items.now (plain result) }
 {
@@ -59,7 +65,7 @@ fn plan_compile(
         bytes: reported.bytes,
     };
     let outputs = listed(alloc, [module, report])?;
-    Ok(Plan {
+    Ok(Effects {
         found: reported.found,
         outputs,
         line: reported.line,
@@ -68,15 +74,19 @@ fn plan_compile(
 
 /// Compiles a self-test and judges the items of a list.
 #[tactic(auto, unfolding(crate::specs::Compile::LeavesCompile))]
-pub fn decide_compile<H: Host>(alloc: Global, words: &[&str], host: &mut H) -> Result<Plan, Refusal>
+pub fn decide_compile<H: Host>(
+    alloc: Global,
+    words: &[&str],
+    host: &mut H,
+) -> Result<Effects, Refusal>
     requires { HasForm compile_form words.now }
     ensures kept { OnlyReads (H.state host.old) (H.state host.new) }
     ensures outputs { IfOk result (λ plan. NamesWords words.now (done_of plan).outputs) }
     ensures answer { DecidesCompile (H.state host.old).files words.now (plain result) }
     ensures cause { HasCause (H.state host.old) (H.state host.new) result }
 {
-    let march = read_march_input(host, words, 1)?;
-    let memory = read_memory_input(host, words, 2)?;
-    let items = read_list_input(alloc, host, words, 3)?;
+    let march = read_march_input(host, words, MARCH)?;
+    let memory = read_memory_input(host, words, MEMORY)?;
+    let items = read_list_input(alloc, host, words, FAULTS)?;
     plan_compile(alloc, &march, &memory, &items)
 }

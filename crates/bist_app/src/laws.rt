@@ -17,7 +17,9 @@ ghost use Rattle.word_march.specs.Commands.{cycle_count};
 /// The module that the generator makes of a march and a memory conforms: the check of it has this answer and no other. (It is the layout of a
 /// plan, by the clause `layout` of `generate`, and a self-test of them, by its clause `self_test`.)
 pub fn generated_modules_conform()
-    ensures { (march : List MarchElement) (d : Description) (p : Plan) → IsPlan p → SelfTest (L.self_test p) march d → IsAnswer (L.self_test p) march d (Conforms (cycle_count march d)) × ((answer : PortAnswer) → IsAnswer (L.self_test p) march d answer → answer ≡ Conforms (cycle_count march d)) }
+    ensures { (march : List MarchElement) (d : Description) (p : Plan) → IsPlan p → SelfTest (L.self_test p) march d
+        → IsAnswer (L.self_test p) march d (Conforms (cycle_count march d))
+        × ((answer : PortAnswer) → IsAnswer (L.self_test p) march d answer → answer ≡ Conforms (cycle_count march d)) }
 {}
 
 /// The bytes that are written of it, read with operators that bind by precedence, are that module and no other. (They are the layout of its

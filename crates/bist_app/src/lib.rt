@@ -36,6 +36,8 @@ mod make;
 mod parts;
 mod reporting;
 mod shared;
+mod show_command;
+mod shown_texts;
 mod sim;
 mod top;
 mod units;

@@ -9,26 +9,28 @@ ghost use Rattle.bist_app.specs.Forms.{HasForm};
 ghost use Rattle.bist_app.specs.Linked.{IsLinkedDone, LeavesLinked, DecidesLinked, linked_form};
 
 use crate::parts::one_output;
-use bist_endings::{Plan, Refusal};
+use bist_endings::{Effects, Refusal};
 use bist_host::Host;
 use bist_inputs::read_march_input;
 use linked_report::report_links;
 use march_core::March;
 use std::alloc::Global;
 
+// The places of the words.
+const MARCH: usize = 1;
 /// The word that names the report's file.
 const REPORT: usize = 2;
 
 /// The report as a plan.
 #[tactic(auto, unfolding(crate::specs::Linked::LeavesLinked))]
-fn plan_linked(alloc: Global, march: &March) -> Result<Plan, Refusal>
+fn plan_linked(alloc: Global, march: &March) -> Result<Effects, Refusal>
     ensures own { IfErr result IsOwnRefusal }
     ensures answer { LeavesLinked march.now (plain result) }
     ensures outputs { IfOk result (λ plan. IsLinkedDone march.now (done_of plan)) }
 {
     let reported = report_links(alloc, march)?;
     let outputs = one_output(alloc, REPORT, reported.bytes)?;
-    Ok(Plan {
+    Ok(Effects {
         found: reported.escapes,
         outputs,
         line: reported.line,
@@ -36,13 +38,17 @@ fn plan_linked(alloc: Global, march: &March) -> Result<Plan, Refusal>
 }
 
 /// Judges a march on the linked faults.
-pub fn decide_linked<H: Host>(alloc: Global, words: &[&str], host: &mut H) -> Result<Plan, Refusal>
+pub fn decide_linked<H: Host>(
+    alloc: Global,
+    words: &[&str],
+    host: &mut H,
+) -> Result<Effects, Refusal>
     requires { HasForm linked_form words.now }
     ensures kept { OnlyReads (H.state host.old) (H.state host.new) }
     ensures outputs { IfOk result (λ plan. NamesWords words.now (done_of plan).outputs) }
     ensures answer { DecidesLinked (H.state host.old).files words.now (plain result) }
     ensures cause { HasCause (H.state host.old) (H.state host.new) result }
 {
-    let march = read_march_input(host, words, 1)?;
+    let march = read_march_input(host, words, MARCH)?;
     plan_linked(alloc, &march)
 }

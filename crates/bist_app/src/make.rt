@@ -15,13 +15,26 @@ use crate::compile::module_text;
 use crate::parts::listed;
 use crate::reporting::report_list;
 use bist_bits::NoMemory;
-use bist_endings::{Output, Plan, Refusal, number_of, put_number};
+use bist_endings::{Effects, Output, Refusal, number_of, put_number};
 use bist_text::put_number_between;
 use dynamic_core::Item;
 use made_inputs::{items_of_list, list_text, march_of, march_text, memory_of};
 use march_core::March;
 use memory_desc::{Memory, print_memory};
 use std::alloc::Global;
+
+// The places of the words.
+const NUMBER: usize = 1;
+
+const MARCH: usize = 2;
+
+const MEMORY: usize = 3;
+
+const FAULTS: usize = 4;
+
+const VERILOG: usize = 5;
+
+const REPORT: usize = 6;
 
 /// The greatest number: a memory has at most 65,536 words, which is two more.
 const MOST: usize = 65_534;
@@ -32,7 +45,7 @@ fn own_words(words: &[&str]) -> Result<u16, Refusal>
     ensures answer { SaysOwn (IsMakeShape words.now) result }
     ensures own { IfErr result IsOwnRefusal }
 {
-    match number_of(words[1]) {
+    match number_of(words[NUMBER]) {
         Some(number) if number <= MOST => Ok(number as u16),
         _ => Err(Refusal::Usage),
     }
@@ -46,7 +59,9 @@ fn summary(
     covered: usize,
     count: usize,
 ) -> Result<Vec<u8>, NoMemory>
-    ensures { IfOk result (λ line. line.items ≡ made_line (length march.now) (length (all_ops march.now)) (command_count march.now memory.now) covered count) }
+    ensures { IfOk result (λ line. line.items
+        ≡ made_line (length march.now) (length (all_ops march.now))
+        (command_count march.now memory.now) covered count) }
 {
     let commands = word_march::length(march, memory);
     let mut line = Vec::new(alloc);
@@ -67,27 +82,28 @@ fn outputs_of(
     verilog: Vec<u8>,
     report: Vec<u8>,
 ) -> Result<Vec<Output>, NoMemory>
-    ensures { IfOk result (λ outputs. map written_of outputs.items ≡ made_outputs march.items memory.items list.items verilog.items report.items) }
+    ensures { IfOk result (λ outputs. map written_of outputs.items
+        ≡ made_outputs march.items memory.items list.items verilog.items report.items) }
 {
     let outputs = [
         Output {
-            position: 2,
+            position: MARCH,
             bytes: march,
         },
         Output {
-            position: 3,
+            position: MEMORY,
             bytes: memory,
         },
         Output {
-            position: 4,
+            position: FAULTS,
             bytes: list,
         },
         Output {
-            position: 5,
+            position: VERILOG,
             bytes: verilog,
         },
         Output {
-            position: 6,
+            position: REPORT,
             bytes: report,
         },
     ];
@@ -101,12 +117,12 @@ fn made_of(
     memory: &Memory,
     items: &[Item],
     listed: Vec<u8>,
-) -> Result<Plan, NoMemory>
+) -> Result<Effects, NoMemory>
     requires { ReadsItems listed.items (Ok items.now) }
     ensures { IfOk result (λ plan. IsMadeOf march.now memory.now items.now listed.items (done_of plan)) }
 {
     let march_bytes = march_text(alloc, march)?;
-    let _ = memory.words();
+    memory.known();
     let memory_bytes = print_memory(alloc, memory)?;
     let verilog = module_text(alloc, march, memory)?;
     let reported = report_list(alloc, march, Some(memory), items)?;
@@ -119,7 +135,7 @@ fn made_of(
         verilog,
         reported.bytes,
     )?;
-    Ok(Plan {
+    Ok(Effects {
         found: reported.found,
         outputs,
         line,
@@ -127,7 +143,7 @@ fn made_of(
 }
 
 /// What a number makes.
-fn made(alloc: Global, number: u16) -> Result<Plan, NoMemory>
+fn made(alloc: Global, number: u16) -> Result<Effects, NoMemory>
     requires { number ≤ 65534 }
     ensures { IfOk result (λ plan. IsMade number (done_of plan)) }
 {
@@ -140,7 +156,7 @@ fn made(alloc: Global, number: u16) -> Result<Plan, NoMemory>
 
 /// Makes the inputs of the number that the words say, and compiles them.
 #[tactic(auto, unfolding(crate::specs::Make::LeavesMake))]
-pub fn decide_make(alloc: Global, words: &[&str]) -> Result<Plan, Refusal>
+pub fn decide_make(alloc: Global, words: &[&str]) -> Result<Effects, Refusal>
     requires { HasForm make_form words.now }
     ensures own { IfErr result IsOwnRefusal }
     ensures answer { DecidesMake words.now (plain result) }

@@ -15,13 +15,28 @@ ghost use Rattle.bist_app.specs.Forms.{HasForm};
 use crate::directions::{direction_word, fit_directions};
 use array_sim::{Instance, simulate};
 use bist_bits::NoMemory;
-use bist_endings::{Misfit, Plan, Refusal, number_of, put_number};
+use bist_endings::{Effects, Misfit, Refusal, number_of, put_number};
 use bist_host::Host;
 use bist_inputs::{give_prim, read_march_input};
 use bist_text::{put, put_number_between};
 use fault_core::{Places, Prim};
 use march_core::{March, Miss};
 use std::alloc::{AllocError, Global};
+
+// The places of the words.
+const MARCH: usize = 1;
+
+const FAULT: usize = 2;
+
+const SIZE: usize = 3;
+
+const CONTENT: usize = 4;
+
+const AGGRESSOR: usize = 5;
+
+const VICTIM: usize = 6;
+
+const DIRECTIONS: usize = 7;
 
 /// What the words of `sim` say beside their texts.
 #[derive(Clone, Copy)]
@@ -36,11 +51,11 @@ fn sim_shape(words: &[&str]) -> Option<SimShape>
     requires { HasForm sim_form words.now }
     ensures { MatchOption result ((shape : SimShape) → IsSimShape words.now shape → ⊥) (λ shape. IsSimShape words.now shape) }
 {
-    let content = words[4];
-    let letters = words[7];
-    let size = number_of(words[3])?;
-    let victim = number_of(words[6])?;
-    let aggressor = aggressor_of(words[5], size, victim)?;
+    let content = words[CONTENT];
+    let letters = words[DIRECTIONS];
+    let size = number_of(words[SIZE])?;
+    let victim = number_of(words[VICTIM])?;
+    let aggressor = aggressor_of(words[AGGRESSOR], size, victim)?;
     if size < 2
         || size > 4096
         || victim >= size
@@ -61,7 +76,8 @@ fn sim_shape(words: &[&str]) -> Option<SimShape>
 
 /// The aggressor's cell that a word names, or none.
 fn aggressor_of(word: &str, size: usize, victim: usize) -> Option<Option<usize>>
-    ensures { MatchOption result ((cell : Option ℕ) → IsAggressorWord word.now size victim cell → ⊥) (λ cell. IsAggressorWord word.now size victim cell) }
+    ensures { MatchOption result ((cell : Option ℕ) → IsAggressorWord word.now size victim cell → ⊥)
+        (λ cell. IsAggressorWord word.now size victim cell) }
 {
     if word == "none" {
         return Some(None);
@@ -129,7 +145,7 @@ fn plan_sim(
     places: Places,
     digits: &[u8],
     letters: &[u8],
-) -> Result<Plan, Refusal>
+) -> Result<Effects, Refusal>
     requires places { FitsPlace prim.now places (length digits.now) }
     requires least { 1 ≤ length letters.now }
     requires most { length letters.now ≤ 64 }
@@ -153,7 +169,7 @@ fn plan_sim(
         direction_word(letters),
     );
     let line = line_of(alloc, miss)?;
-    Ok(Plan {
+    Ok(Effects {
         found: miss.is_some(),
         outputs: Vec::new(alloc),
         line,
@@ -161,7 +177,7 @@ fn plan_sim(
 }
 
 /// Runs one array.
-pub fn decide_sim<H: Host>(alloc: Global, words: &[&str], host: &mut H) -> Result<Plan, Refusal>
+pub fn decide_sim<H: Host>(alloc: Global, words: &[&str], host: &mut H) -> Result<Effects, Refusal>
     requires { HasForm sim_form words.now }
     ensures kept { OnlyReads (H.state host.old) (H.state host.new) }
     ensures outputs { IfOk result (λ plan. NamesWords words.now (done_of plan).outputs) }
@@ -171,10 +187,10 @@ pub fn decide_sim<H: Host>(alloc: Global, words: &[&str], host: &mut H) -> Resul
     let Some(shape) = sim_shape(words) else {
         return Err(Refusal::Usage);
     };
-    let march = read_march_input(host, words, 1)?;
-    let prim = give_prim(words[2].as_bytes())?;
+    let march = read_march_input(host, words, MARCH)?;
+    let prim = give_prim(words[FAULT].as_bytes())?;
     fit_aggressor(shape.aggressor.is_some(), &prim)?;
-    fit_directions(words[7].as_bytes(), &march)?;
+    fit_directions(words[DIRECTIONS].as_bytes(), &march)?;
     let places = Places {
         agg: shape.aggressor,
         vic: shape.victim,
@@ -184,7 +200,7 @@ pub fn decide_sim<H: Host>(alloc: Global, words: &[&str], host: &mut H) -> Resul
         &march,
         &prim,
         places,
-        words[4].as_bytes(),
-        words[7].as_bytes(),
+        words[CONTENT].as_bytes(),
+        words[DIRECTIONS].as_bytes(),
     )
 }

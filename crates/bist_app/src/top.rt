@@ -23,7 +23,8 @@ fn decide_and_end<H: Host>(
     ensures reads { (H.state host.old).read_faults ≤ (H.state host.new).read_faults }
     ensures make { word words.now 0 ≡ codes "make" → (H.state host.new).read_faults ≡ (H.state host.old).read_faults }
     ensures writes { (H.state host.old).write_faults ≤ (H.state host.new).write_faults }
-    ensures answer { Runs words.now (map (λ b. told b) devices.old.items) (map (λ b. told b) devices.new.items) (H.state host.old) (H.state host.new) result.status }
+    ensures answer { Runs words.now (map (λ b. told b) devices.old.items) (map (λ b. told b) devices.new.items)
+        (H.state host.old) (H.state host.new) result.status }
 {
     let outcome = decide(alloc, words, host, devices);
     conclude(alloc, words, host, outcome)
@@ -39,8 +40,10 @@ pub fn run<H: Host>(
     ensures reads { (H.state host.old).read_faults ≤ (H.state host.new).read_faults }
     ensures make { word words.now 0 ≡ codes "make" → (H.state host.new).read_faults ≡ (H.state host.old).read_faults }
     ensures writes { (H.state host.old).write_faults ≤ (H.state host.new).write_faults }
-    ensures answer { Runs words.now (map (λ b. told b) devices.old.items) (map (λ b. told b) devices.new.items) (H.state host.old) (H.state host.new) result.status }
-    ensures complete { IsComplete words.now (map (λ b. told b) devices.old.items) (map (λ b. told b) devices.new.items) (H.state host.old) (H.state host.new) result.status }
+    ensures answer { Runs words.now (map (λ b. told b) devices.old.items) (map (λ b. told b) devices.new.items)
+        (H.state host.old) (H.state host.new) result.status }
+    ensures complete { IsComplete words.now (map (λ b. told b) devices.old.items) (map (λ b. told b) devices.new.items)
+        (H.state host.old) (H.state host.new) result.status }
 
     // What `compile` leaves where it ends with 0 or 1.
     ensures compilation { LeavesCompilation words.now (H.state host.old) (H.state host.new) result.status }
@@ -59,7 +62,8 @@ pub fn run<H: Host>(
     ensures no_shape { HasNoShape words.now → (result.status ≡ 2) ⊎ (result.status ≡ 9) }
     ensures read_fault { result.status ≡ 7 → ReadsRose (H.state host.old) (H.state host.new) }
     ensures write_fault { result.status ≡ 8 → WritesRose (H.state host.old) (H.state host.new) }
-    ensures not_told { (H.state host.old).files ≡ None → (result.status ≡ 6) ⊎ (result.status ≡ 10) → ReadsRose (H.state host.old) (H.state host.new) }
+    ensures not_told { (H.state host.old).files ≡ None → (result.status ≡ 6) ⊎ (result.status ≡ 10)
+        → ReadsRose (H.state host.old) (H.state host.new) }
 {
     decide_and_end(alloc, words, host, devices)
 }

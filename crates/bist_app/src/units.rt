@@ -46,7 +46,8 @@ fn push_unit(
     weight: u32,
 ) -> Result<(), AllocError>
     requires { HasRoom table.old }
-    ensures { OnOk result ((us : List TestUnit) → IsTableOf table.old us → IsTableOf table.new (us ++ (record { march = march; memory = memory; weight = weight }) ∷ [])) }
+    ensures { OnOk result ((us : List TestUnit) → IsTableOf table.old us
+        → IsTableOf table.new (us ++ (record { march = march; memory = memory; weight = weight }) ∷ [])) }
 {
     let length = span(&march, &memory) + 1 + u64::from(memory.latency());
     table.marches.push(march)?;

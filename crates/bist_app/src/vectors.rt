@@ -12,7 +12,7 @@ ghost use Rattle.bist_app.specs.Vectors.{command_line, command_lines, vectors_do
 use crate::parts::one_output;
 use crate::shared::fit_length;
 use bist_bits::NoMemory;
-use bist_endings::{Plan, Refusal, numbered};
+use bist_endings::{Effects, Refusal, numbered};
 use bist_host::Host;
 use bist_inputs::{read_march_input, read_memory_input};
 use bist_text::{put, put_number_between, put_word};
@@ -21,6 +21,10 @@ use memory_desc::Memory;
 use std::alloc::Global;
 use word_march::{PortOp, port_ops};
 
+// The places of the words.
+const MARCH: usize = 1;
+
+const MEMORY: usize = 2;
 /// The word that names the file of the commands.
 const OUT: usize = 3;
 
@@ -50,7 +54,7 @@ fn put_commands(alloc: Global, march: &March, memory: &Memory) -> Result<Vec<u8>
 
 /// The commands as a plan.
 #[tactic(auto, unfolding(crate::specs::Vectors::LeavesVectors))]
-fn plan_vectors(alloc: Global, march: &March, memory: &Memory) -> Result<Plan, Refusal>
+fn plan_vectors(alloc: Global, march: &March, memory: &Memory) -> Result<Effects, Refusal>
     ensures own { IfErr result IsOwnRefusal }
     ensures answer { LeavesVectors march.now memory.now (plain result) }
     ensures outputs { IfOk result (λ plan. done_of plan ≡ vectors_done march.now memory.now) }
@@ -59,7 +63,7 @@ fn plan_vectors(alloc: Global, march: &March, memory: &Memory) -> Result<Plan, R
     let count = word_march::length(march, memory) as usize;
     let line = numbered(alloc, b"vectors ", count)?;
     let outputs = one_output(alloc, OUT, text)?;
-    Ok(Plan {
+    Ok(Effects {
         found: false,
         outputs,
         line,
@@ -67,15 +71,19 @@ fn plan_vectors(alloc: Global, march: &March, memory: &Memory) -> Result<Plan, R
 }
 
 /// Lists the commands of a march on a memory.
-pub fn decide_vectors<H: Host>(alloc: Global, words: &[&str], host: &mut H) -> Result<Plan, Refusal>
+pub fn decide_vectors<H: Host>(
+    alloc: Global,
+    words: &[&str],
+    host: &mut H,
+) -> Result<Effects, Refusal>
     requires { HasForm vectors_form words.now }
     ensures kept { OnlyReads (H.state host.old) (H.state host.new) }
     ensures outputs { IfOk result (λ plan. NamesWords words.now (done_of plan).outputs) }
     ensures answer { DecidesVectors (H.state host.old).files words.now (plain result) }
     ensures cause { HasCause (H.state host.old) (H.state host.new) result }
 {
-    let march = read_march_input(host, words, 1)?;
-    let memory = read_memory_input(host, words, 2)?;
+    let march = read_march_input(host, words, MARCH)?;
+    let memory = read_memory_input(host, words, MEMORY)?;
     fit_length(&march, &memory)?;
     plan_vectors(alloc, &march, &memory)
 }

@@ -11,7 +11,8 @@
 //! - `fails NUMBER ..`: these calls of the host fail.
 //! - `> COMMAND`: the command of the lines below.
 //! - `STATUS SAID`: it runs over a new host with these files, ends so, and says this line; nothing where none is given.
-//!   `STATUS+LEFT` where boxes are left. Where it is refused, each file that it names is as before.
+//!   `STATUS+LEFT` where boxes are left. Where it is refused, each file that it names is as before. `STATUS ..` says what
+//!   a line `said == TEXT` below it tells.
 //! - `NAME == TEXT`, `NAME begins TEXT`, `NAME ends TEXT`, `NAME half TEXT`, `NAME absent`: what stands of a file now.
 
 use crate::rows::{RowLine, Text, read_lines};
@@ -165,8 +166,11 @@ fn is_ended(stage: &Stage<'_>, ended: &str) -> bool {
         && decimal(left.as_bytes()) == u32::try_from(stage.left).ok()
 }
 
-/// Whether this line was said, or nothing where it has no bytes.
+/// Whether this line was said, or nothing where it has no bytes; `..` stands for any text.
 fn is_said(stage: &Stage<'_>, line: &str) -> bool {
+    if line == ".." {
+        return true;
+    }
     let said = stage.host.inner().said();
     match said.split_last() {
         Some((b'\n', said)) => said == line.as_bytes(),
@@ -262,6 +266,9 @@ fn heed_file<'a>(
     let text = text_of(alloc, stage, text, more)?;
     if verb == "=" {
         return set_file(stage, name, Some(text));
+    }
+    if name == "said" {
+        return stands(Some(stage.host.inner().said()), verb, &text).then_some(());
     }
     stands(held(&stage.host, name), verb, &text).then_some(())
 }

@@ -69,6 +69,8 @@ mod rows;
 #[cfg(test)]
 mod self_test_rows;
 #[cfg(test)]
+mod show_rows;
+#[cfg(test)]
 mod single_tests;
 #[cfg(test)]
 mod small_arrays;

@@ -12,7 +12,8 @@ use Rattle.bist_app.specs.Shared.{Boxes}
 use Rattle.bist_app.specs.BenchAll.{AreSeen, failing_of}
 
 -- a run of a module with these registers, beside a box that tells this at its beginning, ended so
-pub record EndsRun (mo : ModuleTree) (march : List MarchElement) (d : Description) (registers : List ℕ) (tells : Tells) (end : RunEnd) : Type 0 where
+pub record EndsRun (mo : ModuleTree) (march : List MarchElement) (d : Description) (registers : List ℕ) (tells : Tells)
+    (end : RunEnd) : Type 0 where
   pub now : List ℕ
   pub after : Tells
   pub runs : Runs mo march d registers now tells after end.fail end.done_cycle end.first

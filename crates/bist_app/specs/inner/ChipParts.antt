@@ -60,4 +60,5 @@ pub record CanStart (groups lengths : List ℕ) : Type 0 where
 
 -- in the groups of the first fit, the text is the chip's file
 abbrev pub MakesFile : ChipDescription → UnitTable → List ℕ → List ℕ → Type 0
-MakesFile chip t groups text = (us : List TestUnit) → IsReady chip t us → FirstFit chip.budget [] (weights us) groups → (file : ChipFile text chip.name us chip.budget) × AllShow file.chip.units us
+MakesFile chip t groups text = (us : List TestUnit) → IsReady chip t us → FirstFit chip.budget [] (weights us) groups
+    → (file : ChipFile text chip.name us chip.budget) × AllShow file.chip.units us

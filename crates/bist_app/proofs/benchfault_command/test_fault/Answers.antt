@@ -9,7 +9,7 @@ returns-clause-answer g c =
     let given = subst (λ b. FitsAggressor b c.args.prim.now (Ok tt)) c.is_some.ensures c.in_ok-fit_aggressor.ensures.answer in
     let some = subst (λ l. 0 < length l) c.deref.ensures.value c.in_ok-want_box.ensures.some in
     let wrong =
-    planted_wrong c.args.march.now c.args.memory.now c.planted_for-planted.result c.words.ensures.memory c.agg.ensures.primitive c.planted_for-planted.ensures.fits.0 c.closing.ensures
+    planted_wrong c.args.march.now c.args.memory.now c.planted_for-planted.result c.known.ensures c.known-2.ensures c.planted_for-planted.ensures.fits.0 c.closing.ensures
     c.planted_fails.ensures.alone in
     let leaves =
     fault_benched _ items c.args.march.now c.args.memory.now c.planted_for-planted.result c.test_beside.result some wrong

@@ -122,3 +122,12 @@ returns-in-Some-Chip g c = record {
   cause = c.decide_chip.ensures.cause;
   make = no_make _ Command.Chip tt c.in-Some-Chip.field-0-is c.in-Some-Chip.ensures;
 }
+
+pub returns-in-Some-Show : goal.returns-in-Some-Show
+returns-in-Some-Show g c = record {
+  kept = c.decide_show.ensures.kept;
+  outputs = c.decide_show.ensures.outputs;
+  answer = decided _ Command.Show c.in-Some-Show.field-0-is c.in-Some-Show.ensures (c.decide_show.ensures.answer, refl);
+  cause = c.decide_show.ensures.cause;
+  make = no_make _ Command.Show tt c.in-Some-Show.field-0-is c.in-Some-Show.ensures;
+}

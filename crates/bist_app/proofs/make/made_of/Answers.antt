@@ -9,7 +9,7 @@ pub returns : goal.returns
 returns c = record {
   march_reads = subst (λ text. ReadsMarch text (Ok c.args.march.now)) c.in_ok-march_bytes.ensures.form c.in_ok-march_bytes.ensures.read_back;
   memory_reads = subst (λ text. ReadsMemory text (Ok c.args.memory.now)) c.in_ok-memory_bytes.ensures.form c.in_ok-memory_bytes.ensures.read_back;
-  memory = c.words.ensures.memory;
+  memory = c.known.ensures;
   list_reads = c.requires;
   text = c.in_ok-verilog.verilog.items;
   tests = c.in_ok-verilog.ensures;
