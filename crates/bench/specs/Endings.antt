@@ -28,7 +28,8 @@ abbrev pub IsFirstSeen : List MarchElement → Description → (ℕ → ℕ) →
 IsFirstSeen march d returned seen = IsFirstRead march d (returned_word march d returned) seen
 
 -- what is seen of these cycles
-pub record Shows (march : List MarchElement) (d : Description) (es : List Env) (failed : Bool) (done_in : Option ℕ) (seen : Option Seen) : Type 0 where
+pub record Shows (march : List MarchElement) (d : Description) (es : List Env) (failed : Bool) (done_in : Option ℕ)
+    (seen : Option Seen) : Type 0 where
   pub fail : failed ≡ (ports_in es (span march d + 1 + d.latency)).fail
   pub done : done_in ≡ first_done 0 es
   pub first : IsFirstSeen march d (word_in es) seen

@@ -26,7 +26,12 @@ pub record Turn (mo : ModuleTree) (d : Description) (t : ℕ) (e : Env) (before 
   pub answer : ℕ
   pub answers : Answers (Some (shape_of d)) (command_on (port_values e)) before.box answer
   pub left :
-      after ≡ record { registers = next mo e; rdata = answer % 2 ^ d.bits; box = after_cycle (Some (shape_of d)) (command_on (port_values e)) before.box }
+      after ≡ record {
+        registers = next mo e;
+        rdata = answer % 2 ^ d.bits;
+        box = after_cycle (Some (shape_of d))
+            (command_on (port_values e)) before.box;
+      }
 
 -- the cycles from t on, one after another
 abbrev pub Joint : ModuleTree → Description → ℕ → List Env → Between → Between → Type 0

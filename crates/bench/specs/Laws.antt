@@ -26,7 +26,8 @@ pub record EndsFailed (march : List MarchElement) (d : Description) (failed : Bo
 
 abbrev pub PlantedFails : List MarchElement → Description → Type 0
 PlantedFails march d =
-    (mo : ModuleTree) (registers now : List ℕ) (chip : Chip) (i : Planted) (after : Tells) (failed : Bool) (done_in : Option ℕ) (seen : Option Seen)
+    (mo : ModuleTree) (registers now : List ℕ) (chip : Chip) (i : Planted) (after : Tells) (failed : Bool)
+    (done_in : Option ℕ) (seen : Option Seen)
     → SelfTest mo march d → length chip.pending + 1 ≡ d.latency → HasDetected march d i chip
     → Runs mo march d registers now (TellsChip chip) after failed done_in seen → EndsFailed march d failed done_in
 
@@ -86,6 +87,7 @@ IsSeenOf march d (TellsScript script) seen = script.count ≡ 0 → IsFirstRead 
 IsSeenOf march d TellsNothing seen = Unit {0}
 
 -- how a run of a self-test ends beside a box that tells this
-pub record EndsSelfTest (march : List MarchElement) (d : Description) (tells : Tells) (failed : Bool) (done_in : Option ℕ) (seen : Option Seen) : Type 0 where
+pub record EndsSelfTest (march : List MarchElement) (d : Description) (tells : Tells) (failed : Bool)
+    (done_in : Option ℕ) (seen : Option Seen) : Type 0 where
   pub ends : EndsAsSeen march d failed done_in seen
   pub is_seen : IsSeenOf march d tells seen

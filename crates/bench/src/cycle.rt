@@ -66,7 +66,8 @@ fn clock(design: &mut Design, pins: Pins, reset: bool, rdata: u64) -> Outputs
     requires fit { Fit (inputs_of design.old.tree) (input_values pins.reset_first reset rdata) }
     requires within { AreWithin pins (length (outputs_of design.old.tree)) }
     ensures kept { design.new ≡ with_registers design.old design.new.registers }
-    ensures cycle { (outs : List ℕ) × Cycle design.old.tree design.old.registers (input_values pins.reset_first reset rdata) outs design.new.registers × (result ≡ outputs_at outs pins) }
+    ensures cycle { (outs : List ℕ) × Cycle design.old.tree design.old.registers
+        (input_values pins.reset_first reset rdata) outs design.new.registers × (result ≡ outputs_at outs pins) }
 {
     let inputs = inputs(pins, reset, rdata);
     let values = design.clock(&inputs);
@@ -76,7 +77,8 @@ fn clock(design: &mut Design, pins: Pins, reset: bool, rdata: u64) -> Outputs
 /// One cycle of the box.
 fn cycle_box(device: &mut Box<dyn Device>, cmd: &PortCmd) -> u64
     requires { IsSome (told device.old).shape }
-    ensures new { told device.new ≡ record (told device.old) { tells = after_cycle (told device.old).shape cmd.now (told device.old).tells } }
+    ensures new { told device.new ≡ record
+        (told device.old) { tells = after_cycle (told device.old).shape cmd.now (told device.old).tells } }
     ensures answer { Answers (told device.old).shape cmd.now (told device.old).tells result }
 {
     device.cycle(cmd)

@@ -89,7 +89,8 @@ fn first_cycle(
     ensures kept { design.new ≡ with_registers design.old design.new.registers }
     ensures device { ((told device.new).room ≡ (told device.old).room) × ((told device.new).shape ≡ (told device.old).shape) }
     ensures low { result.rdata < 2 ^ memory.now.bits }
-    ensures watched { FirstWatched design.old.tree memory.now design.old.registers design.new.registers (told device.old).tells (told device.new).tells result }
+    ensures watched { FirstWatched design.old.tree memory.now design.old.registers design.new.registers
+        (told device.old).tells (told device.new).tells result }
 {
     let end = turn(design, pins, memory, device, 0, 0);
     let watch = Watch {
@@ -116,9 +117,10 @@ fn run_cycles(
     requires some { 1 ≤ cycles }
     ensures kept { design.new ≡ with_registers design.old design.new.registers }
     ensures device { ((told device.new).room ≡ (told device.old).room) × ((told device.new).shape ≡ (told device.old).shape) }
-    ensures stage { (control : State) × Stage design.old.tree march.now memory.now design.old.registers (told device.old).tells cycles design.new.registers result (told device.new).tells control }
+    ensures stage { (control : State) × Stage design.old.tree march.now memory.now design.old.registers
+        (told device.old).tells cycles design.new.registers result (told device.new).tells control }
 {
-    let _ = march.len();
+    march.known();
     let code = assemble(march);
     let mut control = Control::reset(&code, memory);
     let mut watch = first_cycle(design, pins, memory, device);
@@ -155,7 +157,8 @@ pub fn bench(
     ensures accepted { IfOk result (λ _. Refuses march.now memory.now design.old.tree.ports None) }
     ensures ran { Refuses march.now memory.now design.old.tree.ports None → IsOk result }
     ensures runs { IfOk result (λ end. Runs design.old.tree march.now memory.now design.old.registers design.new.registers (told device).tells (told end.device).tells end.fail end.done_cycle end.first) }
-    ensures self_test { IfOk result (λ end. SelfTest design.old.tree march.now memory.now → EndsSelfTest march.now memory.now (told device).tells end.fail end.done_cycle end.first) }
+    ensures self_test { IfOk result (λ end. SelfTest design.old.tree march.now memory.now
+        → EndsSelfTest march.now memory.now (told device).tells end.fail end.done_cycle end.first) }
     ensures kept { IfOk result (λ _. design.new ≡ with_registers design.old design.new.registers) }
     ensures device { IfOk result (λ end. ((told end.device).room ≡ (told device).room) × ((told end.device).shape ≡ (told device).shape)) }
     ensures refused { IfErr result (λ refused. Refuses march.now memory.now design.old.tree.ports (Some refused.fault)) }

@@ -55,13 +55,15 @@ SaysDone done old new status =
 -- what is said after the writes
 abbrev pub SaysAfterWrites : Done → HostState → HostState → Result (Unit {0}) WriteStop → ℕ → Type 0
 SaysAfterWrites done old new (Ok _) status = SaysDone done old new status
-SaysAfterWrites done old new (Err (WriteStop.Failed p)) status = (status ≡ 8) × WritesRose old new × SaysPrefix old.said new.said (write_failed_line p)
+SaysAfterWrites done old new (Err (WriteStop.Failed p)) status = (status ≡ 8) × WritesRose old new
+    × SaysPrefix old.said new.said (write_failed_line p)
 SaysAfterWrites done old new (Err WriteStop.NoMemory) status = (status ≡ 9) × SaysPrefix old.said new.said no_memory_line
 
 -- the writes, and then the say
 abbrev pub DoneEnds : Words → Done → HostState → HostState → ℕ → Type 0
 DoneEnds words done old new status =
-    (stop : Result (Unit {0}) WriteStop) × WritesInOrder words done.outputs old.files new.files stop × SaysAfterWrites done old new stop status
+    (stop : Result (Unit {0}) WriteStop) × WritesInOrder words done.outputs old.files new.files stop
+    × SaysAfterWrites done old new stop status
 
 -- what stands when the program ends
 abbrev pub Ends : Words → Result Done Refusal → HostState → HostState → ℕ → Type 0

@@ -17,7 +17,7 @@ use Rattle.bist_endings.specs.declared.ending.DeviceRefusal.{DeviceRefusal}
 use Rattle.bist_endings.specs.declared.ending.VerilogRefusal.{VerilogRefusal}
 use Rattle.bist_endings.specs.declared.ending.Misfit.{Misfit}
 use Rattle.bist_endings.specs.declared.ending.Output.{Output}
-use Rattle.bist_endings.specs.declared.ending.Plan.{Plan}
+use Rattle.bist_endings.specs.declared.ending.Effects.{Effects}
 
 -- the bytes for the file that a word names
 pub record Written : Type 0 where
@@ -33,10 +33,10 @@ pub record Done : Type 0 where
 abbrev pub written_of : Output → Written
 written_of o = record { position = o.position; bytes = o.bytes.items }
 
-abbrev pub done_of : Plan → Done
+abbrev pub done_of : Effects → Done
 done_of p = record { found = p.found; outputs = map written_of p.outputs.items; line = p.line.items }
 
-abbrev pub plain : Result Plan Refusal → Result Done Refusal
+abbrev pub plain : Result Effects Refusal → Result Done Refusal
 plain (Ok plan) = Ok (done_of plan)
 plain (Err refusal) = Err refusal
 

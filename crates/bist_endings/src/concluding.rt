@@ -4,7 +4,7 @@ ghost use Rattle.bist_endings.specs.Ending.{plain, written_of, input_status, sta
 ghost use Rattle.bist_endings.specs.Conclude.{NamesWords, WritesInOrder, HasWriteCause, SaysLine, RefusalEnds, SaysDone, DoneEnds, Ends};
 
 use crate::chip_lines::{put_chip, put_unit};
-use crate::ending::{Ended, InputRefusal, Misfit, Output, Plan, Refusal};
+use crate::ending::{Effects, Ended, InputRefusal, Misfit, Output, Refusal};
 use crate::lines::{numbered, put_device, put_fault, put_march, put_numbered};
 use crate::memory_lines::put_memory;
 use crate::verilog_lines::put_verilog;
@@ -153,7 +153,7 @@ fn end_failed_write<H: Host>(alloc: Global, host: &mut H, position: usize) -> En
 }
 
 /// Says the line of a command that is done.
-fn end_done<H: Host>(host: &mut H, plan: &Plan) -> Ended
+fn end_done<H: Host>(host: &mut H, plan: &Effects) -> Ended
     ensures kept { OnlySays (H.state host.old) (H.state host.new) }
     ensures answer { SaysDone (done_of plan.now) (H.state host.old) (H.state host.new) result.status }
 {
@@ -167,7 +167,7 @@ fn end_done<H: Host>(host: &mut H, plan: &Plan) -> Ended
 }
 
 /// Writes the files of a command that is done, and says its line.
-fn finish<H: Host>(alloc: Global, words: &[&str], host: &mut H, plan: &Plan) -> Ended
+fn finish<H: Host>(alloc: Global, words: &[&str], host: &mut H, plan: &Effects) -> Ended
     requires { NamesWords words.now (done_of plan.now).outputs }
     ensures reads { (H.state host.new).read_faults ≡ (H.state host.old).read_faults }
     ensures writes { (H.state host.old).write_faults ≤ (H.state host.new).write_faults }
@@ -185,7 +185,7 @@ pub fn conclude<H: Host>(
     alloc: Global,
     words: &[&str],
     host: &mut H,
-    outcome: Result<Plan, Refusal>,
+    outcome: Result<Effects, Refusal>,
 ) -> Ended
     requires { IfOk outcome (λ plan. NamesWords words.now (done_of plan).outputs) }
     ensures reads { (H.state host.new).read_faults ≡ (H.state host.old).read_faults }

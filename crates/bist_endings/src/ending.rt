@@ -109,7 +109,7 @@ pub struct Output {
 /// What a command that isn't refused leaves: the files to write, and then the line to say. `found` tells whether
 /// its status is 1.
 #[derive(Drop)]
-pub struct Plan {
+pub struct Effects {
     pub found: bool,
     pub outputs: Vec<Output>,
     pub line: Vec<u8>,

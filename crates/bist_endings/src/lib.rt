@@ -2,11 +2,11 @@
 //! and how a decided command ends, with its files written, its line said and its status.
 //!
 //! ```
-//! use bist_endings::{Plan, conclude};
+//! use bist_endings::{Effects, conclude};
 //! use bist_host::MemHost;
 //!
 //! let line = b"conforms 43\n".to_vec(rt.alloc())?;
-//! let plan = Plan { found: false, outputs: Vec::new(rt.alloc()), line };
+//! let plan = Effects { found: false, outputs: Vec::new(rt.alloc()), line };
 //! let mut host = MemHost::new(rt.alloc());
 //! let ended = conclude(rt.alloc(), &["check"], &mut host, Ok(plan));
 //! assert!(rt; ended.status == 0 && host.said() == b"conforms 43\n".as_slice());
@@ -25,7 +25,8 @@ mod words;
 
 pub use concluding::conclude;
 pub use ending::{
-    ChipRefusal, DeviceRefusal, Ended, InputRefusal, Misfit, Output, Plan, Refusal, VerilogRefusal,
+    ChipRefusal, DeviceRefusal, Effects, Ended, InputRefusal, Misfit, Output, Refusal,
+    VerilogRefusal,
 };
 pub use lines::{numbered, put_number};
 pub use words::{are_plain, number_of};

@@ -40,7 +40,8 @@ pub fn put_two_numbers(
     between: &[u8],
     second: usize,
 ) -> Result<(), NoMemory>
-    ensures { OnOk result (line.new.items ≡ line.old.items ++ (before.now ++ decimal first ++ between.now ++ decimal second ++ codes "\n")) }
+    ensures { OnOk result (line.new.items ≡ line.old.items
+        ++ (before.now ++ decimal first ++ between.now ++ decimal second ++ codes "\n")) }
 {
     put_number(line, before, first)?;
     put_numbered(line, between, second)

@@ -38,7 +38,8 @@ InnerWrites old new name bytes = WritesFile (Some (files_of old)) (Some (files_o
 
 -- a listed read fails where it would else succeed, and raises the count of reads
 abbrev pub ListedRead : FailContent → FailContent → List ℕ → ℕ → HostFault → Type 0
-ListedRead old new name limit ReadFailed = IsReadable (files_of old.inner name) limit × (new ≡ record old { read_faults = raised old.read_faults })
+ListedRead old new name limit ReadFailed = IsReadable (files_of old.inner name) limit
+    × (new ≡ record old { read_faults = raised old.read_faults })
 ListedRead old new name limit Absent = (files_of old.inner name ≡ None) × (new ≡ old)
 ListedRead old new name limit TooLarge = IsTooLarge (files_of old.inner name) limit × (new ≡ old)
 ListedRead old new name limit NoMemory = new ≡ old
@@ -46,7 +47,8 @@ ListedRead old new name limit WriteFailed = ⊥
 
 -- a listed write leaves the first half, and raises the count of writes
 abbrev pub ListedWrite : FailContent → FailContent → List ℕ → List ℕ → HostFault → Type 0
-ListedWrite old new name bytes WriteFailed = InnerWrites old.inner new.inner name (first_half bytes) × (new ≡ record old { inner = new.inner; write_faults = raised old.write_faults })
+ListedWrite old new name bytes WriteFailed = InnerWrites old.inner new.inner name (first_half bytes)
+    × (new ≡ record old { inner = new.inner; write_faults = raised old.write_faults })
 ListedWrite old new name bytes NoMemory = new ≡ old
 ListedWrite old new name bytes Absent = ⊥
 ListedWrite old new name bytes TooLarge = ⊥

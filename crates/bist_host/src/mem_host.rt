@@ -133,7 +133,8 @@ impl Host for MemHost {
 /// The bytes of the first file of that name.
 #[tactic(auto, using(crate::proofs::FilesKept::file_there))]
 fn find_file<'a>(files: &'a [MemFile], name: &str) -> Option<&'a [u8]>
-    ensures { MatchOption result (file_of (named_files files.now) name.now ≡ None) (λ bytes. file_of (named_files files.now) name.now ≡ Some bytes.now) }
+    ensures { MatchOption result (file_of (named_files files.now) name.now ≡ None)
+        (λ bytes. file_of (named_files files.now) name.now ≡ Some bytes.now) }
 {
     match place_of(files, name) {
         Some(i) => Some(files[i].bytes.as_slice()),
@@ -161,7 +162,8 @@ fn put_file(
     name: &str,
     bytes: &[u8],
 ) -> Result<(), NoMemory>
-    ensures ok { OnOk result (WritesFile (Some (file_of (named_files files.old.items))) (Some (file_of (named_files files.new.items))) name.now bytes.now) }
+    ensures ok { OnOk result (WritesFile (Some (file_of (named_files files.old.items)))
+        (Some (file_of (named_files files.new.items))) name.now bytes.now) }
     ensures err { OnErr result (files.new.items ≡ files.old.items) }
 {
     let Ok(copy) = Vec::from_slice(alloc, bytes) else {
@@ -183,7 +185,8 @@ fn add_file(
     bytes: Vec<u8>,
 ) -> Result<(), NoMemory>
     requires { file_of (named_files files.old.items) name.now ≡ None }
-    ensures ok { OnOk result (WritesFile (Some (file_of (named_files files.old.items))) (Some (file_of (named_files files.new.items))) name.now bytes.items) }
+    ensures ok { OnOk result (WritesFile (Some (file_of (named_files files.old.items)))
+        (Some (file_of (named_files files.new.items))) name.now bytes.items) }
     ensures err { OnErr result (files.new.items ≡ files.old.items) }
 {
     let Ok(name) = String::from_str(alloc, name) else {

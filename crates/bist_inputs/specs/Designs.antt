@@ -14,14 +14,7 @@ use Rattle.bist_endings.specs.declared.ending.Refusal.{Refusal}
 use Rattle.bist_endings.specs.declared.ending.VerilogRefusal.{VerilogRefusal}
 use Rattle.bist_endings.specs.Then.{Then}
 use Rattle.bist_endings.specs.Words.{Words, word}
-use Rattle.bist_inputs.specs.declared.designs.Style.{Style}
-use Rattle.bist_inputs.specs.declared.designs.Style.TheVariants as S
 use Rattle.bist_inputs.specs.Inputs.{GivesBytes}
-
--- how the grammar writes expressions
-abbrev pub styled : Style → G.Style
-styled S.Parenthesised = G.Parenthesised
-styled S.ByPrecedence = G.ByPrecedence
 
 -- a module in place of its collections
 abbrev pub plain_tree : Result Module Refusal → Result ModuleTree Refusal

@@ -19,7 +19,7 @@ fn give_chip(bytes: &[u8]) -> Result<ChipDesc, Refusal>
 {
     match read_chip(bytes) {
         Ok(chip) => {
-            let _ = chip.budget();
+            chip.known();
             Ok(chip)
         }
         Err(fault) => Err(Refusal::Chip(ChipRefusal::File(fault))),

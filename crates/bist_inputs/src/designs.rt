@@ -8,24 +8,16 @@ ghost use Rattle.verilog_text.specs.Refusals.{IsFirstIn};
 ghost use Rattle.verilog_cycle.specs.Design.{IsNew};
 ghost use Rattle.bist_endings.specs.Words.{word};
 ghost use Rattle.bist_inputs.specs.Inputs.{HasCause, IsOwnRefusal};
-ghost use Rattle.bist_inputs.specs.Designs.{styled, plain_tree, tree_of, GivesTree, GivesRunnable, GivesModule, InputModule};
+ghost use Rattle.verilog_read.specs.Style.{styled};
+ghost use Rattle.bist_inputs.specs.Designs.{plain_tree, tree_of, GivesTree, GivesRunnable, GivesModule, InputModule};
 
 use crate::inputs::read_input;
 use bist_endings::{Refusal, VerilogRefusal};
 use bist_host::Host;
 use std::alloc::Global;
 use verilog_cycle::{Design, elaborate};
-use verilog_read::{read_free, read_module};
+use verilog_read::{Style, read_free, read_module};
 use verilog_tree::{Module, ReadFault, TreeFault};
-
-/// How the expressions of a module's text are written.
-#[derive(Clone, Copy)]
-pub enum Style {
-    /// Each operator stands in parentheses of its own.
-    Parenthesised,
-    /// Operators bind by precedence.
-    ByPrecedence,
-}
 
 /// Reads the text of a module in its style.
 fn read_text(alloc: Global, bytes: &[u8], style: Style) -> Result<Module, ReadFault>

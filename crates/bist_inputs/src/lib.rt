@@ -21,7 +21,7 @@ mod memories;
 mod texts;
 
 pub use chips::{read_chip_input, read_unit_march, read_unit_memory};
-pub use designs::{Style, read_design_input};
+pub use designs::read_design_input;
 pub use inputs::read_march_input;
 pub use memories::read_memory_input;
 pub use texts::{give_prim, read_list_input};

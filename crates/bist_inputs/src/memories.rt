@@ -16,7 +16,7 @@ fn give_memory(bytes: &[u8]) -> Result<Memory, Refusal>
 {
     match read_memory(bytes) {
         Ok(memory) => {
-            let _ = memory.words();
+            memory.known();
             Ok(memory)
         }
         Err(fault) => Err(Refusal::Memory(fault)),

@@ -35,25 +35,31 @@ stated number (Some c) = (record { line = number; content = c }) ∷ []
 -- early at a line feed is refused at the place of the line feed, and so only the last line can be told as one that ended too early.
 abbrev pub IsLineFault : {C V : Type 0} → (List ℕ → C → Type 0) → (Option V → C → Bool) → Option V → TextLine → TextFault → Type 0
 IsLineFault text stands given l (Unexpected line byte) = (line ≡ l.number)
-    × (IsUnexpected (LineOf text stands given) l.text byte ⊎ ((l.ended ≡ true) × IsTruncated (LineOf text stands given) l.text × (byte ≡ length l.text)))
+    × (IsUnexpected (LineOf text stands given) l.text byte
+    ⊎ ((l.ended ≡ true) × IsTruncated (LineOf text stands given) l.text × (byte ≡ length l.text)))
 IsLineFault text stands given l Truncated = (l.ended ≡ false) × IsTruncated (LineOf text stands given) l.text
 IsLineFault text stands given l OtherVersion = ⊥
 
 -- these are the statements of the lines, each of which may stand
-abbrev pub Say : {C V : Type 0} → (List ℕ → C → Type 0) → (Option V → C → Bool) → (C → Option V) → List TextLine → Option V → List (Statement C) → Type 0
+abbrev pub Say : {C V : Type 0} → (List ℕ → C → Type 0) → (Option V → C → Bool) → (C → Option V) → List TextLine
+    → Option V → List (Statement C) → Type 0
 Say text stands version_in [] None ss = ⊥
 Say text stands version_in [] (Some v) ss = ss ≡ []
 Say {C} text stands version_in (l ∷ ls) given ss =
     (k : Option C) × (more : List (Statement C)) × LineOf text stands given l.text k
-    × MatchResult (known version_in given k) (λ next. Say text stands version_in ls next more) (λ fault. ⊥) × (ss ≡ stated l.number k ++ more)
+    × MatchResult (known version_in given k) (λ next. Say text stands version_in ls next more) (λ fault. ⊥)
+    × (ss ≡ stated l.number k ++ more)
 
 -- the first line that may not stand, or no line gives a version
-abbrev pub AreRefused : {C V : Type 0} → (List ℕ → C → Type 0) → (Option V → C → Bool) → (C → Option V) → List TextLine → Option V → TextFault → Type 0
+abbrev pub AreRefused : {C V : Type 0} → (List ℕ → C → Type 0) → (Option V → C → Bool) → (C → Option V) → List TextLine
+    → Option V → TextFault → Type 0
 AreRefused text stands version_in [] None fault = fault ≡ Truncated
 AreRefused text stands version_in [] (Some v) fault = ⊥
 AreRefused {C} text stands version_in (l ∷ ls) given fault =
     IsLineFault text stands given l fault
-    ⊎ ((k : Option C) × LineOf text stands given l.text k × MatchResult (known version_in given k) (λ next. AreRefused text stands version_in ls next fault) (λ other. fault ≡ other))
+    ⊎ ((k : Option C) × LineOf text stands given l.text k
+    × MatchResult (known version_in given k) (λ next. AreRefused text stands version_in ls next fault)
+    (λ other. fault ≡ other))
 
 -- ---- the refusals of statements, in their order
 

@@ -19,8 +19,10 @@ pub record Both (S L : Type 0) : Type 0 where
   pub lexer : L
 
 -- a byte of the text
-abbrev pub both_step : {S L T : Type 0} → (L → ℕ → Option (L × Option T)) → (S → T → Option S) → (S → L → Bool) → Both S L → ℕ → Option (Both S L)
-both_step lex step live q c = then (lex q.lexer c) (λ r. then (advance step q.parser r.1) (λ s. only_if (live s r.0) (record { parser = s; lexer = r.0 })))
+abbrev pub both_step : {S L T : Type 0} → (L → ℕ → Option (L × Option T)) → (S → T → Option S) → (S → L → Bool)
+    → Both S L → ℕ → Option (Both S L)
+both_step lex step live q c = then (lex q.lexer c)
+    (λ r. then (advance step q.parser r.1) (λ s. only_if (live s r.0) (record { parser = s; lexer = r.0 })))
 
 abbrev pub both_value : {S L T V : Type 0} → (L → Option (Option T)) → (S → T → Option S) → (S → Option V) → Both S L → Option V
 both_value last step value q = then (last q.lexer) (λ o. then (advance step q.parser o) value)

@@ -16,7 +16,8 @@ pub record TextLine : Type 0 where
 -- part but the last is ended by a line feed, and the last is a line where it has any bytes
 abbrev pub lines_of_parts : ℕ → ℕ → List (List ℕ) → List TextLine
 lines_of_parts number start [] = []
-lines_of_parts number start (x ∷ []) = if length x == 0 then [] else ((record { number = number; start = start; text = x; ended = false }) ∷ [])
+lines_of_parts number start (x ∷ []) = if length x == 0 then [] else
+    ((record { number = number; start = start; text = x; ended = false }) ∷ [])
 lines_of_parts number start (x ∷ y ∷ more) =
     (record { number = number; start = start; text = x; ended = true }) ∷ lines_of_parts (number + 1) (start + length x + 1) (y ∷ more)
 

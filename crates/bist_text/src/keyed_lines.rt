@@ -21,7 +21,7 @@ pub type Read<'a, T> = Result<(T, &'a [u8]), &'a [u8]>;
 
 /// Which words stand in lines.
 #[derive(Clone, Copy)]
-pub enum Class {
+pub enum WordKind {
     /// One to nine decimal digits.
     Number,
     /// One to sixteen hexadecimal digits.
@@ -32,17 +32,17 @@ pub enum Class {
     File,
 }
 
-impl Class {
+impl WordKind {
     /// Whether a byte may stand behind so many bytes of a word.
     fn fits(self, count: usize, byte: u8) -> bool
         ensures { result ≡ fits_of self count byte }
     {
         match self {
-            Class::Number => byte.is_ascii_digit() && count < 9,
-            Class::Word => byte.is_ascii_hexdigit() && count < 16,
-            Class::Name if count == 0 => begins_identifier(byte),
-            Class::Name => in_identifier(byte),
-            Class::File => 33 <= byte && byte <= 126 && byte != b'#',
+            WordKind::Number => byte.is_ascii_digit() && count < 9,
+            WordKind::Word => byte.is_ascii_hexdigit() && count < 16,
+            WordKind::Name if count == 0 => begins_identifier(byte),
+            WordKind::Name => in_identifier(byte),
+            WordKind::File => 33 <= byte && byte <= 126 && byte != b'#',
         }
     }
 }
@@ -110,7 +110,7 @@ pub fn ended<'a, T: Drop>(text: &'a [u8], value: T) -> Read<'a, T>
 }
 
 /// How many bytes from the front on a word of a class can have.
-fn fit_len(text: &[u8], class: Class) -> usize
+fn fit_len(text: &[u8], class: WordKind) -> usize
     ensures value { result ≡ length_of (fits_of class) 0 text.now }
     ensures within { result ≤ length text.now }
 {
@@ -124,8 +124,9 @@ fn fit_len(text: &[u8], class: Class) -> usize
 
 /// A word of a class.
 #[tactic(auto, using(crate::proofs::keyed::Steps::word_none, crate::proofs::keyed::Steps::word_some))]
-pub fn word(text: &[u8], class: Class) -> Read<'_, &[u8]>
-    ensures { MatchResult result (λ r. word_of (fits_of class) text.now ≡ took r.0.now r.1.now) (λ left. word_of (fits_of class) text.now ≡ stuck left.now) }
+pub fn word(text: &[u8], class: WordKind) -> Read<'_, &[u8]>
+    ensures { MatchResult result (λ r. word_of (fits_of class) text.now ≡ took r.0.now r.1.now)
+        (λ left. word_of (fits_of class) text.now ≡ stuck left.now) }
 {
     let count = fit_len(text, class);
     if count == 0 {
@@ -139,7 +140,7 @@ pub fn word(text: &[u8], class: Class) -> Read<'_, &[u8]>
 pub fn number(text: &[u8]) -> Read<'_, u32>
     ensures { MatchResult result (λ r. number_of text.now ≡ took r.0 r.1.now) (λ left. number_of text.now ≡ stuck left.now) }
 {
-    let (digits, text) = word(text, Class::Number)?;
+    let (digits, text) = word(text, WordKind::Number)?;
     let value = decimal(digits).unwrap_or(0);
     Ok((value, text))
 }
@@ -148,14 +149,15 @@ pub fn number(text: &[u8]) -> Read<'_, u32>
 pub fn hex_number(text: &[u8]) -> Read<'_, u64>
     ensures { MatchResult result (λ r. hex_number_of text.now ≡ took r.0 r.1.now) (λ left. hex_number_of text.now ≡ stuck left.now) }
 {
-    let (digits, text) = word(text, Class::Word)?;
+    let (digits, text) = word(text, WordKind::Word)?;
     let value = hex(digits).unwrap_or(0);
     Ok((value, text))
 }
 
 /// A word of a table.
 pub fn key<'a, T: Copy>(text: &'a [u8], words: &[Keyword<T>]) -> Read<'a, T>
-    ensures { MatchResult result (λ r. key_of (map word_of_table words.now) text.now ≡ took r.0 r.1.now) (λ left. key_of (map word_of_table words.now) text.now ≡ stuck left.now) }
+    ensures { MatchResult result (λ r. key_of (map word_of_table words.now) text.now ≡ took r.0 r.1.now)
+        (λ left. key_of (map word_of_table words.now) text.now ≡ stuck left.now) }
 {
     let mut letters = Letters { word: 0, count: 0 };
     for (i, byte) in text.iter().enumerate() {

@@ -14,9 +14,9 @@ pub use Rattle.chip_desc.specs.ChipLines.{Content, ContentText, Statement, argum
 pub use Rattle.chip_desc.specs.ChipTable.{budget_in, budget_said, by_statements, content_of, described, first_of, is_heavier, is_key, is_out_of_range, is_outside, missing, name_in, name_said, out_of_range, refusal, repeated, too_heavy, too_many, unit_in, units_said}
 pub use Rattle.chip_desc.specs.Chips.{ChipDescription, IsChip, IsFile, IsUnit, UnitDescription, described_as, is_file, unit_of}
 pub use Rattle.chip_desc.specs.declared.chip.ChipUnit.{ChipUnit}
-pub use Rattle.chip_desc.specs.declared.content.Key.{Key}
-pub use Rattle.chip_desc.specs.declared.content.Key.TheVariants.{Budget, Chip, Name}
-pub use Rattle.chip_desc.specs.declared.content.Version.{Version}
+pub use Rattle.chip_desc.specs.declared.content.ChipKey.{ChipKey}
+pub use Rattle.chip_desc.specs.declared.content.ChipKey.TheVariants.{Budget, Chip, Name}
+pub use Rattle.chip_desc.specs.declared.content.ChipVersion.{ChipVersion}
 pub use Rattle.chip_desc.specs.declared.fault.ChipFault.{ChipFault}
 pub use Rattle.chip_desc.specs.declared.fault.ChipFault.TheVariants.{Missing, TooManyUnits}
 pub use Rattle.chip_desc.specs.inner.Heard.{argument_of, by_lines, heard, keys_in, plain_statement, plain_unit, reading, said, statements, version_at}

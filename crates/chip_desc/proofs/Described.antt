@@ -1,15 +1,15 @@
 -- The chip that statements describe is within the limits, and is what the reader makes.
-use Rattle.chip_desc.proofs.Common.{All, Bool, Budget, Chip, ChipDescription, ChipFault, ChipUnit, Content, Err, IsChip, IsName, IsUnit, Key, List, Missing, Name, None, Ok, Some, Statement, TextLine, TooManyUnits, UnitDescription, [], alone, ap, arith, budget, budget_in, budget_said, by_statements, checked, cond, content_of, described, described_as, false, find, first_of, found_fails, found_passes, heavier_than, is_formed, is_heavier, is_key, is_out_of_range, is_outside, kind_of, length, length-append, ltb-false, map, missing, name, name_in, name_said, nat_lt, next, none_at, or_parts, out_of_range, passed, refl, refusal, repeated, said, said_found, statements, stopped, subst, sym, too_heavy, too_many, true, unit_in, unit_of, units_said, unless_there, ℕ, ◌++◌, ◌+◌, ◌∙◌, ◌∷◌, ◌≡◌, ◌≤◌}
+use Rattle.chip_desc.proofs.Common.{All, Bool, Budget, Chip, ChipDescription, ChipFault, ChipUnit, Content, Err, IsChip, IsName, IsUnit, ChipKey, List, Missing, Name, None, Ok, Some, Statement, TextLine, TooManyUnits, UnitDescription, [], alone, ap, arith, budget, budget_in, budget_said, by_statements, checked, cond, content_of, described, described_as, false, find, first_of, found_fails, found_passes, heavier_than, is_formed, is_heavier, is_key, is_out_of_range, is_outside, kind_of, length, length-append, ltb-false, map, missing, name, name_in, name_said, nat_lt, next, none_at, or_parts, out_of_range, passed, refl, refusal, repeated, said, said_found, statements, stopped, subst, sym, too_heavy, too_many, true, unit_in, unit_of, units_said, unless_there, ℕ, ◌++◌, ◌+◌, ◌∙◌, ◌∷◌, ◌≡◌, ◌≤◌}
 use Rattle.bist_text.specs.ReservedWords.{is_among, reserved_words}
 use Rattle.chip_desc.specs.declared.fault.ChipField.{ChipField}
 use Rattle.chip_desc.specs.declared.fault.ChipField.TheVariants.{Name as NameField, Budget as BudgetField, Unit as UnitField}
-use Rattle.chip_desc.specs.declared.content.Key.TheVariants.{Unit as OfUnit}
+use Rattle.chip_desc.specs.declared.content.ChipKey.TheVariants.{Unit as OfUnit}
 use Rattle.chip_desc.proofs.OneText.{formed_said}
 use Rattle.chip_desc.proofs.UnitLines.{all_units, some_unit, unit_key}
 
 -- ---- the statement of a line that is found
 
-key_is : (k l : Key) → is_key k l ≡ true → l ≡ k
+key_is : (k l : ChipKey) → is_key k l ≡ true → l ≡ k
 key_is Chip Chip e = refl
 key_is Name Name e = refl
 key_is Budget Budget e = refl
@@ -17,14 +17,14 @@ key_is OfUnit OfUnit e = refl
 key_is k l e = (let z : ⊥ = cc in absurd z)
 
 -- the statement of a kind that is found
-kind_found : (k : Key) (ss : List Statement) (s : Statement) → first_of k ss ≡ Some s → kind_of s.content ≡ k
+kind_found : (k : ChipKey) (ss : List Statement) (s : Statement) → first_of k ss ≡ Some s → kind_of s.content ≡ k
 kind_found k ss s e = key_is k (kind_of s.content) (found_passes (λ s. is_key k (kind_of s.content)) ss s e)
 
 -- a field whose line is there isn't missing
-pub not_missing : (k : Key) (field : ChipField) (ss : List Statement) (s : Statement) → first_of k ss ≡ Some s → missing k field ss ≡ None
+pub not_missing : (k : ChipKey) (field : ChipField) (ss : List Statement) (s : Statement) → first_of k ss ≡ Some s → missing k field ss ≡ None
 not_missing k field ss s e = ap (unless_there (Missing field)) e
 
-in_range : (k : Key) (ss : List Statement) (s : Statement) → first_of k ss ≡ Some s → out_of_range ss ≡ None → is_out_of_range s.content ≡ false
+in_range : (k : ChipKey) (ss : List Statement) (s : Statement) → first_of k ss ≡ Some s → out_of_range ss ≡ None → is_out_of_range s.content ≡ false
 in_range k ss s e r = found_fails (λ s. is_out_of_range s.content) (λ s. is_key k (kind_of s.content)) ss s (none_at _ (find (λ s. is_out_of_range s.content) ss) r) e
 
 -- ---- the name and the budget

@@ -1,12 +1,12 @@
 -- A text is read in one way: as what the reader hears in it.
-use Rattle.chip_desc.proofs.Common.{ChipDescription, ChipFault, Content, ContentText, List, None, Option, Result, Some, Version, ap, by_lines, by_statements, heard, inl, inr, is_formed, reading, refl, refusal, said, stands, statements, subst, sym, text_lines, true, version_at, version_in, walk, ℕ, ◌↔◌, ◌∙◌, ◌≡◌}
+use Rattle.chip_desc.proofs.Common.{ChipDescription, ChipFault, Content, ContentText, List, None, Option, Result, Some, ChipVersion, ap, by_lines, by_statements, heard, inl, inr, is_formed, reading, refl, refusal, said, stands, statements, subst, sym, text_lines, true, version_at, version_in, walk, ℕ, ◌↔◌, ◌∙◌, ◌≡◌}
 use Rattle.bist_text.specs.declared.keyed_lines.TextFault.{TextFault}
 use Rattle.chip_desc.specs.ChipTable.{Reads}
-use Rattle.chip_desc.specs.declared.content.Version.TheVariants.{One}
+use Rattle.chip_desc.specs.declared.content.ChipVersion.TheVariants.{One}
 use Rattle.chip_desc.proofs.ArgumentLaws.{line_exact}
 use Rattle.bist_text.proofs.keyed.Texts as Texts
 
-wide : (v : Option Version) (c : Content) → stands v c ≡ true → stands (Some One) c ≡ true
+wide : (v : Option ChipVersion) (c : Content) → stands v c ≡ true → stands (Some One) c ≡ true
 wide v c h = refl
 
 -- what a line says is formed

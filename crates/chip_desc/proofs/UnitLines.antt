@@ -8,7 +8,7 @@ use Rattle.chip_desc.specs.Chips.{is_file_byte}
 use Rattle.chip_desc.specs.ChipTable.{at_line}
 use Rattle.chip_desc.specs.declared.content.UnitLine.{UnitLine}
 use Rattle.chip_desc.specs.declared.fault.ChipFault.TheVariants.{OutOfRange}
-use Rattle.chip_desc.specs.declared.content.Key.TheVariants.{Unit as OfUnit}
+use Rattle.chip_desc.specs.declared.content.ChipKey.TheVariants.{Unit as OfUnit}
 use Rattle.chip_desc.proofs.OneText.{formed_said}
 
 -- ---- names of files

@@ -6,10 +6,10 @@ use Rattle.bist_text.specs.KeyedTexts.{Say, Statement as TextStatement}
 use Rattle.bist_text.specs.Lines.{text_lines}
 use Rattle.bist_text.specs.keyed.Numbers.{number}
 use Rattle.chip_desc.specs.Chips.{is_file}
-use Rattle.chip_desc.specs.declared.content.Key.{Key}
-use Rattle.chip_desc.specs.declared.content.Key.TheVariants.{Chip, Name, Budget, Unit as OfUnit}
-use Rattle.chip_desc.specs.declared.content.Version.{Version}
-use Rattle.chip_desc.specs.declared.content.Version.TheVariants.{One}
+use Rattle.chip_desc.specs.declared.content.ChipKey.{ChipKey}
+use Rattle.chip_desc.specs.declared.content.ChipKey.TheVariants.{Chip, Name, Budget, Unit as OfUnit}
+use Rattle.chip_desc.specs.declared.content.ChipVersion.{ChipVersion}
+use Rattle.chip_desc.specs.declared.content.ChipVersion.TheVariants.{One}
 use Rattle.bist_text.specs.LineGrammar.{space, gap, tail}
 
 -- what a content line says
@@ -19,7 +19,7 @@ pub data Content : Type 0 where
   budget : ℕ → Content
   unit : ℕ → List ℕ → List ℕ → Content
 
-abbrev pub kind_of : Content → Key
+abbrev pub kind_of : Content → ChipKey
 kind_of (version n) = Chip
 kind_of (name b) = Name
 kind_of (budget n) = Budget
@@ -39,7 +39,7 @@ argument (name n) K b = word n K b
 argument (budget n) K b = number n K b
 argument (unit weight march memory) K b = number weight (gap (word march (gap (word memory K)))) b
 
-abbrev pub key_text : Key → List ℕ
+abbrev pub key_text : ChipKey → List ℕ
 key_text Chip = codes "chip"
 key_text Name = codes "name"
 key_text Budget = codes "budget"
@@ -56,16 +56,16 @@ abbrev pub Statement : Type 0
 Statement = TextStatement Content
 
 -- the kinds of content lines that may stand: a `chip` line alone before there was one, and behind it any
-abbrev pub may_stand : Option Version → Key → Bool
+abbrev pub may_stand : Option ChipVersion → ChipKey → Bool
 may_stand (Some v) key = true
 may_stand None Chip = true
 may_stand None key = false
 
-abbrev pub stands : Option Version → Content → Bool
+abbrev pub stands : Option ChipVersion → Content → Bool
 stands given c = may_stand given (kind_of c)
 
 -- the version 1 is the one that there is
-abbrev pub version_in : Content → Option Version
+abbrev pub version_in : Content → Option ChipVersion
 version_in (version n) = if n == 1 then Some One else None
 version_in c = None
 

@@ -12,10 +12,10 @@ use Rattle.chip_desc.specs.declared.fault.ChipField.{ChipField}
 use Rattle.chip_desc.specs.declared.fault.ChipField.TheVariants.{Name as NameField, Budget as BudgetField, Unit as UnitField}
 use Rattle.chip_desc.specs.declared.fault.ChipFault.{ChipFault}
 use Rattle.chip_desc.specs.declared.fault.ChipFault.TheVariants.{Unexpected, Truncated, OtherVersion, Repeated, Missing, OutOfRange, TooManyUnits, TooHeavy}
-use Rattle.chip_desc.specs.declared.content.Key.{Key}
-use Rattle.chip_desc.specs.declared.content.Key.TheVariants.{Chip, Name, Budget, Unit as OfUnit}
+use Rattle.chip_desc.specs.declared.content.ChipKey.{ChipKey}
+use Rattle.chip_desc.specs.declared.content.ChipKey.TheVariants.{Chip, Name, Budget, Unit as OfUnit}
 
-abbrev pub is_key : Key → Key → Bool
+abbrev pub is_key : ChipKey → ChipKey → Bool
 is_key Chip Chip = true
 is_key Name Name = true
 is_key Budget Budget = true
@@ -23,7 +23,7 @@ is_key OfUnit OfUnit = true
 is_key k l = false
 
 -- the first statement of a kind
-abbrev pub first_of : Key → List Statement → Option Statement
+abbrev pub first_of : ChipKey → List Statement → Option Statement
 first_of key ss = find (λ s. is_key key (kind_of s.content)) ss
 
 -- ---- C3: an earlier line of a kind of which there is one
@@ -36,7 +36,7 @@ repeated ss = at_line (λ n. Repeated n) (find (is_repeat ss) ss)
 
 -- ---- C4: a field is missing
 
-abbrev pub missing : Key → ChipField → List Statement → Option ChipFault
+abbrev pub missing : ChipKey → ChipField → List Statement → Option ChipFault
 missing key field ss = unless_there (Missing field) (first_of key ss)
 
 -- ---- C5: a name, a budget, a weight or the name of a file outside its range

@@ -50,6 +50,13 @@ impl ChipDesc {
         self.budget
     }
 
+    /// Recalls to the prover what holds of every chip. It does nothing.
+    pub fn known(&self)
+        ensures { IsChip self.now }
+    {
+        let _budget = self.budget;
+    }
+
     /// Its memories, 1 to 16, in the order of their lines.
     pub fn units(&self) -> &[ChipUnit]
         ensures value { map unit_of result.now ≡ self.now.units }

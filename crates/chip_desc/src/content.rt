@@ -6,7 +6,7 @@ ghost use Rattle.chip_desc.specs.inner.Heard.{plain_content};
 
 /// The kinds of content lines, by their first word.
 #[derive(Clone, Copy, PartialEq)]
-pub enum Key {
+pub enum ChipKey {
     Chip,
     Name,
     Budget,
@@ -15,7 +15,7 @@ pub enum Key {
 
 /// The versions of the form.
 #[derive(Clone, Copy)]
-pub enum Version {
+pub enum ChipVersion {
     One,
 }
 
@@ -31,7 +31,7 @@ pub struct UnitLine<'a> {
 
 /// What a content line says.
 #[derive(Clone, Copy)]
-pub enum Content<'a> {
+pub enum ChipContent<'a> {
     Version(u32),
     Name(&'a [u8]),
     Budget(u32),
@@ -40,19 +40,19 @@ pub enum Content<'a> {
 
 /// A content line: its number, from 1, and what it says.
 #[derive(Clone, Copy)]
-pub struct Statement<'a> {
+pub struct ChipStatement<'a> {
     pub line: usize,
-    pub content: Content<'a>,
+    pub content: ChipContent<'a>,
 }
 
 /// The kind of a content line.
-pub fn kind_of(content: &Content<'_>) -> Key
+pub fn kind_of(content: &ChipContent<'_>) -> ChipKey
     ensures { result ≡ kind_of (plain_content content.now) }
 {
     match content {
-        Content::Version(_) => Key::Chip,
-        Content::Name(_) => Key::Name,
-        Content::Budget(_) => Key::Budget,
-        Content::Unit(_) => Key::Unit,
+        ChipContent::Version(_) => ChipKey::Chip,
+        ChipContent::Name(_) => ChipKey::Name,
+        ChipContent::Budget(_) => ChipKey::Budget,
+        ChipContent::Unit(_) => ChipKey::Unit,
     }
 }

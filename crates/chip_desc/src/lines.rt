@@ -5,17 +5,20 @@ ghost use Rattle.bist_text.specs.Lines.{text_lines};
 ghost use Rattle.bist_text.specs.keyed.Texts.{checked, walk};
 ghost use Rattle.chip_desc.specs.inner.Heard.{version_at};
 
-use crate::content::{Content, Version};
+use crate::content::{ChipContent, ChipVersion};
 use crate::line_reader::read_line;
 use bist_text::Lines;
 use bist_text::keyed_lines::{LineFault, TextFault, known_behind};
 
 /// The version that a line gives, where it has content.
-fn version_at(text: &[u8], given: Option<Version>) -> Result<Option<Option<Version>>, LineFault>
+fn version_at(
+    text: &[u8],
+    given: Option<ChipVersion>,
+) -> Result<Option<Option<ChipVersion>>, LineFault>
     ensures { result ≡ version_at given text.now }
 {
     match read_line(text, given)? {
-        Some(Content::Version(1)) => Ok(Some(Some(Version::One))),
+        Some(ChipContent::Version(1)) => Ok(Some(Some(ChipVersion::One))),
         Some(_) => Ok(Some(None)),
         None => Ok(None),
     }

@@ -8,31 +8,31 @@ ghost use Rattle.chip_desc.specs.inner.Heard.{plain_content, statements};
 ghost use Rattle.chip_desc.specs.declared.fault.ChipFault.{ChipFault};
 
 use crate::chip::ChipDesc;
-use crate::content::{Content, Key};
+use crate::content::{ChipContent, ChipKey};
 use crate::fault::{ChipFault, ChipField};
 use crate::lines::check_lines;
-use crate::search::{Sought, check_none, field};
+use crate::search::{ChipSought, check_none, field};
 use crate::units::units_of;
 use bist_text::keyed_lines::TextFault;
 use memory_desc::name_from;
 
 /// The name that a `name` line gives.
-fn name_of<'a>(content: &Content<'a>) -> &'a [u8]
+fn name_of<'a>(content: &ChipContent<'a>) -> &'a [u8]
     ensures { result.now ≡ name_in (Some (plain_content content.now)) }
 {
     match content {
-        Content::Name(name) => name,
-        Content::Version(_) | Content::Budget(_) | Content::Unit(_) => &[],
+        ChipContent::Name(name) => name,
+        ChipContent::Version(_) | ChipContent::Budget(_) | ChipContent::Unit(_) => &[],
     }
 }
 
 /// The budget that a `budget` line gives.
-fn budget_of(content: &Content<'_>) -> u32
+fn budget_of(content: &ChipContent<'_>) -> u32
     ensures { result ≡ budget_in (Some (plain_content content.now)) }
 {
     match content {
-        Content::Budget(most) => *most,
-        Content::Version(_) | Content::Name(_) | Content::Unit(_) => 0,
+        ChipContent::Budget(most) => *most,
+        ChipContent::Version(_) | ChipContent::Name(_) | ChipContent::Unit(_) => 0,
     }
 }
 
@@ -40,14 +40,14 @@ fn budget_of(content: &Content<'_>) -> u32
 fn described(bytes: &[u8]) -> Result<ChipDesc, ChipFault>
     ensures { result ≡ by_statements (refusal (statements (text_lines bytes.now))) (statements (text_lines bytes.now)) }
 {
-    check_none(bytes, Sought::Repeat)?;
-    let name_line = field(bytes, Key::Name, ChipField::Name)?;
-    let budget_line = field(bytes, Key::Budget, ChipField::Budget)?;
-    field(bytes, Key::Unit, ChipField::Unit)?;
-    check_none(bytes, Sought::OutOfRange)?;
+    check_none(bytes, ChipSought::Repeat)?;
+    let name_line = field(bytes, ChipKey::Name, ChipField::Name)?;
+    let budget_line = field(bytes, ChipKey::Budget, ChipField::Budget)?;
+    field(bytes, ChipKey::Unit, ChipField::Unit)?;
+    check_none(bytes, ChipSought::OutOfRange)?;
     let units = units_of(bytes)?;
     let budget = budget_of(&budget_line.content);
-    check_none(bytes, Sought::Heavier(budget))?;
+    check_none(bytes, ChipSought::Heavier(budget))?;
     let name = name_from(name_of(&name_line.content));
     Ok(ChipDesc {
         name,

@@ -8,7 +8,7 @@ ghost use Rattle.chip_desc.specs.inner.Heard.{plain_unit, said, statements};
 ghost use Rattle.chip_desc.specs.inner.Seeking.{GivesUnits, unit_said};
 
 use crate::chip::ChipUnit;
-use crate::content::{Content, UnitLine};
+use crate::content::{ChipContent, UnitLine};
 use crate::fault::ChipFault;
 use crate::line_reader::said;
 use arrayvec::{ArrayString, ArrayVec};
@@ -47,15 +47,16 @@ fn unit_in<'a>(text: &'a [u8]) -> Option<UnitLine<'a>>
     ensures { option_map plain_unit result ≡ unit_said (said text.now) }
 {
     match said(text)? {
-        Content::Unit(unit) => Some(unit),
-        Content::Version(_) | Content::Name(_) | Content::Budget(_) => None,
+        ChipContent::Unit(unit) => Some(unit),
+        ChipContent::Version(_) | ChipContent::Name(_) | ChipContent::Budget(_) => None,
     }
 }
 
 /// The units, in the order of their lines; at most 16.
 pub fn units_of(bytes: &[u8]) -> Result<ArrayVec<ChipUnit, 16>, ChipFault>
     requires { out_of_range (statements (text_lines bytes.now)) ≡ None }
-    ensures { MatchResult result (λ us. GivesUnits (statements (text_lines bytes.now)) (Ok us.items)) (λ fault. GivesUnits (statements (text_lines bytes.now)) (Err fault)) }
+    ensures { MatchResult result (λ us. GivesUnits (statements (text_lines bytes.now)) (Ok us.items))
+        (λ fault. GivesUnits (statements (text_lines bytes.now)) (Err fault)) }
 {
     let mut units = ArrayVec::new();
     for line in Lines::new(bytes) {

@@ -41,7 +41,8 @@ abbrev pub PlansAreWritten : Type 0
 PlansAreWritten =
     (name : List ℕ) (us : List TestUnit) (budget : ℕ) (groups : List ℕ) (ms : List ModuleTree)
     → IsPlan us budget groups → AllTested ms us → AllFit ms → is_name name ≡ true
-    → Differ (name ∷ map (λ u. module_name u.memory.name) us) → (f : ChipFile (printed_chip (chip_of name groups us ms)) name us budget) × (f.chip.units ≡ ms)
+    → Differ (name ∷ map (λ u. module_name u.memory.name) us)
+    → (f : ChipFile (printed_chip (chip_of name groups us ms)) name us budget) × (f.chip.units ≡ ms)
 
 -- the groups are those of a plan of units with these memories
 abbrev pub IsPlanOf : List Description → List ℕ → Type 0

@@ -66,7 +66,8 @@ top_tree f = record { name = f.name; ports = port_tree f.port ∷ ports_tree f.p
 -- the tokens of each module, one behind another, and then those of the top
 abbrev pub ChipTokens : Limit → List ModuleTree → TopTree → List Token → Type 0
 ChipTokens l [] t ts = (f : TopFile) × top l f ts × (top_tree f ≡ t)
-ChipTokens l (m ∷ ms) t ts = (us : List Token) × (rest : List Token) × (ts ≡ us ++ rest) × Derives Parenthesised l us m × ChipTokens l ms t rest
+ChipTokens l (m ∷ ms) t ts = (us : List Token) × (rest : List Token) × (ts ≡ us ++ rest) × Derives Parenthesised l us m
+    × ChipTokens l ms t rest
 
 -- The bytes are tokens, which keep the limits and derive the modules and the top.
 abbrev pub ChipText : Limits → List ℕ → ChipTree → Type 0

@@ -20,4 +20,5 @@ EndsChips b t = (us : List ModuleTree) → AllFit us
 
 -- The generated top of any plan can be printed, under a legal name.
 abbrev pub GeneratedFit : Type 0
-GeneratedFit = (name : List ℕ) (us : List TestUnit) (budget : ℕ) (groups : List ℕ) → IsPlan us budget groups → is_name name ≡ true → TopFits (top_of name groups (memories us))
+GeneratedFit = (name : List ℕ) (us : List TestUnit) (budget : ℕ) (groups : List ℕ) → IsPlan us budget groups
+    → is_name name ≡ true → TopFits (top_of name groups (memories us))

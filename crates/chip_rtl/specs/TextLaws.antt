@@ -13,4 +13,5 @@ NoTwoModules = (ts : List Token) (m n : ModuleTree) → Derives Parenthesised bo
 
 -- No tokens are two chips.
 abbrev pub NoTwoChips : Type 0
-NoTwoChips = (ms ns : List ModuleTree) (t u : TopTree) (ts : List Token) → ChipTokens bounded ms t ts → ChipTokens bounded ns u ts → (ms ≡ ns) × (t ≡ u)
+NoTwoChips = (ms ns : List ModuleTree) (t u : TopTree) (ts : List Token) → ChipTokens bounded ms t ts
+    → ChipTokens bounded ns u ts → (ms ≡ ns) × (t ≡ u)

@@ -5,20 +5,20 @@ ghost use Rattle.chip_rtl.specs.PrintedTop.{link_text, links_text, placed_text, 
 ghost use Rattle.chip_rtl.specs.TopFits.{TopFits};
 ghost use Rattle.chip_rtl.specs.PrintedLaws.{EndsChips};
 
-use crate::{Link, Placed, Top};
+use crate::{Placed, PortLink, Top};
 use bist_bits::NoMemory;
 use bist_text::{put, put_between};
 use std::alloc::Global;
 use verilog_emit::{put_items, put_line, put_name_line, put_ports, put_separator};
 
-fn put_link(out: &mut Vec<u8>, link: &Link) -> Result<(), NoMemory>
+fn put_link(out: &mut Vec<u8>, link: &PortLink) -> Result<(), NoMemory>
     ensures { OnOk result (out.new.items ≡ out.old.items ++ link_text (plain_link link.now)) }
 {
     put_between(out, b".", link.port.as_str().as_bytes(), b"(")?;
     put_between(out, b"", link.net.as_str().as_bytes(), b")")
 }
 
-fn put_links(out: &mut Vec<u8>, links: &[Link]) -> Result<(), NoMemory>
+fn put_links(out: &mut Vec<u8>, links: &[PortLink]) -> Result<(), NoMemory>
     ensures { OnOk result (out.new.items ≡ out.old.items ++ links_text true (map plain_link links.now)) }
 {
     let mut first = true;

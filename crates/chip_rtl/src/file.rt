@@ -14,7 +14,7 @@ use std::alloc::Global;
 /// chip.
 ///
 /// Want of memory is its only refusal, after which the texts are as before.
-pub fn end_chip(
+pub fn append_top(
     out: &mut Vec<u8>,
     alloc: Global,
     name: &str,

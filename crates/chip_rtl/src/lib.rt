@@ -29,6 +29,6 @@ mod ports;
 mod top;
 
 pub use emit::emit_top;
-pub use file::end_chip;
+pub use file::append_top;
 pub use generate::generate_top;
-pub use top::{Link, Placed, Top};
+pub use top::{Placed, PortLink, Top};

@@ -7,7 +7,7 @@ use Rattle.scrambler.specs.Scrambling.{logical}
 use Rattle.march_core.specs.Runs.{upward}
 use Rattle.word_march.specs.PortRule.{PortValues}
 use Rattle.microcode.specs.declared.code.Instr.{Instr}
-use Rattle.microcode.specs.declared.place.Place.{Place as CodePlace}
+use Rattle.microcode.specs.declared.place.CodePlace.{CodePlace}
 use Rattle.controller.specs.declared.stage.Stage.{Stage}
 use Rattle.march_core.specs.March.{MarchElement, pause, sweep, order_of, is_pause, IsMarch}
 use Rattle.memory_desc.specs.Descriptions.{Description, IsMemory}

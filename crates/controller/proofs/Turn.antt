@@ -3,7 +3,7 @@ use Rattle.std.proofs.Common.{◌≡◌, ℕ, ◌+◌, ◌<◌, List, length, sl
 use Rattle.march_core.specs.March.{MarchElement, element_at, IsMarch}
 use Rattle.memory_desc.specs.Descriptions.{Description, IsMemory}
 use Rattle.microcode.specs.declared.code.Instr.{Instr}
-use Rattle.microcode.specs.declared.place.Place.{Place as CodePlace}
+use Rattle.microcode.specs.declared.place.CodePlace.{CodePlace}
 use Rattle.microcode.specs.Code.{opers_at, instr_of}
 use Rattle.microcode.specs.Places.{Place, IsExtent, first_place}
 use Rattle.microcode.proofs.Turn.{turns as turns_within, all_starts as all_starts_within, visits_some as visits_some_within}

@@ -57,7 +57,8 @@ pub record Starts (march : List MarchElement) (d : Description) : Type 0 where
   pub place : IsPlace march d first_place
   pub first : rest march d first_place ≡ slots march d
   pub commands : filter_map (λ s. s) (slots march d) ≡ port_ops march d
-  pub stands : (j : ℕ) (c : PortOp) → slice_get (port_ops march d) j ≡ Some c → slice_get (slots march d) (command_at march d j) ≡ Some (Some c)
+  pub stands : (j : ℕ) (c : PortOp) → slice_get (port_ops march d) j ≡ Some c
+      → slice_get (slots march d) (command_at march d j) ≡ Some (Some c)
   pub only : (k : ℕ) (c : PortOp) → slice_get (slots march d) k ≡ Some (Some c)
       → (j : ℕ) × (slice_get (port_ops march d) j ≡ Some c) × (k ≡ command_at march d j)
   pub count : length (slots march d) ≡ span march d

@@ -5,7 +5,7 @@ use Rattle.word_march.specs.declared.operations.PortOp.{PortOp}
 use Rattle.word_march.specs.Commands.{port_ops}
 use Rattle.word_march.specs.PortRule.{PortValues, cycle_of}
 use Rattle.microcode.specs.declared.code.Instr.{Instr}
-use Rattle.microcode.specs.declared.place.Place.{Place as CodePlace}
+use Rattle.microcode.specs.declared.place.CodePlace.{CodePlace}
 use Rattle.controller.specs.declared.stage.Stage.{Stage}
 use Rattle.controller.specs.declared.control.Ports.{Ports}
 use Rattle.march_core.specs.March.{MarchElement}
@@ -55,4 +55,5 @@ abbrev pub IsExpected : List MarchElement → Description → ℕ → Option ℕ
 IsExpected march d t None =
     (j : ℕ) (c : PortOp) → slice_get (port_ops march d) j ≡ Some c → c.write ≡ false → t ≢ cycle_of march d j + d.latency
 IsExpected march d t (Some word) =
-    (j : ℕ) × (c : PortOp) × (slice_get (port_ops march d) j ≡ Some c) × (c.write ≡ false) × (t ≡ cycle_of march d j + d.latency) × (word ≡ c.word)
+    (j : ℕ) × (c : PortOp) × (slice_get (port_ops march d) j ≡ Some c) × (c.write ≡ false)
+    × (t ≡ cycle_of march d j + d.latency) × (word ≡ c.word)

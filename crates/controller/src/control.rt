@@ -13,7 +13,7 @@ use crate::place::{extent_of, word_at};
 use crate::stage::{Stage, push_stage};
 use arrayvec::ArrayVec;
 use memory_desc::Memory;
-use microcode::{Code, FIRST, Instr, Place, instr_at, place_behind};
+use microcode::{CodePlace, FIRST, Instr, Program, instr_at, place_behind};
 use std::marker::Model;
 
 /// The values of the outputs in a cycle. `addr` is the logical address and `wdata` the word as it stands at the port; both
@@ -33,7 +33,7 @@ pub struct Ports {
 pub struct Control<'a> {
     code: &'a [Instr],
     memory: &'a Memory,
-    place: Place,
+    place: CodePlace,
     run: bool,
     stages: ArrayVec<Stage, 4>,
     reads: bool,
@@ -54,9 +54,10 @@ impl<'a> Model for Control<'a> {
 
 impl<'a> Control<'a> {
     /// The controller of cycle 1.
-    pub fn reset(code: &'a Code, memory: &'a Memory) -> Control<'a>
+    pub fn reset(code: &'a Program, memory: &'a Memory) -> Control<'a>
         requires { IsCode code.now.items }
-        ensures { (march : List MarchElement) (returned : ℕ → ℕ) → IsMarch march → code.now.items ≡ assemble march → StandsIn march memory.now result returned 0 }
+        ensures { (march : List MarchElement) (returned : ℕ → ℕ) → IsMarch march → code.now.items ≡ assemble march
+            → StandsIn march memory.now result returned 0 }
     {
         Control {
             code: code.as_slice(),
@@ -94,7 +95,7 @@ impl<'a> Control<'a> {
         ensures { (march : List MarchElement) (d : Description) (returned : ℕ → ℕ) (k : ℕ) → StandsIn march d self.now returned k
             → IsExpected march d (suc k) result }
     {
-        let _ = self.memory.words();
+        self.memory.known();
         if self.reads { Some(self.want) } else { None }
     }
 
@@ -178,16 +179,17 @@ fn compare(reads: bool, rdata: u64, want: u64, bad: bool) -> bool
 /// Where a controller stands a cycle later, and whether the run goes on.
 #[derive(Clone, Copy)]
 struct Turned {
-    place: Place,
+    place: CodePlace,
     run: bool,
 }
 
-fn turn(code: &[Instr], memory: &Memory, place: Place, run: bool) -> Turned
+fn turn(code: &[Instr], memory: &Memory, place: CodePlace, run: bool) -> Turned
     requires { IsSomewhere code.now memory.now place }
-    ensures turned { (march : List MarchElement) → IsAt march code.now memory.now place → IsTurned march code.now memory.now place run result.place result.run }
+    ensures turned { (march : List MarchElement) → IsAt march code.now memory.now place
+        → IsTurned march code.now memory.now place run result.place result.run }
     ensures memory { IsMemory memory.now }
 {
-    let _ = memory.words();
+    memory.known();
     if !run {
         return Turned { place, run: false };
     }

@@ -17,7 +17,8 @@ pub fn judge(march: &March, prim: &Prim) -> Verdict
     ensures verdict { IsVerdict march.now prim.now result }
     ensures each_size { (size : ℕ) → 2 ≤ size → IsVerdictAt size march.now prim.now result }
 {
-    recall(march, prim);
+    march.known();
+    prim.known();
     match least(march, prim) {
         Some(escape) => Verdict::Escape(escape),
         None => Verdict::Covered,
@@ -35,13 +36,4 @@ pub fn judge_all(alloc: Global, march: &March, prims: &[Prim]) -> Result<Vec<Ver
         }
     }
     Ok(verdicts)
-}
-
-/// Says as facts what every march and every primitive is.
-fn recall(march: &March, prim: &Prim)
-    ensures march { IsMarch march.now }
-    ensures primitive { IsPrimitive prim.now }
-{
-    let _elements = march.len();
-    let _aggressor = prim.agg();
 }

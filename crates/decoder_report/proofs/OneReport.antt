@@ -7,7 +7,7 @@ use Rattle.decoder_faults.specs.declared.fault.DecoderFault.{DecoderFault}
 use Rattle.decoder_faults.specs.declared.escape.DecoderEscape.{DecoderEscape}
 use Rattle.decoder_faults.specs.Detection.{DetectsDecoder}
 use Rattle.decoder_faults.specs.Escapes.{array_number, IsNoGreater, IsEscape}
-use Rattle.decoder_faults.proofs.Least.{content_below}
+use Rattle.escape_array.proofs.LeastArray.{content_below}
 use Rattle.report_lines.specs.Lines.{march_line, total_line, passing_text}
 use Rattle.report_lines.proofs.Listed.{counts_one, line_one, lines_one}
 use Rattle.decoder_report.specs.Report.{fault_order, fault_text, escape_text, IsEscapeText, IsLine, IsDecoderReport}

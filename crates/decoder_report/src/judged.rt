@@ -1,7 +1,7 @@
 ghost use Rattle.std.specs.Prelude.{◌≡◌, ◌≤◌, length};
 ghost use Rattle.decoder_report.specs.inner.Judged.{AreJudged, IsJudged, covered_count, is_covered};
 
-use decoder_faults::{DecoderEscape, DecoderFault, Wired, least_escape};
+use decoder_faults::{DecoderEscape, DecoderFault, Wired, least_decoder_escape};
 use march_core::March;
 
 /// A fault of the address decoder with the least array of two cells that passes a march, or none where it is detected.
@@ -17,7 +17,7 @@ fn judge_one(march: &March, fault: DecoderFault) -> JudgedFault
 {
     JudgedFault {
         fault,
-        escape: least_escape(march, fault),
+        escape: least_decoder_escape(march, fault),
     }
 }
 

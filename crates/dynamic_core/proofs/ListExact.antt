@@ -5,7 +5,7 @@ use Rattle.fault_core.specs.declared.primitive.PrimFault.TheVariants.{NotAFault 
 use Rattle.fault_syntax.specs.declared.fault.FaultFault.{FaultFault}
 use Rattle.fault_syntax.specs.declared.fault.FaultFault.TheVariants.{Unexpected, Truncated, NotAFault, TooManyOperations, TooManyPrimitives, NoMemory}
 use Rattle.fault_syntax.specs.inner.Answers.{fault_at}
-use Rattle.fault_syntax.specs.declared.words.NameSet.TheVariants.{Every}
+use Rattle.fault_syntax.specs.declared.words.AllowedNames.TheVariants.{Every}
 use Rattle.fault_syntax.specs.ListText.{Item as ListedItem, Primitive as OnePrimitive, Named, ItemLine}
 use Rattle.fault_syntax.specs.PrimText.{PrimParts}
 use Rattle.fault_syntax.proofs.LineByLine.{IsSettled, lines_one}

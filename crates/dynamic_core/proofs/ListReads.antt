@@ -7,10 +7,10 @@ use Rattle.fault_core.specs.Table.{one_cell_table, two_cell_table}
 use Rattle.fault_syntax.specs.declared.fault.FaultFault.{FaultFault}
 use Rattle.fault_syntax.specs.declared.reader.ReadItem.TheVariants.{Primitive as ReadPrimitive}
 use Rattle.fault_syntax.specs.declared.reader.ReadParts.{ReadParts}
-use Rattle.fault_syntax.specs.declared.words.Name.{Name}
-use Rattle.fault_syntax.specs.declared.words.Name.TheVariants.{All}
+use Rattle.fault_syntax.specs.declared.words.GroupName.{GroupName}
+use Rattle.fault_syntax.specs.declared.words.GroupName.TheVariants.{All}
 use Rattle.fault_syntax.specs.declared.fault.FaultFault.TheVariants.{Unexpected, Truncated, NotAFault, TooManyOperations, TooManyPrimitives, NoMemory}
-use Rattle.fault_syntax.specs.declared.words.NameSet.{NameSet}
+use Rattle.fault_syntax.specs.declared.words.AllowedNames.{AllowedNames}
 use Rattle.fault_syntax.specs.Brief.{read_parts_of, read_item_of}
 use Rattle.bist_text.specs.Lines.{TextLine}
 use Rattle.fault_syntax.specs.inner.LineByLine.{HasNoRoom}
@@ -24,7 +24,7 @@ use Rattle.dynamic_core.specs.ItemParts.{IsItemIn, RefusesOn, items_of}
 use Rattle.dynamic_core.specs.inner.Reading.{NotAdded}
 
 -- a primitive for which there is no room
-pub one_not_added : (set : NameSet) (v : Option ListedItem) (parts : ReadParts) (item : Item) (line : ℕ) (old : List Item) (r : Result (Unit {0}) FaultFault)
+pub one_not_added : (set : AllowedNames) (v : Option ListedItem) (parts : ReadParts) (item : Item) (line : ℕ) (old : List Item) (r : Result (Unit {0}) FaultFault)
     → ReadPrimitive parts ≡ read_item_of v → ((text : PrimParts) → parts ≡ read_parts_of text → IsItemIn set text item)
     → IfErr r (HasNoRoom old (item ∷ []) line) → IfErr r (NotAdded set v line old)
 one_not_added set v parts item line old (Ok u) e f h = tt
@@ -42,7 +42,7 @@ one_not_added set (Some (OnePrimitive text)) parts item line old (Err fault) e f
     parts_is = cc
 
 -- why a line's bytes aren't read is why the line isn't
-pub text_fault : (set : NameSet) (l : TextLine) (fault : FaultFault) → IsTextFault set l fault → IsFaultOn (LineOf set) OnePrimitive (RefusesOn set) l fault
+pub text_fault : (set : AllowedNames) (l : TextLine) (fault : FaultFault) → IsTextFault set l fault → IsFaultOn (LineOf set) OnePrimitive (RefusesOn set) l fault
 text_fault set l (Unexpected n k) h = h
 text_fault set l (Truncated n) h = h
 text_fault set l (NotAFault n) h = absurd h
@@ -51,5 +51,5 @@ text_fault set l (TooManyPrimitives n) h = absurd h
 text_fault set l NoMemory h = absurd h
 
 -- the table of one cell and that of two are all, as items
-pub all_plain : (one two : List Primitive) (name : Name) → one ≡ one_cell_table → two ≡ two_cell_table → name ≡ All → map Plain one ++ map Plain two ≡ items_of name
+pub all_plain : (one two : List Primitive) (name : GroupName) → one ≡ one_cell_table → two ≡ two_cell_table → name ≡ All → map Plain one ++ map Plain two ≡ items_of name
 all_plain one two name h k is = sym (map-append Plain one two) ∙ ap (map Plain) (ap (λ ps. ps ++ two) h ∙ ap (λ ps. one_cell_table ++ ps) k) ∙ ap items_of (sym is)

@@ -6,9 +6,9 @@ use Rattle.bist_text.specs.Lines.{TextLine, text_lines}
 use Rattle.fault_core.specs.Primitive.{Primitive}
 use Rattle.fault_syntax.specs.declared.fault.FaultFault.{FaultFault}
 use Rattle.fault_syntax.specs.declared.fault.FaultFault.TheVariants.{Unexpected, Truncated, NotAFault, TooManyOperations, TooManyPrimitives, NoMemory}
-use Rattle.fault_syntax.specs.declared.words.Name.{Name}
-use Rattle.fault_syntax.specs.declared.words.Name.TheVariants.{OfClass, One, Two, All, DynOne, DynTwo}
-use Rattle.fault_syntax.specs.declared.words.NameSet.TheVariants.{Static}
+use Rattle.fault_syntax.specs.declared.words.GroupName.{GroupName}
+use Rattle.fault_syntax.specs.declared.words.GroupName.TheVariants.{OfClass, One, Two, All, DynOne, DynTwo}
+use Rattle.fault_syntax.specs.declared.words.AllowedNames.TheVariants.{Static}
 use Rattle.bist_text.specs.Grammar.{is_blank}
 use Rattle.fault_syntax.specs.Answers.{RefusesAt}
 use Rattle.fault_syntax.specs.LineByLine.{BringBy, IsRefusedBehind}
@@ -36,7 +36,7 @@ behind_blanks P K f (c ∷ b) h = elim h [ inl k ↦ f (c ∷ b) k | inr k ↦ g
 abbrev AreStatic : Option ListedItem → List Item → Type 0
 AreStatic v items = (ps : List Primitive) × Brings v ps × (items ≡ map Plain ps)
 
-static_name : (n : Name) → is_in Static n ≡ true → items_of n ≡ map Plain (primitives_of n)
+static_name : (n : GroupName) → is_in Static n ≡ true → items_of n ≡ map Plain (primitives_of n)
 static_name (OfClass class) e = refl
 static_name One e = refl
 static_name Two e = refl

@@ -6,10 +6,10 @@ use Rattle.fault_core.specs.Primitive.{IsPrimitive}
 use Rattle.fault_syntax.specs.declared.fault.FaultFault.{FaultFault}
 use Rattle.fault_syntax.specs.declared.fault.FaultFault.TheVariants.{Unexpected, Truncated, NotAFault, TooManyOperations, TooManyPrimitives, NoMemory}
 use Rattle.fault_syntax.specs.declared.words.Operation.{Operation}
-use Rattle.fault_syntax.specs.declared.words.Name.{Name}
-use Rattle.fault_syntax.specs.declared.words.Name.TheVariants.{DynOne, DynTwo}
-use Rattle.fault_syntax.specs.declared.words.NameSet.{NameSet}
-use Rattle.fault_syntax.specs.declared.words.NameSet.TheVariants.{Static, Every}
+use Rattle.fault_syntax.specs.declared.words.GroupName.{GroupName}
+use Rattle.fault_syntax.specs.declared.words.GroupName.TheVariants.{DynOne, DynTwo}
+use Rattle.fault_syntax.specs.declared.words.AllowedNames.{AllowedNames}
+use Rattle.fault_syntax.specs.declared.words.AllowedNames.TheVariants.{Static, Every}
 use Rattle.fault_syntax.specs.ListText.{Item as ListedItem, Primitive as OnePrimitive, Named}
 use Rattle.fault_syntax.specs.Parts.{IsAct, StandsFor, Refuses, agg_ops, op_count, primitives_of}
 use Rattle.fault_syntax.specs.PrimText.{SenseText, PrimParts}
@@ -62,16 +62,16 @@ RefusesItem text IsNotAFault = (HasTooMany text → ⊥) × ((item : Item) → I
 
 -- ---- on a line of a list with these names; one of static names has static primitives alone
 
-abbrev pub IsItemIn : NameSet → PrimParts → Item → Type 0
+abbrev pub IsItemIn : AllowedNames → PrimParts → Item → Type 0
 IsItemIn Every text item = IsItem text item
 IsItemIn Static text (Plain p) = StandsFor text p × IsPrimitive p
 IsItemIn Static text (Dyn p) = ⊥
 
-abbrev pub RefusesIn : NameSet → PrimParts → PrimFault → Type 0
+abbrev pub RefusesIn : AllowedNames → PrimParts → PrimFault → Type 0
 RefusesIn Every text fault = RefusesItem text fault
 RefusesIn Static text fault = Refuses text fault
 
-abbrev pub RefusesOn : NameSet → ℕ → PrimParts → FaultFault → Type 0
+abbrev pub RefusesOn : AllowedNames → ℕ → PrimParts → FaultFault → Type 0
 RefusesOn set line text (TooManyOperations l) = (l ≡ line) × RefusesIn set text HasTooManyOperations
 RefusesOn set line text (NotAFault l) = (l ≡ line) × RefusesIn set text IsNotAFault
 RefusesOn set line text (Unexpected l byte) = ⊥
@@ -80,13 +80,13 @@ RefusesOn set line text (TooManyPrimitives l) = ⊥
 RefusesOn set line text NoMemory = ⊥
 
 -- the primitives of a name, in their order
-abbrev pub items_of : Name → List Item
+abbrev pub items_of : GroupName → List Item
 items_of DynOne = map Dyn dyn_one_table
 items_of DynTwo = map Dyn dyn_two_table
 items_of name = map Plain (primitives_of name)
 
 -- the primitives that a line brings
-abbrev pub BringsIn : NameSet → Option ListedItem → List Item → Type 0
+abbrev pub BringsIn : AllowedNames → Option ListedItem → List Item → Type 0
 BringsIn set None items = items ≡ []
 BringsIn set (Some (OnePrimitive text)) items = (item : Item) × IsItemIn set text item × (items ≡ item ∷ [])
 BringsIn set (Some (Named n)) items = items ≡ items_of n

@@ -1,15 +1,15 @@
 -- Trusted. What the lines of a list with dynamic primitives bring, and the first line that is refused.
 use Rattle.std.specs.Prelude.{Result, ℕ, List}
 use Rattle.fault_syntax.specs.declared.fault.FaultFault.{FaultFault}
-use Rattle.fault_syntax.specs.declared.words.NameSet.{NameSet}
-use Rattle.fault_syntax.specs.declared.words.NameSet.TheVariants.{Every}
+use Rattle.fault_syntax.specs.declared.words.AllowedNames.{AllowedNames}
+use Rattle.fault_syntax.specs.declared.words.AllowedNames.TheVariants.{Every}
 use Rattle.fault_syntax.specs.LineByLine.{SpellsLines, ReadsLines}
 use Rattle.fault_syntax.specs.ListText.{Primitive as OnePrimitive, LineOf}
 use Rattle.dynamic_core.specs.declared.item.Item.{Item}
 use Rattle.dynamic_core.specs.ItemParts.{RefusesOn, BringsIn}
 
 -- what the bytes of a list with these names are read as
-abbrev pub ReadsIn : NameSet → List ℕ → Result (List Item) FaultFault → Type 0
+abbrev pub ReadsIn : AllowedNames → List ℕ → Result (List Item) FaultFault → Type 0
 ReadsIn set bytes r = ReadsLines (LineOf set) (BringsIn set) OnePrimitive (RefusesOn set) bytes r
 
 -- the bytes are a list of these items, with any names

@@ -10,21 +10,24 @@ ghost use Rattle.dynamic_core.specs.Testing.{two_acts, acts_in};
 use crate::item::Item;
 use crate::primitive::{DynPrim, DynSense, left_by};
 use fault_core::{Act, PrimFault};
-use fault_syntax::{Brief, Operation, ReadParts, act_of, judge_parts};
+use fault_syntax::{Brief, Operation, ReadParts, judge_parts, written_act};
 
 /// The acts that two operations are; None where a read shows another bit than the content before it.
 fn two_acts_of(state: bool, first: Operation, second: Operation) -> Option<[Act; 2]>
-    ensures { MatchOption result ((acts : Option TwoActs) → AreTwo state first second acts → ⊥) (λ acts. AreTwo state first second (Some (two_acts acts))) }
+    ensures { MatchOption result ((acts : Option TwoActs) → AreTwo state first second acts → ⊥)
+        (λ acts. AreTwo state first second (Some (two_acts acts))) }
 {
-    let first = act_of(state, first)?;
-    let second = act_of(left_by(state, first), second)?;
+    let first = written_act(state, first)?;
+    let second = written_act(left_by(state, first), second)?;
     Some([first, second])
 }
 
 /// The acts of a sense that is written with no operation or with two; None where there are others, or where a read
 /// shows another bit than the content before it.
 fn acts_of(brief: Brief) -> Option<Option<[Act; 2]>>
-    ensures { (text : SenseText) → brief ≡ brief_of text → MatchOption result ((acts : Option TwoActs) → AreActs text.state text.ops acts → ⊥) (λ acts. AreActs text.state text.ops (acts_in acts)) }
+    ensures { (text : SenseText) → brief ≡ brief_of text
+        → MatchOption result ((acts : Option TwoActs) → AreActs text.state text.ops acts → ⊥)
+        (λ acts. AreActs text.state text.ops (acts_in acts)) }
 {
     match (brief.first, brief.second) {
         (None, _) => Some(None),
@@ -40,7 +43,8 @@ fn acts_of(brief: Brief) -> Option<Option<[Act; 2]>>
 
 /// The sense that is written so.
 fn sense_of(brief: Brief) -> Option<DynSense>
-    ensures { (text : SenseText) → brief ≡ brief_of text → MatchOption result ((sense : DynamicSense) → IsDynamicSense text sense → ⊥) (IsDynamicSense text) }
+    ensures { (text : SenseText) → brief ≡ brief_of text
+        → MatchOption result ((sense : DynamicSense) → IsDynamicSense text sense → ⊥) (IsDynamicSense text) }
 {
     let acts = acts_of(brief)?;
     Some(DynSense {
@@ -51,7 +55,8 @@ fn sense_of(brief: Brief) -> Option<DynSense>
 
 /// The same of the aggressor, where there is one.
 fn aggressor_of(agg: Option<Brief>) -> Option<Option<DynSense>>
-    ensures { (text : Option SenseText) → agg ≡ option_map brief_of text → MatchOption result ((a : Option DynamicSense) → IsDynamicAggressor text a → ⊥) (IsDynamicAggressor text) }
+    ensures { (text : Option SenseText) → agg ≡ option_map brief_of text
+        → MatchOption result ((a : Option DynamicSense) → IsDynamicAggressor text a → ⊥) (IsDynamicAggressor text) }
 {
     match agg {
         None => Some(None),
@@ -61,7 +66,9 @@ fn aggressor_of(agg: Option<Brief>) -> Option<Option<DynSense>>
 
 /// The dynamic primitive of parts that were read.
 fn dynamic_of(parts: ReadParts) -> Option<DynPrim>
-    ensures { (text : PrimParts) → parts ≡ read_parts_of text → MatchOption result ((p : DynamicPrimitive) → StandsForDynamic text p → IsDynamic p → ⊥) (λ p. StandsForDynamic text p × IsDynamic p) }
+    ensures { (text : PrimParts) → parts ≡ read_parts_of text
+        → MatchOption result ((p : DynamicPrimitive) → StandsForDynamic text p → IsDynamic p → ⊥)
+        (λ p. StandsForDynamic text p × IsDynamic p) }
 {
     let agg = aggressor_of(parts.agg)?;
     let vic = sense_of(parts.vic)?;

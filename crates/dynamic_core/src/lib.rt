@@ -26,5 +26,5 @@ pub use list::{read_items, read_list};
 pub use primitive::{DynPrim, DynSense};
 pub use print::print_dyn;
 pub use simulation::{DynInstance, simulate_dyn};
-pub use stepping::step;
+pub use stepping::step_dynamic;
 pub use table::{dyn_one, dyn_two};

@@ -15,17 +15,19 @@ use crate::judge::judge_item;
 use crate::table::{dyn_one, dyn_two};
 use bist_text::Lines;
 use fault_core::{Prim, PrimFault, members, one_cell, two_cell};
-use fault_syntax::{FaultFault, Name, NameSet, ReadItem, ReadParts, judge_parts, read_line};
+use fault_syntax::{
+    AllowedNames, FaultFault, GroupName, ReadItem, ReadParts, judge_parts, read_line,
+};
 use std::alloc::Global;
 
 /// The most primitives that a list may have.
 const MOST: usize = 1024;
 
 /// The primitive of parts that were read in a list with these names.
-fn judge_in(parts: ReadParts, set: NameSet) -> Result<Item, PrimFault>
+fn judge_in(parts: ReadParts, set: AllowedNames) -> Result<Item, PrimFault>
     ensures { (text : PrimParts) → parts ≡ read_parts_of text → JudgesItemIn set text result }
 {
-    if let NameSet::Every = set {
+    if let AllowedNames::Every = set {
         return judge_item(parts);
     }
     match judge_parts(parts) {
@@ -35,7 +37,7 @@ fn judge_in(parts: ReadParts, set: NameSet) -> Result<Item, PrimFault>
 }
 
 /// The primitive of parts that were read on a line of a list with these names.
-fn judge_at(parts: ReadParts, line: usize, set: NameSet) -> Result<Item, FaultFault>
+fn judge_at(parts: ReadParts, line: usize, set: AllowedNames) -> Result<Item, FaultFault>
     ensures { (text : PrimParts) → parts ≡ read_parts_of text → JudgesItemOn set line text result }
 {
     match judge_in(parts, set) {
@@ -61,21 +63,21 @@ fn append<T: Listed>(items: &mut Vec<Item>, prims: &[T], line: usize) -> Result<
     Ok(())
 }
 
-fn append_named(items: &mut Vec<Item>, name: Name, line: usize) -> Result<(), FaultFault>
+fn append_named(items: &mut Vec<Item>, name: GroupName, line: usize) -> Result<(), FaultFault>
     ensures ok { OnOk result (items.new.items ≡ items.old.items ++ items_of name) }
     ensures within { OnOk result (length items.new.items ≤ 1024) }
     ensures err { IfErr result (HasNoRoom items.old.items (items_of name) line) }
 {
     match name {
-        Name::OfClass(class) => append(items, members(class).as_slice(), line),
-        Name::One => append(items, &one_cell(), line),
-        Name::Two => append(items, &two_cell(), line),
-        Name::All => {
+        GroupName::OfClass(class) => append(items, members(class).as_slice(), line),
+        GroupName::One => append(items, &one_cell(), line),
+        GroupName::Two => append(items, &two_cell(), line),
+        GroupName::All => {
             append(items, &one_cell(), line)?;
             append(items, &two_cell(), line)
         }
-        Name::DynOne => append(items, dyn_one().as_slice(), line),
-        Name::DynTwo => append(items, dyn_two().as_slice(), line),
+        GroupName::DynOne => append(items, dyn_one().as_slice(), line),
+        GroupName::DynTwo => append(items, dyn_two().as_slice(), line),
     }
 }
 
@@ -84,7 +86,7 @@ fn add_item(
     items: &mut Vec<Item>,
     read: ReadItem,
     line: usize,
-    set: NameSet,
+    set: AllowedNames,
 ) -> Result<(), FaultFault>
     requires { length items.old.items ≤ 1024 }
     ensures ok { (v : Option ListedItem) → read ≡ read_item_of v → OnOk result (AddsItems set v items.old.items items.new.items) }
@@ -101,7 +103,7 @@ fn add_item(
 }
 
 /// Reads the lines, one after another.
-fn read_lines(alloc: Global, bytes: &[u8], set: NameSet) -> Result<Vec<Item>, FaultFault>
+fn read_lines(alloc: Global, bytes: &[u8], set: AllowedNames) -> Result<Vec<Item>, FaultFault>
     ensures ok { IfOk result (λ items. ReadsIn set bytes.now (Ok items.items)) }
     ensures refused { IfErr result (λ fault. (fault ≡ FaultFault.NoMemory) ⊎ ReadsIn set bytes.now (Err fault)) }
 {
@@ -134,7 +136,7 @@ fn read_statics(alloc: Global, bytes: &[u8]) -> Result<Vec<Prim>, FaultFault>
     ensures ok { IfOk result (λ prims. ReadsList bytes.now (Ok prims.items)) }
     ensures refused { IfErr result (λ fault. (fault ≡ FaultFault.NoMemory) ⊎ ReadsList bytes.now (Err fault)) }
 {
-    let items = read_lines(alloc, bytes, NameSet::Static)?;
+    let items = read_lines(alloc, bytes, AllowedNames::Static)?;
     statics(alloc, items.as_slice())
 }
 
@@ -142,14 +144,17 @@ fn read_statics(alloc: Global, bytes: &[u8]) -> Result<Vec<Prim>, FaultFault>
 pub fn read_list(alloc: Global, bytes: &[u8]) -> Result<Vec<Prim>, FaultFault>
     // What is read is what the lines bring, in their order, and at most 1,024; and that is read, unless memory runs out.
     ensures ok { IfOk result (λ prims. ReadsList bytes.now (Ok prims.items)) }
-    ensures accepted { (ps : List Primitive) → ReadsList bytes.now (Ok ps) → MatchResult result (λ prims. prims.items ≡ ps) (λ fault. fault ≡ FaultFault.NoMemory) }
+    ensures accepted { (ps : List Primitive) → ReadsList bytes.now (Ok ps)
+        → MatchResult result (λ prims. prims.items ≡ ps) (λ fault. fault ≡ FaultFault.NoMemory) }
 
     // F1 to F5, at the first line that is refused and nowhere else; and they come, unless memory runs out before.
     ensures refused { IfErr result (λ fault. (fault ≡ FaultFault.NoMemory) ⊎ ReadsList bytes.now (Err fault)) }
-    ensures refuses { (fault : FaultFault) → ReadsList bytes.now (Err fault) → MatchResult result (λ prims. ⊥) (λ other. (other ≡ fault) ⊎ (other ≡ FaultFault.NoMemory)) }
+    ensures refuses { (fault : FaultFault) → ReadsList bytes.now (Err fault)
+        → MatchResult result (λ prims. ⊥) (λ other. (other ≡ fault) ⊎ (other ≡ FaultFault.NoMemory)) }
 
     // The bytes are read as one thing.
-    ensures one_reading { (q : Result (List Primitive) FaultFault) (r : Result (List Primitive) FaultFault) → ReadsList bytes.now q → ReadsList bytes.now r → q ≡ r }
+    ensures one_reading { (q : Result (List Primitive) FaultFault) (r : Result (List Primitive) FaultFault)
+        → ReadsList bytes.now q → ReadsList bytes.now r → q ≡ r }
 {
     read_statics(alloc, bytes)
 }
@@ -160,14 +165,17 @@ pub fn read_list(alloc: Global, bytes: &[u8]) -> Result<Vec<Prim>, FaultFault>
 pub fn read_items(alloc: Global, bytes: &[u8]) -> Result<Vec<Item>, FaultFault>
     // What is read is what the lines bring, in their order, and at most 1,024; and that is read, unless memory runs out.
     ensures ok { IfOk result (λ items. ReadsItems bytes.now (Ok items.items)) }
-    ensures accepted { (list : List Item) → ReadsItems bytes.now (Ok list) → MatchResult result (λ items. items.items ≡ list) (λ fault. fault ≡ FaultFault.NoMemory) }
+    ensures accepted { (list : List Item) → ReadsItems bytes.now (Ok list)
+        → MatchResult result (λ items. items.items ≡ list) (λ fault. fault ≡ FaultFault.NoMemory) }
 
     // F1 to F5, at the first line that is refused and nowhere else; and they come, unless memory runs out before.
     ensures refused { IfErr result (λ fault. (fault ≡ FaultFault.NoMemory) ⊎ ReadsItems bytes.now (Err fault)) }
-    ensures refuses { (fault : FaultFault) → ReadsItems bytes.now (Err fault) → MatchResult result (λ items. ⊥) (λ other. (other ≡ fault) ⊎ (other ≡ FaultFault.NoMemory)) }
+    ensures refuses { (fault : FaultFault) → ReadsItems bytes.now (Err fault)
+        → MatchResult result (λ items. ⊥) (λ other. (other ≡ fault) ⊎ (other ≡ FaultFault.NoMemory)) }
 
     // The bytes are read as one thing.
-    ensures one_reading { (q : Result (List Item) FaultFault) (r : Result (List Item) FaultFault) → ReadsItems bytes.now q → ReadsItems bytes.now r → q ≡ r }
+    ensures one_reading { (q : Result (List Item) FaultFault) (r : Result (List Item) FaultFault)
+        → ReadsItems bytes.now q → ReadsItems bytes.now r → q ≡ r }
 {
-    read_lines(alloc, bytes, NameSet::Every)
+    read_lines(alloc, bytes, AllowedNames::Every)
 }

@@ -65,7 +65,8 @@ pub fn print_dyn(prim: &DynPrim) -> ArrayString<32>
     ensures form { result.bytes ≡ printed_dynamic prim.now }
 
     // It is the line of a list whose item is this very primitive, and a list of it alone, as `read_items` reads it.
-    ensures read_back { (text : PrimParts) × ItemLine result.bytes (Some (Primitive text)) × StandsForDynamic text prim.now × IsDynamic prim.now }
+    ensures read_back { (text : PrimParts) × ItemLine result.bytes (Some (Primitive text))
+        × StandsForDynamic text prim.now × IsDynamic prim.now }
     ensures list { ReadsItems result.bytes (Ok (Dyn prim.now ∷ [])) }
 {
     prim_text(prim)

@@ -11,7 +11,7 @@ ghost use Rattle.dynamic_core.specs.inner.Detecting.{ending_of};
 ghost use Rattle.dynamic_core.specs.Instances.{dyn_places};
 
 use crate::primitive::DynPrim;
-use crate::stepping::step;
+use crate::stepping::step_dynamic;
 use array_sim::act_of;
 use fault_core::Places;
 use march_core::{March, Miss, Op, address_of, is_down, is_wrong};
@@ -36,10 +36,11 @@ fn run_cell(
 ) -> Option<Miss>
     requires places { FitsDyn prim.now places (length cells.old) }
     requires within { address < length cells.old }
-    ensures { ending_as result (held_as cells.new armed.new) ≡ dyn_run prim.now places (held_as cells.old armed.old) (steps_of (cell_visits element address 0 ops.now)) }
+    ensures { ending_as result (held_as cells.new armed.new)
+        ≡ dyn_run prim.now places (held_as cells.old armed.old) (steps_of (cell_visits element address 0 ops.now)) }
 {
     for (number, op) in ops.iter().enumerate() {
-        let answer = step(prim, places, cells, armed, address, act_of(*op));
+        let answer = step_dynamic(prim, places, cells, armed, address, act_of(*op));
         if is_wrong(*op, answer) {
             return Some(Miss {
                 element,
@@ -62,7 +63,9 @@ fn run_sweep(
     is_down: bool,
 ) -> Option<Miss>
     requires places { FitsDyn prim.now places (length cells.old) }
-    ensures { ending_as result (held_as cells.new armed.new) ≡ dyn_run prim.now places (held_as cells.old armed.old) (steps_of (address_visits element ops.now (addresses (direction_of is_down) (length cells.old)))) }
+    ensures { ending_as result (held_as cells.new armed.new)
+        ≡ dyn_run prim.now places (held_as cells.old armed.old)
+        (steps_of (address_visits element ops.now (addresses (direction_of is_down) (length cells.old)))) }
 {
     let size = cells.len();
     for place in 0..size {
@@ -87,7 +90,9 @@ fn run_element(
     requires places { FitsDyn prim.now places (length cells.old) }
     requires there { element < length march.now }
     requires within { element < 64 }
-    ensures { ending_as result (held_as cells.new armed.new) ≡ dyn_run prim.now places (held_as cells.old armed.old) (element_visits element (element_at march.now element) (direction_at directions element) (length cells.old)) }
+    ensures { ending_as result (held_as cells.new armed.new)
+        ≡ dyn_run prim.now places (held_as cells.old armed.old)
+        (element_visits element (element_at march.now element) (direction_at directions element) (length cells.old)) }
 {
     if march.is_pause(element) {
         *armed = false;
@@ -116,7 +121,8 @@ fn run_elements(
 ) -> Option<Miss>
     requires places { FitsDyn prim.now places (length cells.old) }
     requires begins { armed.old ≡ false }
-    ensures { ending_as result (held_as cells.new armed.new) ≡ ending_of march.now (directions_of directions (length march.now)) prim.now places cells.old }
+    ensures { ending_as result (held_as cells.new armed.new)
+        ≡ ending_of march.now (directions_of directions (length march.now)) prim.now places cells.old }
 {
     for element in 0..march.len() {
         if let Some(miss) = run_element(prim, places, cells, armed, march, element, directions) {
@@ -137,10 +143,17 @@ pub fn simulate_dyn(
 ) -> Option<Miss>
     requires places { FitsDyn instance.now.prim (dyn_places instance.now) (length cells.old) }
     requires fits { FitsWord march.now directions }
-    ensures caught { IsSome result ↔ IsCaughtDyn march.now (directions_of directions (length march.now)) instance.now.prim (dyn_places instance.now) cells.old }
-    ensures first { IfSome result (λ miss. IsFirstDynMiss instance.now.prim (dyn_places instance.now) (held_as cells.old false) (visits march.now (directions_of directions (length march.now)) (length cells.old)) miss) }
-    ensures passed { result ≡ None → cells.new ≡ cells_after_dyn march.now (directions_of directions (length march.now)) instance.now.prim (dyn_places instance.now) cells.old }
-    ensures stopped { IfSome result (λ miss. StopsAtDyn instance.now.prim (dyn_places instance.now) (held_as cells.old false) (visits march.now (directions_of directions (length march.now)) (length cells.old)) miss cells.new) }
+    ensures caught { IsSome result ↔ IsCaughtDyn march.now
+        (directions_of directions (length march.now)) instance.now.prim (dyn_places instance.now) cells.old }
+    ensures first { IfSome result (λ miss. IsFirstDynMiss instance.now.prim (dyn_places instance.now)
+        (held_as cells.old false) (visits march.now (directions_of directions (length march.now))
+        (length cells.old)) miss) }
+    ensures passed { result ≡ None → cells.new
+        ≡ cells_after_dyn march.now (directions_of directions (length march.now)) instance.now.prim
+        (dyn_places instance.now) cells.old }
+    ensures stopped { IfSome result (λ miss. StopsAtDyn instance.now.prim (dyn_places instance.now)
+        (held_as cells.old false) (visits march.now (directions_of directions (length march.now))
+        (length cells.old)) miss cells.new) }
 {
     let places = Places {
         agg: instance.agg,

@@ -100,7 +100,7 @@ fn set_where(hit: bool, cells: &mut [bool], at: usize, bit: bool)
 /// One act on one cell, with what the primitive makes of it. `armed` says whether the primitive's first act was
 /// done on contents where its states hold, in the step just before. The answer is that of a read.
 #[tactic(auto, unfolding(crate::specs::Dynamic::dyn_step, crate::specs::Dynamic::dyn_cells, crate::specs::Dynamic::dyn_answer))]
-pub fn step(
+pub fn step_dynamic(
     prim: &DynPrim,
     places: Places,
     cells: &mut [bool],

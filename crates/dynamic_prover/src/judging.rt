@@ -77,16 +77,9 @@ pub fn judge_dyn(march: &March, prim: &DynPrim) -> DynVerdict
     ensures verdict { IsDynVerdict march.now prim.now result }
     ensures each_size { (size : ℕ) → 4 ≤ size → IsDynVerdictAt size march.now prim.now result }
 {
-    recall(march);
+    march.known();
     match least(march, prim) {
         Some(escape) => DynVerdict::Escape(escape),
         None => DynVerdict::Covered,
     }
-}
-
-/// Says as a fact what every march is.
-fn recall(march: &March)
-    ensures { IsMarch march.now }
-{
-    let _elements = march.len();
 }

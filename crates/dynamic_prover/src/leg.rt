@@ -97,7 +97,8 @@ impl Leg {
 /// The table of an element, by those of single operations on each of the two cells.
 fn leg_of(march: &March, on_aggressor: &OpTable, on_victim: &OpTable, element: usize) -> Leg
     requires { element < length march.now }
-    ensures { (p : DynamicPrimitive) → IsOpTable p A on_aggressor.now → IsOpTable p V on_victim.now → IsLeg p (element_at march.now element) result }
+    ensures { (p : DynamicPrimitive) → IsOpTable p A on_aggressor.now → IsOpTable p V on_victim.now
+        → IsLeg p (element_at march.now element) result }
 {
     if march.is_pause(element) {
         return Leg::Pause;

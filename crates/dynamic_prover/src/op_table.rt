@@ -81,7 +81,8 @@ impl OpTable {
 
     /// Where these operations lead from each of the contents.
     pub(crate) fn ends(&self, ops: &[Op]) -> [Option<OwnCells>; 8]
-        ensures ends { (p : DynamicPrimitive) (s : Side) → IsOpTable p s self.now → (q : OwnCells) → end_from result q ≡ own_run p q s ops.now }
+        ensures ends { (p : DynamicPrimitive) (s : Side) → IsOpTable p s self.now → (q : OwnCells)
+            → end_from result q ≡ own_run p q s ops.now }
         ensures each { length result ≡ 8 }
     {
         [

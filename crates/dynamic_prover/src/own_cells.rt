@@ -6,7 +6,7 @@ ghost use Rattle.dynamic_prover.specs.inner.Legs.{own_number, passed_where};
 
 use array_sim::act_of;
 use cell_machine::{Pair, Side};
-use dynamic_core::{DynPrim, step};
+use dynamic_core::{DynPrim, step_dynamic};
 use fault_core::{Act, Places};
 use march_core::{Op, is_wrong};
 
@@ -85,7 +85,7 @@ fn act_on(prim: &DynPrim, start: OwnCells, on: Side, act: Act) -> Acted
 {
     let mut cells = [start.pair.a, start.pair.v];
     let mut armed = start.armed;
-    let answer = step(
+    let answer = step_dynamic(
         prim,
         two_places(prim),
         &mut cells,

@@ -22,7 +22,7 @@ use Rattle.escape_array.specs.Escapes.{IsEscape, IsLeastEscape, IsNoGreater, pla
 use Rattle.escape_array.specs.inner.Searching.{NoneBefore, IsLeastIn}
 
 -- two cells hold one of four contents
-content_below : (content : List Bool) → length content ≡ 2 → content_number content < 4
+pub content_below : (content : List Bool) → length content ≡ 2 → content_number content < 4
 content_below [] e = cc
 content_below (x ∷ []) e = cc
 content_below (true ∷ true ∷ []) e = omega arith

@@ -39,7 +39,9 @@ fn instance_in(escape: &EscapeArray) -> Instance
 pub fn replays(march: &March, escape: &EscapeArray) -> bool
     requires places { FitsPlace escape.now.prim (places_of_escape escape.now) 2 }
     requires directions { FitsWord march.now escape.now.directions }
-    ensures { IsTrue result ↔ (IsCaught march.now (directions_of escape.now.directions (length march.now)) escape.now.prim (places_of_escape escape.now) escape.now.content → ⊥) }
+    ensures { IsTrue result ↔ (IsCaught march.now
+        (directions_of escape.now.directions (length march.now)) escape.now.prim
+        (places_of_escape escape.now) escape.now.content → ⊥) }
 {
     let mut cells = escape.content;
     let instance = instance_in(escape);

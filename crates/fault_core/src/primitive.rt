@@ -106,6 +106,13 @@ impl FaultPrimitive {
         self.agg
     }
 
+    /// Recalls to the prover what holds of every primitive. It does nothing.
+    pub fn known(&self)
+        ensures { IsPrimitive self.now }
+    {
+        let _aggressor = self.agg;
+    }
+
     /// What the victim holds, and what is done to it.
     pub fn vic(&self) -> Sense
         ensures { result ≡ self.now.vic }

@@ -6,14 +6,14 @@ use Rattle.bist_text.proofs.Settled.{answers_one, scan_exact}
 use Rattle.fault_syntax.specs.declared.reader.ReadItem.{ReadItem}
 use Rattle.fault_syntax.specs.declared.reader.Refusal.{Refusal}
 use Rattle.fault_syntax.specs.declared.words.Form.TheVariants.{Listed}
-use Rattle.fault_syntax.specs.declared.words.NameSet.{NameSet}
+use Rattle.fault_syntax.specs.declared.words.AllowedNames.{AllowedNames}
 use Rattle.fault_syntax.specs.inner.Brief.{answer_of}
 use Rattle.fault_syntax.specs.inner.LineReading.{Says}
 use Rattle.fault_syntax.specs.ListText.{Item, LineOf}
 use Rattle.fault_syntax.specs.inner.Places.{start, step, value, rest}
 use Rattle.fault_syntax.proofs.PlaceLaws.{follows, line_is}
 
-module _ (set : NameSet) where
+module _ (set : AllowedNames) where
   line_exact : (b : List ℕ) → IsExact (LineOf set) b (scan (step (Listed set)) (value (Listed set)) b start 0)
   line_exact b =
       scan_exact (step (Listed set)) (value (Listed set)) (rest (Listed set)) (λ s. Unit {0}) (follows (Listed set)) (LineOf set) start tt (line_is set) b

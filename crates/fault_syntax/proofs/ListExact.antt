@@ -1,7 +1,7 @@
 -- A list is read as one list of primitives, or refused in one way.
 use Rattle.std.proofs.Common.{◌≡◌, List, [], ◌∷◌, ◌∙◌, Option, Some, None, sym, ap}
 use Rattle.fault_core.specs.Primitive.{Primitive}
-use Rattle.fault_syntax.specs.declared.words.NameSet.TheVariants.{Static}
+use Rattle.fault_syntax.specs.declared.words.AllowedNames.TheVariants.{Static}
 use Rattle.fault_syntax.specs.Answers.{RefusesAt}
 use Rattle.fault_syntax.specs.ListText.{Item, Primitive as OnePrimitive, Named, LineText}
 use Rattle.fault_syntax.specs.Parts.{Brings}

@@ -10,10 +10,10 @@ use Rattle.bist_text.proofs.Pieces.{stay}
 use Rattle.fault_core.specs.declared.table.Class.TheVariants.{SF, TF, WDF, RDF, DRDF, IRF, CFst, CFds, CFtr, CFwd, CFrd, CFdr, CFir, DRF}
 use Rattle.fault_syntax.specs.declared.words.Form.{Form}
 use Rattle.fault_syntax.specs.declared.words.Form.TheVariants.{Single, Listed}
-use Rattle.fault_syntax.specs.declared.words.Name.{Name}
-use Rattle.fault_syntax.specs.declared.words.Name.TheVariants.{OfClass, One, Two, All, DynOne, DynTwo}
-use Rattle.fault_syntax.specs.declared.words.NameSet.{NameSet}
-use Rattle.fault_syntax.specs.declared.words.NameSet.TheVariants.{Static, Every}
+use Rattle.fault_syntax.specs.declared.words.GroupName.{GroupName}
+use Rattle.fault_syntax.specs.declared.words.GroupName.TheVariants.{OfClass, One, Two, All, DynOne, DynTwo}
+use Rattle.fault_syntax.specs.declared.words.AllowedNames.{AllowedNames}
+use Rattle.fault_syntax.specs.declared.words.AllowedNames.TheVariants.{Static, Every}
 use Rattle.fault_syntax.specs.Names.{name_text, is_in}
 use Rattle.fault_syntax.specs.inner.Names.{static_names, names_of, words_of}
 
@@ -23,7 +23,7 @@ fine Single = refl
 fine (Listed Static) = refl
 fine (Listed Every) = refl
 
-abbrev pub sf : Word Name
+abbrev pub sf : Word GroupName
 sf = record { text = name_text (OfClass SF); value = OfClass SF }
 
 pub first_word : (form : Form) → slice_get (words_of form) 0 ≡ Some sf
@@ -31,20 +31,20 @@ first_word Single = refl
 first_word (Listed Static) = refl
 first_word (Listed Every) = refl
 
-abbrev pub NoName : NameSet → ℕ → Type 0
+abbrev pub NoName : AllowedNames → ℕ → Type 0
 NoName set c = seek [] c 0 (words_of (Listed set)) ≡ None
 
 -- blanks and marks begin no name
-pub no_names : (set : NameSet) → NoName set 32 × NoName set 9 × NoName set 13 × NoName set 60 × NoName set 35
+pub no_names : (set : AllowedNames) → NoName set 32 × NoName set 9 × NoName set 13 × NoName set 60 × NoName set 35
 no_names Static = (refl, refl, refl, refl, refl)
 no_names Every = (refl, refl, refl, refl, refl)
 
 -- the names of a set
-in_either : (i : ℕ) (n : Name) (set : NameSet) → slice_get static_names i ≡ Some n → slice_get (names_of (Listed Every)) i ≡ Some n → IsOf (names_of (Listed set)) n
+in_either : (i : ℕ) (n : GroupName) (set : AllowedNames) → slice_get static_names i ≡ Some n → slice_get (names_of (Listed Every)) i ≡ Some n → IsOf (names_of (Listed set)) n
 in_either i n Static h k = is_at static_names i n h
 in_either i n Every h k = is_at (names_of (Listed Every)) i n k
 
-name_in : (set : NameSet) (n : Name) → is_in set n ≡ true → IsOf (names_of (Listed set)) n
+name_in : (set : AllowedNames) (n : GroupName) → is_in set n ≡ true → IsOf (names_of (Listed set)) n
 name_in set (OfClass SF) e = in_either 0 (OfClass SF) set refl refl
 name_in set (OfClass TF) e = in_either 1 (OfClass TF) set refl refl
 name_in set (OfClass WDF) e = in_either 2 (OfClass WDF) set refl refl
@@ -67,12 +67,12 @@ name_in Static DynTwo e = cc
 name_in Every DynOne e = is_at (names_of (Listed Every)) 17 DynOne refl
 name_in Every DynTwo e = is_at (names_of (Listed Every)) 18 DynTwo refl
 
-all_in : (set : NameSet) → list_all (is_in set) (names_of (Listed set)) ≡ true
+all_in : (set : AllowedNames) → list_all (is_in set) (names_of (Listed set)) ≡ true
 all_in Static = refl
 all_in Every = refl
 
 -- a name that the set has, by its word
-pub named : (set : NameSet) (n : Name) (K : List ℕ → Type 0) (b : List ℕ) → stands (words_of (Listed set)) n K b ↔ ((is_in set n ≡ true) × word (name_text n) K b)
+pub named : (set : AllowedNames) (n : GroupName) (K : List ℕ → Type 0) (b : List ℕ) → stands (words_of (Listed set)) n K b ↔ ((is_in set n ≡ true) × word (name_text n) K b)
 named set n K b =
     let all = stands_all (λ m. name_text m ∷ []) (names_of (Listed set)) n K b in (
       λ h. let k = all.0 h in (is_passed (is_in set) (names_of (Listed set)) n (all_in set) k.0, (stay (λ z. z)).0 k.1),

@@ -17,8 +17,8 @@ use Rattle.fault_syntax.specs.declared.words.Operation.{Operation}
 use Rattle.fault_syntax.specs.declared.words.Operation.TheVariants.{Write, Read, Pause}
 use Rattle.fault_syntax.specs.declared.words.Form.{Form}
 use Rattle.fault_syntax.specs.declared.words.Form.TheVariants.{Single, Listed}
-use Rattle.fault_syntax.specs.declared.words.Name.{Name}
-use Rattle.fault_syntax.specs.declared.words.NameSet.{NameSet}
+use Rattle.fault_syntax.specs.declared.words.GroupName.{GroupName}
+use Rattle.fault_syntax.specs.declared.words.AllowedNames.{AllowedNames}
 use Rattle.fault_syntax.specs.inner.Names.{words_of}
 use Rattle.fault_syntax.specs.declared.place.Place.{Place}
 use Rattle.fault_syntax.specs.declared.place.Place.TheVariants.{Start, Spelling, Opened, Lead, Sensed, Digit, Effect, Left, Reply, Replied, Closed, Comment}
@@ -43,7 +43,7 @@ no_prim P f None h = h
 no_prim P f (Some (Primitive p)) h = f p h
 no_prim P f (Some (Named n)) h = h
 
-name_iff : (P Q : Name → Type 0) → ((n : Name) → P n ↔ Q n) → (v : Option Item) → in_name P v ↔ in_name Q v
+name_iff : (P Q : GroupName → Type 0) → ((n : GroupName) → P n ↔ Q n) → (v : Option Item) → in_name P v ↔ in_name Q v
 name_iff P Q f None = same
 name_iff P Q f (Some (Primitive p)) = same
 name_iff P Q f (Some (Named n)) = f n
@@ -511,7 +511,7 @@ goes_replied l s c b v =
 keep_second : {A B C : Type 0} → B ↔ C → (A × B) ↔ (A × C)
 keep_second f = (λ h. (h.0, f.0 h.1), λ h. (h.0, f.1 h.1))
 
-goes_closed_listed : (set : NameSet) (s : State) (c : ℕ) (b : List ℕ) (v : Option Item) → Law (Listed set) Closed s b v c
+goes_closed_listed : (set : AllowedNames) (s : State) (c : ℕ) (b : List ℕ) (v : Option Item) → Law (Listed set) Closed s b v c
 goes_closed_listed set s c b v =
     at_byte P c 32 (keep_second (skip (neither (λ z. z) (λ z. z)))) (λ n32.
     at_byte P c 9 (keep_second (skip (neither (λ z. z) (λ z. z)))) (λ n9.
@@ -533,7 +533,7 @@ goes_closed_single s c b v =
     P x = Law Single Closed s b v x
 
 -- a letter of a name
-named_on : (l : Form) (s : State) (o : Option (Spelled Name)) (b : List ℕ) (v : Option Item)
+named_on : (l : Form) (s : State) (o : Option (Spelled GroupName)) (b : List ℕ) (v : Option Item)
     → in_name (λ n. Holds o (λ q. left (words_of l) q n (ws (ending l)) b)) v ↔ Holds (option_map (moved s) (spelling o)) (λ t. rest l t b v)
 named_on l s None b None = same
 named_on l s None b (Some (Primitive p)) = same
@@ -543,7 +543,7 @@ named_on l s (Some (Whole k)) b None = never (λ h. h) (λ h. let e : None ≡ S
 named_on l s (Some (Whole k)) b (Some (Primitive p)) = never (λ h. h) (λ h. let e : Some (Primitive p) ≡ Some (Named k) = h.0 in cc)
 named_on l s (Some (Whole k)) b (Some (Named n)) = (λ h. (ap (λ x. Some (Named x)) h.0, h.1), λ h. (named_is n k h.0, h.1))
   where
-    named_is : (n k : Name) → (let x : Option Item = Some (Named n) in x ≡ Some (Named k)) → n ≡ k
+    named_is : (n k : GroupName) → (let x : Option Item = Some (Named n) in x ≡ Some (Named k)) → n ≡ k
     named_is n k e = cc
 
 goes_spelling : (l : Form) (q : Letters) (s : State) (c : ℕ) (b : List ℕ) (v : Option Item) → Law l (Spelling q) s b v c
@@ -553,11 +553,11 @@ goes_spelling l q s c b v =
     (λ n. spell_law (words_of l) (fine l) q n (ws (ending l)) c b) v)
     (named_on l s (spell (words_of l) q c) b v)
 
-no_name : (set : NameSet) (n : Name) (K : List ℕ → Type 0) (c : ℕ) (b : List ℕ) → NoName set c → stands (words_of (Listed set)) n K (c ∷ b) → ⊥
+no_name : (set : AllowedNames) (n : GroupName) (K : List ℕ → Type 0) (c : ℕ) (b : List ℕ) → NoName set c → stands (words_of (Listed set)) n K (c ∷ b) → ⊥
 no_name set n K c b e h =
-    subst (λ (o : Option (Spelled Name)). Holds o (λ q. left (words_of (Listed set)) q n K b)) e ((first_law (words_of (Listed set)) (fine (Listed set)) n K c b).0 h)
+    subst (λ (o : Option (Spelled GroupName)). Holds o (λ q. left (words_of (Listed set)) q n K b)) e ((first_law (words_of (Listed set)) (fine (Listed set)) n K c b).0 h)
 
-no_line : (set : NameSet) (v : Option Item) (c : ℕ) (b : List ℕ) → (c == 60) ≡ false → (c == 35) ≡ false → NoName set c → begins (Listed set) v (c ∷ b) → ⊥
+no_line : (set : AllowedNames) (v : Option Item) (c : ℕ) (b : List ℕ) → (c == 60) ≡ false → (c == 35) ≡ false → NoName set c → begins (Listed set) v (c ∷ b) → ⊥
 no_line set None c b e f n h = neither (λ z. z) (λ z. let k : when false (anything b) = subst (λ q. when q (anything b)) f z in k) h
 no_line set (Some (Primitive p)) c b e f n h = rw e at h
 no_line set (Some (Named k)) c b e f n h = no_name set k (ws line_end) c b n h
@@ -579,18 +579,18 @@ opens l v b = go l v
     go Single (Some (Named k)) = same
 
 -- a comment, or a name
-comment : (set : NameSet) (v : Option Item) (b : List ℕ) → begins (Listed set) v (35 ∷ b) ↔ ((v ≡ None) × anything b)
+comment : (set : AllowedNames) (v : Option Item) (b : List ℕ) → begins (Listed set) v (35 ∷ b) ↔ ((v ≡ None) × anything b)
 comment set None b = (λ h. (refl, tt), λ h. inr tt)
 comment set (Some (Primitive p)) b = never (λ h. h) (λ h. let e : Some (Primitive p) ≡ None = h.0 in cc)
 comment set (Some (Named n)) b = never (no_name set n (ws line_end) 35 b (no_names set).4) (λ h. let e : Some (Named n) ≡ None = h.0 in cc)
 
-name_wants : (set : NameSet) (v : Option Item) (c : ℕ) (b : List ℕ) → (c == 60) ≡ false → (c == 35) ≡ false
+name_wants : (set : AllowedNames) (v : Option Item) (c : ℕ) (b : List ℕ) → (c == 60) ≡ false → (c == 35) ≡ false
     → begins (Listed set) v (c ∷ b) ↔ in_name (λ n. Holds (seek [] c 0 (words_of (Listed set))) (λ q. left (words_of (Listed set)) q n (ws line_end) b)) v
 name_wants set None c b e f = never (neither (λ z. z) (λ z. let k : when false (anything b) = subst (λ q. when q (anything b)) f z in k)) (λ h. h)
 name_wants set (Some (Primitive p)) c b e f = never (λ h. rw e at h) (λ h. h)
 name_wants set (Some (Named n)) c b e f = first_law (words_of (Listed set)) (fine (Listed set)) n (ws line_end) c b
 
-goes_start_listed : (set : NameSet) (s : State) (c : ℕ) (b : List ℕ) (v : Option Item) → Law (Listed set) Start s b v c
+goes_start_listed : (set : AllowedNames) (s : State) (c : ℕ) (b : List ℕ) (v : Option Item) → Law (Listed set) Start s b v c
 goes_start_listed set s c b v =
     at_byte P c 32 (skip (no_line set v 32 b refl refl (no_names set).0)) (λ n32.
     at_byte P c 9 (skip (no_line set v 9 b refl refl (no_names set).1)) (λ n9.
@@ -767,7 +767,7 @@ follows l = record {
   keeps = λ s c t w e. tt;
 }
 
-pub line_is : (set : NameSet) (b : List ℕ) (v : Option Item) → rest (Listed set) start b v ↔ LineOf set b v
+pub line_is : (set : AllowedNames) (b : List ℕ) (v : Option Item) → rest (Listed set) start b v ↔ LineOf set b v
 line_is set b None = same
 line_is set b (Some (Primitive p)) = same
 line_is set b (Some (Named n)) = many_iff is_blank (stands (words_of (Listed set)) n (ws line_end)) (item set (Named n) (ws line_end)) (named set n (ws line_end)) b

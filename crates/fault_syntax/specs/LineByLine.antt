@@ -16,7 +16,8 @@ module _ {V : Type 0} (Line : List ℕ → Option V → Type 0) (written : PrimP
   IsFaultOn l (Unexpected line byte) = (line ≡ l.number) × IsUnexpectedOn Line l byte
   IsFaultOn l (Truncated line) = (line ≡ l.number) × (l.ended ≡ false) × IsTruncated Line l.text
   IsFaultOn l (NotAFault line) = (text : PrimParts) × Line l.text (Some (written text)) × Refuses l.number text (NotAFault line)
-  IsFaultOn l (TooManyOperations line) = (text : PrimParts) × Line l.text (Some (written text)) × Refuses l.number text (TooManyOperations line)
+  IsFaultOn l (TooManyOperations line) = (text : PrimParts) × Line l.text (Some (written text))
+      × Refuses l.number text (TooManyOperations line)
   IsFaultOn l (TooManyPrimitives line) = ⊥
   IsFaultOn l NoMemory = ⊥
 
@@ -25,7 +26,8 @@ module _ {V P : Type 0} (Line : List ℕ → Option V → Type 0) (Brings : Opti
   abbrev pub BringBy : List TextLine → List P → Type 0
   BringBy [] ps = ps ≡ []
   BringBy (l ∷ ls) ps =
-      (item : Option V) × (first : List P) × (others : List P) × Line l.text item × Brings item first × BringBy ls others × (ps ≡ first ++ others)
+      (item : Option V) × (first : List P) × (others : List P) × Line l.text item × Brings item first
+      × BringBy ls others × (ps ≡ first ++ others)
 
   -- the lines of these bytes bring these primitives, at most 1,024
   abbrev pub SpellsLines : List ℕ → List P → Type 0

@@ -2,10 +2,10 @@
 use Rattle.std.specs.Prelude.{ℕ, Bool, true, false, List, codes}
 use Rattle.fault_core.specs.declared.table.Class.{Class}
 use Rattle.fault_core.specs.declared.table.Class.TheVariants.{SF, TF, WDF, RDF, DRDF, IRF, CFst, CFds, CFtr, CFwd, CFrd, CFdr, CFir, DRF}
-use Rattle.fault_syntax.specs.declared.words.Name.{Name}
-use Rattle.fault_syntax.specs.declared.words.Name.TheVariants.{OfClass, One, Two, All, DynOne, DynTwo}
-use Rattle.fault_syntax.specs.declared.words.NameSet.{NameSet}
-use Rattle.fault_syntax.specs.declared.words.NameSet.TheVariants.{Static, Every}
+use Rattle.fault_syntax.specs.declared.words.GroupName.{GroupName}
+use Rattle.fault_syntax.specs.declared.words.GroupName.TheVariants.{OfClass, One, Two, All, DynOne, DynTwo}
+use Rattle.fault_syntax.specs.declared.words.AllowedNames.{AllowedNames}
+use Rattle.fault_syntax.specs.declared.words.AllowedNames.TheVariants.{Static, Every}
 
 -- the name of a class, in lists and reports
 abbrev pub class_text : Class → List ℕ
@@ -24,7 +24,7 @@ class_text CFdr = codes "CFdr"
 class_text CFir = codes "CFir"
 class_text DRF = codes "DRF"
 
-abbrev pub name_text : Name → List ℕ
+abbrev pub name_text : GroupName → List ℕ
 name_text (OfClass class) = class_text class
 name_text One = codes "one"
 name_text Two = codes "two"
@@ -33,7 +33,7 @@ name_text DynOne = codes "dyn1"
 name_text DynTwo = codes "dyn2"
 
 -- whether a list with these names may have this one
-abbrev pub is_in : NameSet → Name → Bool
+abbrev pub is_in : AllowedNames → GroupName → Bool
 is_in Every n = true
 is_in Static DynOne = false
 is_in Static DynTwo = false

@@ -9,8 +9,8 @@ use Rattle.fault_core.specs.Primitive.{Primitive, IsPrimitive}
 use Rattle.fault_core.specs.Table.{members_of, one_cell_table, two_cell_table}
 use Rattle.fault_syntax.specs.declared.words.Operation.{Operation}
 use Rattle.fault_syntax.specs.declared.words.Operation.TheVariants.{Write, Read, Pause}
-use Rattle.fault_syntax.specs.declared.words.Name.{Name}
-use Rattle.fault_syntax.specs.declared.words.Name.TheVariants.{OfClass, One, Two, All, DynOne, DynTwo}
+use Rattle.fault_syntax.specs.declared.words.GroupName.{GroupName}
+use Rattle.fault_syntax.specs.declared.words.GroupName.TheVariants.{OfClass, One, Two, All, DynOne, DynTwo}
 use Rattle.fault_syntax.specs.ListText.{Item, Primitive as OnePrimitive, Named}
 use Rattle.fault_syntax.specs.PrimText.{SenseText, PrimParts}
 
@@ -60,7 +60,7 @@ Judges text (Ok p) = StandsFor text p × IsPrimitive p
 Judges text (Err fault) = Refuses text fault
 
 -- the static primitives of a name, in their order
-abbrev pub primitives_of : Name → List Primitive
+abbrev pub primitives_of : GroupName → List Primitive
 primitives_of (OfClass class) = members_of class
 primitives_of One = one_cell_table
 primitives_of Two = two_cell_table

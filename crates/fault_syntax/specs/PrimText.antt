@@ -59,7 +59,8 @@ sense s K b = word (bit_text s.state) (more_ops s.ops K) b ⊎ led s.state s.ops
 
 -- ws "/" ws bit ws "/" ws answer ws ">"
 abbrev pub effect : PrimParts → (List ℕ → Type 0) → List ℕ → Type 0
-effect p K = ws (word (codes "/") (ws (word (bit_text p.after) (ws (word (codes "/") (ws (word (answer_text p.answer) (ws (word (codes ">") K)))))))))
+effect p K = ws (word (codes "/") (ws (word (bit_text p.after)
+    (ws (word (codes "/") (ws (word (answer_text p.answer) (ws (word (codes ">") K)))))))))
 
 -- [ sense ws ";" ws ] sense
 abbrev pub senses : Option SenseText → SenseText → (List ℕ → Type 0) → List ℕ → Type 0

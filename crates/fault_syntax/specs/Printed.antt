@@ -22,4 +22,5 @@ aggressor_text (Some sense) = sense_text sense ++ codes ";"
 
 -- `<S/F/R>` or `<A;S/F/R>`
 abbrev pub printed : Primitive → List ℕ
-printed p = codes "<" ++ aggressor_text p.agg ++ sense_text p.vic ++ codes "/" ++ bit_text p.after ++ codes "/" ++ answer_text p.answer ++ codes ">"
+printed p = codes "<" ++ aggressor_text p.agg ++ sense_text p.vic ++ codes "/" ++ bit_text p.after ++ codes "/"
+    ++ answer_text p.answer ++ codes ">"

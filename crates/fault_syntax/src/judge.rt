@@ -10,7 +10,7 @@ use crate::words::Operation;
 use fault_core::{Act, Prim, PrimFault, Sense};
 
 /// The act that an operation is; None for a read of another bit than the state.
-pub fn act_of(state: bool, op: Operation) -> Option<Act>
+pub fn written_act(state: bool, op: Operation) -> Option<Act>
     ensures { MatchOption result ((act : Option Act) → IsAct state op act → ⊥) (λ act. IsAct state op (Some act)) }
 {
     match op {
@@ -22,19 +22,21 @@ pub fn act_of(state: bool, op: Operation) -> Option<Act>
 
 /// The sense that is written with at most one operation; None where its read shows another bit than the state.
 fn sense_of(brief: Brief) -> Option<Sense>
-    ensures { (text : SenseText) → brief ≡ brief_of text → length text.ops ≤ 1 → MatchOption result ((sense : Sense) → IsSense text sense → ⊥) (IsSense text) }
+    ensures { (text : SenseText) → brief ≡ brief_of text → length text.ops ≤ 1
+        → MatchOption result ((sense : Sense) → IsSense text sense → ⊥) (IsSense text) }
 {
     let state = brief.state;
     let act = match brief.first {
         None => None,
-        Some(op) => Some(act_of(state, op)?),
+        Some(op) => Some(written_act(state, op)?),
     };
     Some(Sense { state, act })
 }
 
 /// The same of the aggressor, where there is one.
 fn aggressor_of(agg: Option<Brief>) -> Option<Option<Sense>>
-    ensures { (text : Option SenseText) → agg ≡ option_map brief_of text → length (agg_ops text) ≤ 1 → MatchOption result ((a : Option Sense) → IsAggressor text a → ⊥) (IsAggressor text) }
+    ensures { (text : Option SenseText) → agg ≡ option_map brief_of text → length (agg_ops text) ≤ 1
+        → MatchOption result ((a : Option Sense) → IsAggressor text a → ⊥) (IsAggressor text) }
 {
     match agg {
         None => Some(None),

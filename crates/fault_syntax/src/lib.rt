@@ -22,9 +22,9 @@ mod reader;
 mod words;
 
 pub use fault::FaultFault;
-pub use judge::{act_of, judge as judge_parts};
+pub use judge::{judge as judge_parts, written_act};
 pub use line::read_line;
 pub use prim::read_prim;
 pub use print::{answer, bit, print_prim, push_act};
 pub use reader::{Brief, ReadItem, ReadParts};
-pub use words::{Name, NameSet, Operation, class_name};
+pub use words::{AllowedNames, GroupName, Operation, class_name};

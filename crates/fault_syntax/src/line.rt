@@ -5,11 +5,11 @@ ghost use Rattle.fault_syntax.specs.LineReading.{LineGives};
 
 use crate::fault::FaultFault;
 use crate::reader::{ReadItem, Refusal, read_item};
-use crate::words::{Form, NameSet};
+use crate::words::{AllowedNames, Form};
 use bist_text::Line;
 
 /// Reads the text of a line, without its line feed.
-fn line_item(text: &[u8], set: NameSet) -> Result<ReadItem, Refusal>
+fn line_item(text: &[u8], set: AllowedNames) -> Result<ReadItem, Refusal>
     ensures { Says set text.now result }
 {
     read_item(text, Form::Listed(set))
@@ -17,7 +17,7 @@ fn line_item(text: &[u8], set: NameSet) -> Result<ReadItem, Refusal>
 
 /// Reads the item of a line of a list that may have these names. A line that ended too early can't be continued at
 /// its line feed.
-pub fn read_line(line: &Line<'_>, set: NameSet) -> Result<ReadItem, FaultFault>
+pub fn read_line(line: &Line<'_>, set: AllowedNames) -> Result<ReadItem, FaultFault>
     ensures { LineGives set (plain_line line.now) result }
 {
     let number = line.number;

@@ -2,7 +2,7 @@ ghost use Rattle.std.specs.Prelude.{◌≡◌, Bool, Some, false};
 ghost use Rattle.bist_text.specs.Grammar.{is_blank};
 ghost use Rattle.fault_syntax.specs.inner.Places.{spelling, named_at, comment_at, bit_of, operation, move_at, may_end, IsOutside, IsSense, IsEffect};
 
-use crate::words::{Form, Name, Operation, words_of};
+use crate::words::{Form, GroupName, Operation, words_of};
 use bist_text::{Letters, Spelled, first_letter, next_letter};
 
 /// The letter of an operation that has a digit.
@@ -58,7 +58,7 @@ pub(crate) enum Event {
     Answers(Option<bool>),
     /// The primitive is whole.
     Closes,
-    Names(Name),
+    Names(GroupName),
     /// There is no item.
     Nothing,
 }
@@ -68,7 +68,7 @@ pub(crate) enum Event {
 pub(crate) enum Kind {
     NoItem,
     IsPrimitive,
-    IsNamed(Name),
+    IsNamed(GroupName),
 }
 
 /// Where a reader goes by a byte.
@@ -87,7 +87,7 @@ impl Move {
 }
 
 /// Goes on in a name.
-fn in_name(spelled: Option<Spelled<Name>>) -> Option<Move>
+fn in_name(spelled: Option<Spelled<GroupName>>) -> Option<Move>
     ensures { result ≡ spelling spelled }
 {
     match spelled? {

@@ -6,7 +6,7 @@ ghost use Rattle.fault_syntax.specs.PrimText.{SenseText};
 ghost use Rattle.fault_syntax.specs.inner.Places.{State, start, step, value, after_event, item_at};
 
 use crate::place::{Event, Kind, Place, is_end, next_move};
-use crate::words::{Form, Name, Operation};
+use crate::words::{Form, GroupName, Operation};
 
 /// What is kept of a written sense: of its operations the first two, and whether there are more.
 #[derive(Clone, Copy)]
@@ -42,7 +42,7 @@ pub struct ReadParts {
 pub enum ReadItem {
     Nothing,
     Primitive(ReadParts),
-    Named(Name),
+    Named(GroupName),
 }
 
 /// Why a text is refused, with the byte.

@@ -16,7 +16,7 @@ pub enum Operation {
 
 /// A word of a list that stands for primitives.
 #[derive(Clone, Copy)]
-pub enum Name {
+pub enum GroupName {
     OfClass(Class),
     One,
     Two,
@@ -29,7 +29,7 @@ pub enum Name {
 
 /// Which names a list may have.
 #[derive(Clone, Copy)]
-pub enum NameSet {
+pub enum AllowedNames {
     /// Those of static primitives.
     Static,
     Every,
@@ -39,38 +39,38 @@ pub enum NameSet {
 #[derive(Clone, Copy)]
 pub(crate) enum Form {
     Single,
-    Listed(NameSet),
+    Listed(AllowedNames),
 }
 
 /// The words of a list, those of static primitives first.
-static WORDS: [Keyword<Name>; 19] = [
-    Keyword("SF", Name::OfClass(Class::SF)),
-    Keyword("TF", Name::OfClass(Class::TF)),
-    Keyword("WDF", Name::OfClass(Class::WDF)),
-    Keyword("RDF", Name::OfClass(Class::RDF)),
-    Keyword("DRDF", Name::OfClass(Class::DRDF)),
-    Keyword("IRF", Name::OfClass(Class::IRF)),
-    Keyword("CFst", Name::OfClass(Class::CFst)),
-    Keyword("CFds", Name::OfClass(Class::CFds)),
-    Keyword("CFtr", Name::OfClass(Class::CFtr)),
-    Keyword("CFwd", Name::OfClass(Class::CFwd)),
-    Keyword("CFrd", Name::OfClass(Class::CFrd)),
-    Keyword("CFdr", Name::OfClass(Class::CFdr)),
-    Keyword("CFir", Name::OfClass(Class::CFir)),
-    Keyword("DRF", Name::OfClass(Class::DRF)),
-    Keyword("one", Name::One),
-    Keyword("two", Name::Two),
-    Keyword("all", Name::All),
-    Keyword("dyn1", Name::DynOne),
-    Keyword("dyn2", Name::DynTwo),
+static WORDS: [Keyword<GroupName>; 19] = [
+    Keyword("SF", GroupName::OfClass(Class::SF)),
+    Keyword("TF", GroupName::OfClass(Class::TF)),
+    Keyword("WDF", GroupName::OfClass(Class::WDF)),
+    Keyword("RDF", GroupName::OfClass(Class::RDF)),
+    Keyword("DRDF", GroupName::OfClass(Class::DRDF)),
+    Keyword("IRF", GroupName::OfClass(Class::IRF)),
+    Keyword("CFst", GroupName::OfClass(Class::CFst)),
+    Keyword("CFds", GroupName::OfClass(Class::CFds)),
+    Keyword("CFtr", GroupName::OfClass(Class::CFtr)),
+    Keyword("CFwd", GroupName::OfClass(Class::CFwd)),
+    Keyword("CFrd", GroupName::OfClass(Class::CFrd)),
+    Keyword("CFdr", GroupName::OfClass(Class::CFdr)),
+    Keyword("CFir", GroupName::OfClass(Class::CFir)),
+    Keyword("DRF", GroupName::OfClass(Class::DRF)),
+    Keyword("one", GroupName::One),
+    Keyword("two", GroupName::Two),
+    Keyword("all", GroupName::All),
+    Keyword("dyn1", GroupName::DynOne),
+    Keyword("dyn2", GroupName::DynTwo),
 ];
 
 /// The words that may stand in a form.
-pub(crate) fn words_of(form: Form) -> &'static [Keyword<Name>]
+pub(crate) fn words_of(form: Form) -> &'static [Keyword<GroupName>]
     ensures { map word_of result.now ≡ words_of form }
 {
     match form {
-        Form::Listed(NameSet::Every) => &WORDS,
+        Form::Listed(AllowedNames::Every) => &WORDS,
         _ => &WORDS[..17],
     }
 }

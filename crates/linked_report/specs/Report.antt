@@ -62,7 +62,8 @@ kind_size kind links = count_by (is_of_kind kind) links
 -- of a kind: how many of these links it has, and how many of them the march detects
 abbrev pub IsKindLine : List MarchElement → List Link → LinkKind → List ℕ → Type 0
 IsKindLine march links kind line =
-    (covered : ℕ) × CountsOf (Detects march) (filter (is_of_kind kind) links) covered × (line ≡ kind_line kind (kind_size kind links) covered)
+    (covered : ℕ) × CountsOf (Detects march) (filter (is_of_kind kind) links) covered
+    × (line ≡ kind_line kind (kind_size kind links) covered)
 
 -- The bytes are the report of a march on the linked faults.
 pub record IsLinkedReport (text : List ℕ) (march : List MarchElement) : Type 0 where

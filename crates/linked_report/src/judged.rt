@@ -4,7 +4,7 @@ ghost use Rattle.std.specs.Prelude.{◌≡◌, ◌≤◌, IfOk, length, count_by
 ghost use Rattle.linked_report.specs.Links.{AreJudgedLinks, is_link_covered};
 
 use bist_bits::NoMemory;
-use linked_faults::{Link, LinkEscape, least_escape};
+use linked_faults::{Link, LinkEscape, least_linked_escape};
 use march_core::March;
 use std::alloc::Global;
 
@@ -27,7 +27,7 @@ pub(crate) fn judge_links(
     for link in links {
         let next = JudgedLink {
             link: *link,
-            escape: least_escape(march, link),
+            escape: least_linked_escape(march, link),
         };
         if judged.push(next).is_err() {
             return Err(NoMemory);

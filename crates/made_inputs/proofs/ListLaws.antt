@@ -1,7 +1,7 @@
 -- The list's text is read as its primitives.
 use Rattle.std.proofs.Common.{◌≡◌, ℕ, zero, suc, ◌+◌, ◌*◌, List, ◌++◌, Some, Ok, inl, length, map, refl, ap, arith, codes, length-append}
 use Rattle.bist_text.specs.Lines.{lines_from}
-use Rattle.fault_syntax.specs.declared.words.Name.TheVariants.{All}
+use Rattle.fault_syntax.specs.declared.words.GroupName.TheVariants.{All}
 use Rattle.fault_syntax.specs.ListText.{Named, ItemLine}
 use Rattle.fault_syntax.specs.Parts.{primitives_of}
 use Rattle.memory_desc.proofs.BackLines.{first_line}

@@ -1,6 +1,6 @@
 -- Trusted. The list of every number: all static primitives, 21 times.
 use Rattle.std.specs.Prelude.{ℕ, zero, suc, List, [], ◌++◌, map, codes}
-use Rattle.fault_syntax.specs.declared.words.Name.TheVariants.{All}
+use Rattle.fault_syntax.specs.declared.words.GroupName.TheVariants.{All}
 use Rattle.fault_syntax.specs.Parts.{primitives_of}
 use Rattle.dynamic_core.specs.declared.item.Item.{Item}
 use Rattle.dynamic_core.specs.declared.item.Item.TheVariants.{Plain}

@@ -56,7 +56,8 @@ IsRefused elements Empty = IsFilled elements → ⊥
 IsRefused elements (ReadBeforeWrite element number) =
     IsFilled elements × (bit : Bool) × IsReadAfterRightOnes elements element number bit × HasNoWrite (ops_before elements element number)
 IsRefused elements (WrongExpect element number) =
-    IsFilled elements × (bit : Bool) × IsReadAfterRightOnes elements element number bit × LastWrites (ops_before elements element number) (not bit)
+    IsFilled elements × (bit : Bool) × IsReadAfterRightOnes elements element number bit
+    × LastWrites (ops_before elements element number) (not bit)
 IsRefused elements (Unexpected byte) = ⊥
 IsRefused elements Truncated = ⊥
 IsRefused elements TooManyElements = ⊥

@@ -43,6 +43,13 @@ impl March {
         self.elements.len()
     }
 
+    /// Recalls to the prover what holds of every march. It does nothing.
+    pub fn known(&self)
+        ensures { IsMarch self.now }
+    {
+        let _elements = self.elements.len();
+    }
+
     /// Whether an element is a pause.
     pub fn is_pause(&self, i: usize) -> bool
         requires { i < length self.now }

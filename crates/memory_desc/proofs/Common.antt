@@ -37,7 +37,7 @@ pub use Rattle.bist_text.specs.LineGrammar.{gap, space, tail}
 pub use Rattle.bist_text.specs.Lines.{TextLine, lines_from, lines_left, lines_of_parts, text_lines}
 pub use Rattle.bist_text.specs.Numbers.{hex_digits, word_text}
 pub use Rattle.bist_text.specs.ReservedWords.{is_among, reserved_words}
-pub use Rattle.bist_text.specs.declared.keyed_lines.Class.TheVariants.{Number}
+pub use Rattle.bist_text.specs.declared.keyed_lines.WordKind.TheVariants.{Number}
 pub use Rattle.bist_text.specs.keyed.Parts.{by_byte, by_item, byte_of, end_of, fits_of, remark_of, spaced, word_of}
 pub use Rattle.bist_text.specs.keyed.Reading.{Read, onward, stuck, took}
 pub use Rattle.bist_text.specs.keyed.Texts.{checked, walk}

@@ -2,7 +2,7 @@
 use Rattle.memory_desc.proofs.Common.{Content, ContentText, ap, eqb-true, more_words, LineOf, List, Memory, None, One, Option, Scramble, Some, Term, Two, [], argument, argument_of, backgrounds, bits, codes, equation, fits_of, heard, inl, inr, is_blank, is_formed, is_hex, is_l, key_text, keys_in, keys_of, kind_of, latency, list_all, listed_of, log, log_of, may_stand, name, pause, polarity, refl, scramble, slice_get, stands, stuck, sym, tail, told_iff, true, version, when_false, word, words, ℕ, ◌==◌, ◌↔◌, ◌∙◌, ◌∷◌, ◌≡◌, ◌⊎◌}
 use Rattle.bist_text.specs.inner.Keywords.{are_apart}
 use Rattle.bist_text.specs.inner.Machine.{IsExact}
-use Rattle.bist_text.specs.declared.keyed_lines.Class.TheVariants.{Name as NameWord}
+use Rattle.bist_text.specs.declared.keyed_lines.WordKind.TheVariants.{Name as NameWord}
 use Rattle.bist_text.specs.keyed.Numbers.{is_number, number}
 use Rattle.bist_text.proofs.Carried.{Said, byte_carries, nothing, value_carries}
 use Rattle.bist_text.proofs.KeywordLaws.{IsOf, is_at, is_passed}

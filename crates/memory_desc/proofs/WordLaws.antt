@@ -1,6 +1,6 @@
 -- The words of a list are taken as the grammar says.
 use Rattle.memory_desc.proofs.Common.{choice_shortens, Behind, Continues, IsNext, List, None, Read, Remark, Shortens, Some, Told, [], ap, arith, at_bool, by_item, digits_value, fits_of, gap_off, gap_on, hex_word_of, if◌then◌else◌, inl, inr, is_blank, is_hex, length, longer, more_words, next_word_of, no_item, one_item, onward, refl, remark_of, remark_told, run_is, same, space, spaced, spaced_shorter, spaced_word_of, stuck, subst, suc, sym, tail, tail_blank, tail_other, told_from, told_iff, took, true, word_of, word_shortens, ℕ, ◌&&◌, ◌∷◌, ◌≡◌}
-use Rattle.bist_text.specs.declared.keyed_lines.Class.TheVariants.{Word as HexWord}
+use Rattle.bist_text.specs.declared.keyed_lines.WordKind.TheVariants.{Word as HexWord}
 use Rattle.bist_text.proofs.Carried.{Said}
 use Rattle.bist_text.proofs.LineStops.{gap_stops, tail_stops}
 use Rattle.bist_text.proofs.keyed.Listed.{Begins, IsItem, by_first, choice_told}

@@ -107,4 +107,5 @@ of_lines T.OtherVersion = OtherVersion
 abbrev pub Reads : List ℕ → Result Description MemoryFault → Type 0
 Reads bytes (Ok d) = SpellsMemory bytes d
 Reads bytes (Err fault) =
-    ((f : TextFault) × AreRefused ContentText stands version_in (text_lines bytes) None f × (fault ≡ of_lines f)) ⊎ ((ss : List Statement) × AreStatements bytes ss × AreRefusedBy ss fault)
+    ((f : TextFault) × AreRefused ContentText stands version_in (text_lines bytes) None f × (fault ≡ of_lines f))
+    ⊎ ((ss : List Statement) × AreStatements bytes ss × AreRefusedBy ss fault)

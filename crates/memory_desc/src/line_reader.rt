@@ -12,7 +12,7 @@ use crate::row_reader::row;
 use crate::word_reader::backgrounds;
 use bist_text::Keyword;
 use bist_text::keyed_lines::{
-    Class, LineFault, Read, blanks, ended, fault_at, gap, hex_number, key, number, word,
+    LineFault, Read, WordKind, blanks, ended, fault_at, gap, hex_number, key, number, word,
 };
 
 /// The first words of lines: those of a line of any version, and those that came with version 2.
@@ -41,7 +41,9 @@ fn keys_of(given: Option<Version>) -> &'static [Keyword<Key>]
 
 /// A content line.
 fn keyed<'a>(text: &'a [u8], given: Option<Version>) -> Read<'a, Content<'a>>
-    ensures { MatchResult result (λ r. keyed_of (keys_of given) argument_of text.now ≡ took (Some (plain_content r.0)) r.1.now) (λ left. keyed_of (keys_of given) argument_of text.now ≡ stuck left.now) }
+    ensures { MatchResult result (λ r. keyed_of (keys_of given) argument_of text.now
+        ≡ took (Some (plain_content r.0)) r.1.now)
+        (λ left. keyed_of (keys_of given) argument_of text.now ≡ stuck left.now) }
 {
     let (key, text) = key(text, keys_of(given))?;
     let ((), text) = gap(text)?;
@@ -52,7 +54,7 @@ fn keyed<'a>(text: &'a [u8], given: Option<Version>) -> Read<'a, Content<'a>>
         Key::Latency => Quantity::Latency,
         Key::Pause => Quantity::Pause,
         Key::Name => {
-            let (name, text) = word(text, Class::Name)?;
+            let (name, text) = word(text, WordKind::Name)?;
             return ended(text, Content::Name(name));
         }
         Key::Polarity => {

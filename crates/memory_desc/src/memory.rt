@@ -47,6 +47,13 @@ impl Memory {
         self.words
     }
 
+    /// Recalls to the prover what holds of every memory. It does nothing.
+    pub fn known(&self)
+        ensures { IsMemory self.now }
+    {
+        let _words = self.words;
+    }
+
     /// How many bits a word has: 1 to 64.
     pub fn bits(&self) -> u8
         ensures value { result ≡ self.now.bits }

@@ -40,7 +40,10 @@ fn opening(plain: bool) -> &'static [u8]
 /// What stands before the rows: the name and the sizes, and what version 2 says besides, where it is needed. Here and below
 /// each line's end is written with the line behind it.
 fn put_head(out: &mut Vec<u8>, memory: &Memory) -> Result<(), NoMemory>
-    ensures { OnOk result ((cs : List Content) → out.new.items ++ further memory.now.bits cs ≡ out.old.items ++ lines_text memory.now.bits (with_head memory.now (is_plain memory.now) (with_ports memory.now (is_plain memory.now) cs))) }
+    ensures { OnOk result ((cs : List Content)
+        → out.new.items ++ further memory.now.bits cs ≡ out.old.items
+        ++ lines_text memory.now.bits (with_head memory.now (is_plain memory.now)
+        (with_ports memory.now (is_plain memory.now) cs))) }
 {
     let plain = is_plain(memory);
     put_between(out, opening(plain), memory.name().as_bytes(), b"\nwords ")?;
@@ -58,7 +61,8 @@ fn put_head(out: &mut Vec<u8>, memory: &Memory) -> Result<(), NoMemory>
 /// A row: the index bits that it names, and 1 where its constant is 1.
 fn put_row(out: &mut Vec<u8>, scramble: &Scramble, i: u8) -> Result<(), NoMemory>
     requires { i < scramble.now.width }
-    ensures { OnOk result (out.new.items ≡ out.old.items ++ (codes "\nscramble a" ++ (decimal i ++ terms_text 61 (row_terms scramble.now i)))) }
+    ensures { OnOk result (out.new.items ≡ out.old.items
+        ++ (codes "\nscramble a" ++ (decimal i ++ terms_text 61 (row_terms scramble.now i)))) }
 {
     put_number(out, b"\nscramble a", u64::from(i))?;
     let names = scramble.row(i);

@@ -103,7 +103,8 @@ impl<'a> Iterator for Terms<'a> {
 
 /// The row of a `scramble` line.
 pub fn row(text: &[u8]) -> Read<'_, Content<'_>>
-    ensures { MatchResult result (λ r. row_of text.now ≡ took (Some (plain_content r.0)) r.1.now) (λ left. row_of text.now ≡ stuck left.now) }
+    ensures { MatchResult result (λ r. row_of text.now ≡ took (Some (plain_content r.0)) r.1.now)
+        (λ left. row_of text.now ≡ stuck left.now) }
 {
     let ((), text) = byte(text, b'a')?;
     let (bit, text) = number(text)?;

@@ -90,7 +90,8 @@ impl<'a> Iterator for Words<'a> {
 
 /// The backgrounds of a `backgrounds` line: `log`, or a list of words to the end of the line.
 pub fn backgrounds(text: &[u8]) -> Read<'_, Content<'_>>
-    ensures { MatchResult result (λ r. backgrounds_of text.now ≡ took (Some (plain_content r.0)) r.1.now) (λ left. backgrounds_of text.now ≡ stuck left.now) }
+    ensures { MatchResult result (λ r. backgrounds_of text.now ≡ took (Some (plain_content r.0)) r.1.now)
+        (λ left. backgrounds_of text.now ≡ stuck left.now) }
 {
     if let [b'l', rest @ ..] = text {
         let ((), rest) = byte(rest, b'o')?;

@@ -3,7 +3,7 @@ use Rattle.std.proofs.Common.{◌≡◌, ℕ, zero, suc, ◌+◌, ◌-◌, ◌<�
 use Rattle.std.proofs.lemmas.Option.{same_Some, slice_get_within}
 use Rattle.std.proofs.lemmas.Bool.Decides.{eqb_tells}
 use Rattle.microcode.specs.declared.code.Instr.{Instr}
-use Rattle.microcode.specs.declared.place.Place.{Place as CodePlace}
+use Rattle.microcode.specs.declared.place.CodePlace.{CodePlace}
 use Rattle.microcode.specs.declared.place.Extent.{Extent}
 use Rattle.march_core.specs.March.{MarchElement, pause, sweep, is_pause, element_at}
 use Rattle.microcode.specs.Code.{opers_of, opers_at, instr_of, instrs_from, assemble, first_of}

@@ -10,7 +10,7 @@ use Rattle.march_core.proofs.Built.{march_some}
 use Rattle.march_core.specs.Runs.{upward, up}
 use Rattle.march_core.proofs.Addresses.{length-addresses, address_upward, address_downward}
 use Rattle.microcode.specs.declared.code.Instr.{Instr}
-use Rattle.microcode.specs.declared.place.Place.{Place as CodePlace}
+use Rattle.microcode.specs.declared.place.CodePlace.{CodePlace}
 use Rattle.microcode.specs.Code.{opers_of, instr_of, assemble}
 use Rattle.microcode.specs.Places.{IsExtent, index_in, visits_of, element_slots, run_slots, rest, next_place, is_last}
 use Rattle.microcode.specs.inner.Places.{all_slots}

@@ -3,7 +3,7 @@ use Rattle.std.specs.Prelude.{◌≡◌, true, false, List, Option, Some, None}
 use Rattle.march_core.specs.March.{MarchElement, IsMarch}
 use Rattle.microcode.specs.declared.code.Instr.{Instr}
 use Rattle.microcode.specs.declared.place.Extent.{Extent}
-use Rattle.microcode.specs.declared.place.Place.{Place as CodePlace}
+use Rattle.microcode.specs.declared.place.CodePlace.{CodePlace}
 use Rattle.microcode.specs.Code.{assemble, first_of}
 use Rattle.microcode.specs.Places.{Place, IsPlace, first_place, next_place, is_last}
 

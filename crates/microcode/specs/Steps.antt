@@ -5,7 +5,7 @@ use Rattle.march_core.specs.Visits.{MarchStep, pausing, visiting, visits}
 use Rattle.march_core.specs.Runs.{upward, up}
 use Rattle.microcode.specs.declared.code.Instr.{Instr}
 use Rattle.microcode.specs.declared.place.Extent.{Extent}
-use Rattle.microcode.specs.declared.place.Place.{Place as CodePlace}
+use Rattle.microcode.specs.declared.place.CodePlace.{CodePlace}
 use Rattle.microcode.specs.Code.{instr_of}
 use Rattle.microcode.specs.Places.{Place, index_in, rest}
 use Rattle.microcode.specs.Running.{digits, IsAt, IsSomewhere}
@@ -44,7 +44,8 @@ step_at march words p = step_in (element_at march p.element) words p.visit p.ope
 -- the steps that are left at a place, or behind the last
 abbrev pub LeavesAt : List MarchElement → List Instr → ℕ → Option CodePlace → List Step → Type 0
 LeavesAt march code words None left = left ≡ []
-LeavesAt march code words (Some p) left = IsAt march code (one_run words) p × (left ≡ rest (step_at march words) march (one_run words) (digits p))
+LeavesAt march code words (Some p) left = IsAt march code (one_run words) p
+    × (left ≡ rest (step_at march words) march (one_run words) (digits p))
 
 -- a stepper of the code of this march has these steps left
 abbrev pub Leaves : List MarchElement → Stepping → List Step → Type 0

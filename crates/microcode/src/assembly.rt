@@ -2,7 +2,7 @@ ghost use Rattle.std.specs.Prelude.{◌≡◌, ◌+◌, ◌<◌, ◌≤◌, ◌+
 ghost use Rattle.march_core.specs.March.{sweep, element_at};
 ghost use Rattle.microcode.specs.Code.{goes_down, opers_at, instrs_from, assemble};
 
-use crate::code::{Code, Instr};
+use crate::code::{Instr, Program};
 use arrayvec::ArrayVec;
 use march_core::{March, Op, Order};
 
@@ -17,7 +17,7 @@ fn down_of(order: Order) -> bool
 }
 
 /// The code of a march: one instruction for each operation, and one for each pause.
-pub fn assemble(march: &March) -> Code
+pub fn assemble(march: &March) -> Program
     ensures { result.items ≡ assemble march.now }
 {
     let mut code = ArrayVec::new();
@@ -27,7 +27,7 @@ pub fn assemble(march: &March) -> Code
     code
 }
 
-fn push_element(code: &mut Code, march: &March, element: usize)
+fn push_element(code: &mut Program, march: &March, element: usize)
     requires within { element < length march.now }
     requires room { length code.old.items + opers_at march.now element ≤ 320 }
     ensures { code.new.items ≡ code.old.items ++ instrs_from (element_at march.now element) 0 (opers_at march.now element) }
@@ -45,7 +45,7 @@ fn push_element(code: &mut Code, march: &March, element: usize)
     }
 }
 
-fn push_ops(code: &mut Code, order: Order, ops: &[Op])
+fn push_ops(code: &mut Program, order: Order, ops: &[Op])
     requires { length code.old.items + length ops.now ≤ 320 }
     ensures { code.new.items ≡ code.old.items ++ instrs_from (sweep order ops.now) 0 (length ops.now) }
 {

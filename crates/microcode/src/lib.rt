@@ -19,6 +19,6 @@ mod stepper;
 
 pub use assembly::assemble;
 pub use bytes::{decode, encode};
-pub use code::{Code, Instr};
-pub use place::{Extent, FIRST, Place, instr_at, place_behind};
+pub use code::{Instr, Program};
+pub use place::{CodePlace, Extent, FIRST, instr_at, place_behind};
 pub use stepper::Stepper;

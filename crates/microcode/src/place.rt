@@ -16,7 +16,7 @@ pub struct Extent {
 
 /// Where in a code its run stands: four digits, and the number of the element's first instruction.
 #[derive(Clone, Copy)]
-pub struct Place {
+pub struct CodePlace {
     pub first: usize,
     pub oper: usize,
     pub visit: u32,
@@ -25,7 +25,7 @@ pub struct Place {
 }
 
 /// The first place.
-pub const FIRST: Place = Place {
+pub const FIRST: CodePlace = CodePlace {
     first: 0,
     oper: 0,
     visit: 0,
@@ -34,7 +34,7 @@ pub const FIRST: Place = Place {
 };
 
 /// The instruction of a place.
-pub fn instr_at(code: &[Instr], place: Place) -> Instr
+pub fn instr_at(code: &[Instr], place: CodePlace) -> Instr
     requires { place.first + place.oper < length code.now }
     ensures { slice_get code.now (place.first + place.oper) ≡ Some result }
 {
@@ -49,7 +49,7 @@ fn visits(extent: Extent, pause: bool) -> u32
 }
 
 /// The place behind a place, unless the run ends there.
-pub fn place_behind(code: &[Instr], extent: Extent, place: Place) -> Option<Place>
+pub fn place_behind(code: &[Instr], extent: Extent, place: CodePlace) -> Option<CodePlace>
     requires extent { IsExtent extent }
     requires place { IsSomewhere code.now extent place }
     ensures { (march : List MarchElement) → IsAt march code.now extent place → IsBehind march code.now extent place result }
@@ -58,13 +58,13 @@ pub fn place_behind(code: &[Instr], extent: Extent, place: Place) -> Option<Plac
     let instr = instr_at(code, place);
     let visits = visits(extent, instr.pause);
     if !instr.last {
-        return Some(Place {
+        return Some(CodePlace {
             oper: place.oper + 1,
             ..place
         });
     }
     if place.visit + 1 < visits {
-        return Some(Place {
+        return Some(CodePlace {
             oper: 0,
             visit: place.visit + 1,
             ..place
@@ -72,7 +72,7 @@ pub fn place_behind(code: &[Instr], extent: Extent, place: Place) -> Option<Plac
     }
     let behind = place.first + place.oper + 1;
     if behind < count {
-        return Some(Place {
+        return Some(CodePlace {
             first: behind,
             oper: 0,
             visit: 0,
@@ -81,7 +81,7 @@ pub fn place_behind(code: &[Instr], extent: Extent, place: Place) -> Option<Plac
         });
     }
     if place.back + 1 < extent.runs {
-        return Some(Place {
+        return Some(CodePlace {
             back: place.back + 1,
             ..FIRST
         });

@@ -3,8 +3,8 @@ ghost use Rattle.march_core.specs.March.{MarchElement, IsMarch};
 ghost use Rattle.microcode.specs.Code.{assemble, IsCode};
 ghost use Rattle.microcode.specs.Steps.{Step, steps, one_run, Leaves};
 
-use crate::code::{Code, Instr};
-use crate::place::{Extent, FIRST, Place, instr_at, place_behind};
+use crate::code::{Instr, Program};
+use crate::place::{CodePlace, Extent, FIRST, instr_at, place_behind};
 use std::marker::Model;
 
 /// One run of a march on the words of a memory.
@@ -12,7 +12,7 @@ use std::marker::Model;
 pub struct Stepper<'a> {
     code: &'a [Instr],
     words: u32,
-    place: Option<Place>,
+    place: Option<CodePlace>,
 }
 
 impl<'a> Model for Stepper<'a> {
@@ -27,7 +27,7 @@ impl<'a> Model for Stepper<'a> {
 
 impl<'a> Stepper<'a> {
     /// All steps of the march whose code this is are left.
-    pub fn new(code: &'a Code, words: u32) -> Stepper<'a>
+    pub fn new(code: &'a Program, words: u32) -> Stepper<'a>
         requires code { IsCode code.now.items }
         requires words { (2 ≤ words) × (words ≤ 65536) }
         ensures { (march : List MarchElement) → IsMarch march → code.now.items ≡ assemble march → Leaves march result (steps march words) }

@@ -28,7 +28,7 @@ holds_if true r z e = (refl, e)
 holds_if false r z e = cc
 
 -- the run in directions that the orders leave open
-fitting_is : (m : Machine) (below : Bool) (es : List MarchElement) (q : Pair) (ds : List Direction)
+pub fitting_is : (m : Machine) (below : Bool) (es : List MarchElement) (q : Pair) (ds : List Direction)
     → led_by (end_of m below) es q ds ≡ cond (is_direction es ds) (pair_run m below q es ds) None
 fitting_is m below [] q [] = refl
 fitting_is m below [] q (d ∷ ds) = refl

@@ -195,7 +195,7 @@ leads_leg p placement march i j start end word fits is_march ij within leads =
 abbrev pub start_in : Primitive → Placement → List Bool → Pair
 start_in p placement content = pair_close p (pair_in placement content)
 
-all_between : (march : List MarchElement) → elements_between march 0 (length march) ≡ march
+pub all_between : (march : List MarchElement) → elements_between march 0 (length march) ≡ march
 all_between march =
     let all : length march - 0 ≡ length march = omega arith in
     ap (λ n. take n march) all ∙ take_all (length march) march (omega arith)

@@ -37,7 +37,8 @@ pub record IsLeg (march : List MarchElement) (p : Primitive) (placement : Placem
   pub before : word < 2 ^ (64 - i)
   pub behind : word % 2 ^ (64 - j) ≡ 0
   pub passes : SomeDiffers p (places_in placement) (cells_in placement start) (leg_steps march i j word) → ⊥
-  pub ends : pair_in placement (left_behind (after_step p (places_in placement)) (cells_in placement start) (leg_steps march i j word)) ≡ end
+  pub ends : pair_in placement (left_behind (after_step p (places_in placement)) (cells_in placement start)
+      (leg_steps march i j word)) ≡ end
 
 -- each final pair that these elements lead to from a pair stands once, with its least word
 abbrev pub AreLegEnds : List MarchElement → Primitive → Placement → ℕ → ℕ → Pair → List Survivor → Type 0

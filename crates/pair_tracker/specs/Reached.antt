@@ -34,7 +34,8 @@ StaysDead old new = (i n : ℕ) → is_dead old i n ≡ true → is_dead new i n
 
 -- what is known is so
 abbrev pub AreDeadEnds : (Pair → Bool) → Machine → Bool → List MarchElement → ℕ → DeadEnds → Type 0
-AreDeadEnds wanted m below march j dead = (i : ℕ) (q : Pair) → is_dead dead i (pair_number q) ≡ true → word_to wanted m below march i j q ≡ None
+AreDeadEnds wanted m below march j dead = (i : ℕ) (q : Pair) → is_dead dead i (pair_number q) ≡ true
+    → word_to wanted m below march i j q ≡ None
 
 -- what is known of the elements of a summary, whichever their end
 abbrev pub KnowsOf : Leg → DeadEnds → Type 0

@@ -12,7 +12,8 @@ use Rattle.pair_tracker.specs.declared.placement.Survivor.{Survivor}
 use Rattle.pair_tracker.specs.Placements.{places_in, pair_in}
 
 -- no read differs in the directions of a fitting word, and the two cells end so
-pub record Survives (march : List MarchElement) (p : Primitive) (placement : Placement) (content : List Bool) (word : ℕ) (final : Pair) : Type 0 where
+pub record Survives (march : List MarchElement) (p : Primitive) (placement : Placement) (content : List Bool) (word : ℕ)
+    (final : Pair) : Type 0 where
   pub is_word : word < 2 ^ 64
   pub fits : FitsWord march word
   pub passes : IsCaught march (directions_of word (length march)) p (places_in placement) content → ⊥

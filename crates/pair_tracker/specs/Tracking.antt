@@ -21,7 +21,8 @@ pub record Leads (m : Machine) (below : Bool) (march : List MarchElement) (i j :
   pub ends : pair_run m below start (elements_between march i j) (directions_between word i j) ≡ Some end
 
 -- they lead to an end that is wanted
-pub record LeadsTo (wanted : Pair → Bool) (m : Machine) (below : Bool) (march : List MarchElement) (i j : ℕ) (start : Pair) (word : ℕ) : Type 0 where
+pub record LeadsTo (wanted : Pair → Bool) (m : Machine) (below : Bool) (march : List MarchElement) (i j : ℕ)
+    (start : Pair) (word : ℕ) : Type 0 where
   pub end : Pair
   pub is_wanted : wanted end ≡ true
   pub leads : Leads m below march i j start end word

@@ -98,9 +98,12 @@ pub(crate) fn word_from(
 ) -> Option<u64>
     requires ordered { i ≤ search.now.end }
     requires within { search.now.end ≤ length search.now.march.now }
-    requires dead { AreDeadEnds (is_wanted search.now.wanted) (machine_of search.now.prim.now) search.now.is_below search.now.march.now search.now.end dead_ends.old }
-    ensures word { result ≡ word_behind (word_to (is_wanted search.now.wanted) (machine_of search.now.prim.now) search.now.is_below search.now.march.now i search.now.end) start }
-    ensures dead { AreDeadEnds (is_wanted search.now.wanted) (machine_of search.now.prim.now) search.now.is_below search.now.march.now search.now.end dead_ends.new }
+    requires dead { AreDeadEnds (is_wanted search.now.wanted)
+        (machine_of search.now.prim.now) search.now.is_below search.now.march.now search.now.end dead_ends.old }
+    ensures word { result ≡ word_behind (word_to (is_wanted search.now.wanted)
+        (machine_of search.now.prim.now) search.now.is_below search.now.march.now i search.now.end) start }
+    ensures dead { AreDeadEnds (is_wanted search.now.wanted)
+        (machine_of search.now.prim.now) search.now.is_below search.now.march.now search.now.end dead_ends.new }
     ensures kept { StaysDead dead_ends.old dead_ends.new }
     ensures noted { result ≡ None → i < search.now.end → (q : Pair) → start ≡ Some q → is_dead dead_ends.new i (pair_number q) ≡ true }
 {
@@ -112,7 +115,7 @@ pub(crate) fn word_from(
             None
         };
     }
-    let _elements = search.march.len();
+    search.march.known();
     if dead_ends.has(i, number_of(pair)) {
         return None;
     }

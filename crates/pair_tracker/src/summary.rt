@@ -72,15 +72,6 @@ fn is_below(placement: Placement) -> bool
     placement == Placement::Below
 }
 
-/// Says as facts what every march and every primitive in its placement is.
-fn recall(march: &March, prim: &Prim)
-    ensures march { IsMarch march.now }
-    ensures primitive { IsPrimitive prim.now }
-{
-    let _elements = march.len();
-    let _aggressor = prim.agg();
-}
-
 impl<'a> Summary<'a> {
     /// The summary of one element.
     pub fn element(march: &'a March, prim: &Prim, placement: Placement, i: usize) -> Summary<'a>
@@ -88,7 +79,8 @@ impl<'a> Summary<'a> {
         requires fits { FitsPlacement prim.now placement }
         ensures { SumsUp march.now prim.now placement i (i + 1) result }
     {
-        recall(march, prim);
+        march.known();
+        prim.known();
         Summary {
             march,
             prim: *prim,
@@ -103,7 +95,8 @@ impl<'a> Summary<'a> {
         requires { FitsPlacement prim.now placement }
         ensures { SumsUp march.now prim.now placement 0 (length march.now) result }
     {
-        recall(march, prim);
+        march.known();
+        prim.known();
         Summary {
             march,
             prim: *prim,
@@ -132,9 +125,12 @@ impl<'a> Summary<'a> {
 
     /// The least direction word that leads from a start to an end, or to any.
     fn word(&self, start: Pair, wanted: Option<Pair>, dead_ends: &mut DeadEnds) -> Option<u64>
-        requires { AreDeadEnds (is_wanted wanted) (machine_of self.now.prim) (is_below self.now.placement) self.now.march self.now.end dead_ends.old }
-        ensures word { result ≡ word_to (is_wanted wanted) (machine_of self.now.prim) (is_below self.now.placement) self.now.march self.now.first self.now.end start }
-        ensures dead { AreDeadEnds (is_wanted wanted) (machine_of self.now.prim) (is_below self.now.placement) self.now.march self.now.end dead_ends.new }
+        requires { AreDeadEnds (is_wanted wanted) (machine_of self.now.prim)
+            (is_below self.now.placement) self.now.march self.now.end dead_ends.old }
+        ensures word { result ≡ word_to (is_wanted wanted) (machine_of self.now.prim)
+            (is_below self.now.placement) self.now.march self.now.first self.now.end start }
+        ensures dead { AreDeadEnds (is_wanted wanted) (machine_of self.now.prim)
+            (is_below self.now.placement) self.now.march self.now.end dead_ends.new }
         ensures kept { StaysDead dead_ends.old dead_ends.new }
         ensures noted { result ≡ None → self.now.first < self.now.end → is_dead dead_ends.new self.now.first (pair_number start) ≡ true }
     {
@@ -155,7 +151,8 @@ impl<'a> Summary<'a> {
         ensures value { result.items ≡ ends_from self.now start }
         ensures ends { AreLegEnds self.now.march self.now.prim self.now.placement self.now.first self.now.end start result.items }
     {
-        recall(self.march, &self.prim);
+        self.march.known();
+        self.prim.known();
         let mut found = ArrayVec::new();
         for pair in PAIRS {
             let mut dead_ends = DeadEnds::unknown();
@@ -185,7 +182,9 @@ impl<'a> Summary<'a> {
         ensures word { IsLeastWord self.now.march self.now.prim self.now.placement content result }
         ensures dead { KnowsOf self.now dead_ends.new }
         ensures kept { StaysDead dead_ends.old dead_ends.new }
-        ensures noted { result ≡ None → 0 < self.now.end → is_dead dead_ends.new 0 (pair_number (pair_close self.now.prim (pair_in self.now.placement content))) ≡ true }
+        ensures noted { result ≡ None → 0 < self.now.end
+            → is_dead dead_ends.new 0 (pair_number (pair_close self.now.prim (pair_in self.now.placement content)))
+            ≡ true }
     {
         let start = close(&self.prim, start_of(self.placement, content));
         self.word(start, None, dead_ends)

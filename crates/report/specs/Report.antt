@@ -108,7 +108,8 @@ class_covered c judged = count_by (is_covered_in c) judged
 -- the line of a class with so many items, of which so many are covered; a class that doesn't occur has none
 abbrev pub class_line : ItemClass → ℕ → ℕ → List ℕ
 class_line c zero covered = []
-class_line c (suc n) covered = codes "class " ++ class_text c ++ codes " " ++ decimal (suc n) ++ codes " covered " ++ decimal covered ++ codes "\n"
+class_line c (suc n) covered = codes "class " ++ class_text c ++ codes " " ++ decimal (suc n) ++ codes " covered "
+    ++ decimal covered ++ codes "\n"
 
 -- the lines of these classes
 abbrev pub class_lines : List ItemClass → List JudgedItem → List ℕ

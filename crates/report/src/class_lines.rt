@@ -107,7 +107,8 @@ fn count_class(class: ItemClass, judged: &[JudgedItem]) -> ClassCounts
 
 /// Appends the line of a class that occurs.
 fn write_class(out: &mut Vec<u8>, class: ItemClass, judged: &[JudgedItem]) -> Result<(), NoMemory>
-    ensures { OnOk result (out.new.items ≡ out.old.items ++ class_line class (class_size class (map item_of judged.now)) (class_covered class judged.now)) }
+    ensures { OnOk result (out.new.items ≡ out.old.items
+        ++ class_line class (class_size class (map item_of judged.now)) (class_covered class judged.now)) }
 {
     let counts = count_class(class, judged);
     if counts.count == 0 {

@@ -1,7 +1,7 @@
 //! Laws of the report, the contract of a function that does nothing.
 ghost use Rattle.std.specs.Prelude.{◌≡◌, ◌↔◌, ℕ, Some, slice_get};
 ghost use Rattle.fault_core.specs.declared.table.Class.{Class};
-ghost use Rattle.fault_syntax.specs.declared.words.Name.TheVariants.{OfClass};
+ghost use Rattle.fault_syntax.specs.declared.words.GroupName.TheVariants.{OfClass};
 ghost use Rattle.fault_syntax.specs.Names.{name_text};
 ghost use Rattle.report.specs.declared.class_lines.ItemClass.{ItemClass};
 ghost use Rattle.report.specs.Report.{class_order, class_number, class_text};

@@ -44,10 +44,12 @@ pub fn write_report(
     verdicts: &[Verdict],
 ) -> Result<Vec<u8>, NoMemory>
     requires { length prims.now ≡ length verdicts.now }
-    ensures text { IfOk result (λ text. text.items ≡ report_text march.now (option_copied memory.entry) (plain_items prims.now verdicts.now)) }
+    ensures text { IfOk result (λ text. text.items
+        ≡ report_text march.now (option_copied memory.entry) (plain_items prims.now verdicts.now)) }
 
     // Where each verdict is that of its primitive, the lines and the counts say what the march detects.
-    ensures report { IfOk result (λ text. AreVerdicts march.now prims.now verdicts.now → IsMixedReport text.items march.now (option_copied memory.entry) (map Plain prims.now)) }
+    ensures report { IfOk result (λ text. AreVerdicts march.now prims.now verdicts.now
+        → IsMixedReport text.items march.now (option_copied memory.entry) (map Plain prims.now)) }
 {
     let judged = with_verdicts(alloc, prims, verdicts)?;
     write_judged(alloc, march, memory, judged.as_slice())

@@ -26,7 +26,8 @@ pub fn write_judged(
     ensures text { IfOk result (λ text. text.items ≡ report_text march.now (option_copied memory.entry) judged.now) }
 
     // Where each verdict is right, the lines and the counts say what the march detects.
-    ensures report { IfOk result (λ text. AllByRecursion (IsJudged march.now) judged.now → IsMixedReport text.items march.now (option_copied memory.entry) (map item_of judged.now)) }
+    ensures report { IfOk result (λ text. AllByRecursion (IsJudged march.now) judged.now
+        → IsMixedReport text.items march.now (option_copied memory.entry) (map item_of judged.now)) }
 {
     let mut out = Vec::new(alloc);
     write_march(alloc, &mut out, march)?;

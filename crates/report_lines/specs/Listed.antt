@@ -32,7 +32,8 @@ IsVerdictLine item Detected IsEscape line =
     (Detected × (line ≡ covered_line item)) ⊎ ((Detected → ⊥) × (escape : List ℕ) × IsEscape escape × (line ≡ escape_line item escape))
 
 -- the bytes are the report of these items, and the line is its last one: how many there are, and how many are detected
-pub record ReportsOf {X : Type 0} (IsReport : List ℕ → Type 0) (IsDetected : X → Type 0) (items : List X) (escapes : Bool) (bytes line : List ℕ) : Type 0 where
+pub record ReportsOf {X : Type 0} (IsReport : List ℕ → Type 0) (IsDetected : X → Type 0) (items : List X)
+    (escapes : Bool) (bytes line : List ℕ) : Type 0 where
   pub found : SomeLacks IsDetected items escapes
   pub report : IsReport bytes
   pub covered : ℕ

@@ -7,10 +7,10 @@ ghost use Rattle.rtl_gen.specs.inner.Planned.{operation_of, element_of, row_of, 
 use arrayvec::ArrayVec;
 use march_core::{March, Op, Order};
 use memory_desc::Memory;
-use rtl_layout::{Element, Operation, Row};
+use rtl_layout::{Element, PlanOperation, Row};
 use scrambler::Scramble;
 
-fn operation(op: Op) -> Operation
+fn operation(op: Op) -> PlanOperation
     ensures { result ≡ operation_of op }
 {
     let (write, bit) = match op {
@@ -19,7 +19,7 @@ fn operation(op: Op) -> Operation
         Op::R0 => (false, false),
         Op::R1 => (false, true),
     };
-    Operation { write, bit }
+    PlanOperation { write, bit }
 }
 
 fn is_down(order: Order) -> bool
@@ -48,7 +48,7 @@ fn paused() -> Element
     ensures { result ≡ element_of pause }
 {
     let mut element = Element::new(false, true);
-    element.push(Operation {
+    element.push(PlanOperation {
         write: false,
         bit: false,
     });
@@ -61,7 +61,7 @@ fn ops_count(march: &March, i: usize) -> usize
     ensures value { result ≡ length (ops_at march.now i) }
     ensures few { result ≤ 16 }
 {
-    let _elements = march.len();
+    march.known();
     march.ops(i).len()
 }
 
@@ -132,7 +132,7 @@ fn row(scramble: &Scramble, i: u8) -> Row
     requires { i < scramble.now.width }
     ensures { result ≡ row_of scramble.now i }
 {
-    let _bits = scramble.width();
+    scramble.known();
     Row {
         mask: u64::from(scramble.row(i)),
         flip: (scramble.constant() >> i) % 2 == 1,

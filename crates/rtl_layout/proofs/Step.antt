@@ -8,7 +8,7 @@ use Rattle.verilog_tree.specs.declared.tree.BinOp.TheVariants.{Ne}
 use Rattle.verilog_tree.specs.Names.{declared_width, width_of}
 use Rattle.verilog_tree.specs.Meaning.{Env, bit, truth, value, width, names_widths, Settles, sets, last_set, next}
 use Rattle.rtl_layout.specs.Build.{lit, choose, rotated, counted, number_of}
-use Rattle.rtl_layout.specs.declared.element.Operation.{Operation}
+use Rattle.rtl_layout.specs.declared.element.PlanOperation.{PlanOperation}
 use Rattle.rtl_layout.specs.Plan.{Element, Plan, several, several_bits, port_word, limit, is_single}
 use Rattle.rtl_layout.specs.Layout.{reset, rdata, oper, visit, element, back, run, want, bad, writes, ones, ends, write, down, pause, one, ends_more, ends_again, ends_next, pause_next, last_oper, last_visit, last_element, last_back, live, pattern, word, reads_at, over_at, value_at, back_at, aged, row_width, by_element, by_next, flag_row, in_row, pattern_of, word_of, end_sets, self_test, feed_reads, feed_over}
 use Rattle.rtl_layout.specs.Layout as L
@@ -95,7 +95,7 @@ visit_ends f some true true false v k x h e = ap bit (more_last v (f k) h (not_e
 
 -- the bit that an element begins with
 pub begins : (p : Plan) → Ready p → (k : ℕ) → L.begins_one (element_at p k) ≡ (operation_at p k 0).bit
-begins p ready k = ap (λ (o : Operation). o.bit) (any_default (element_at p k).operations 0 _ idle (ready.has_operation k))
+begins p ready k = ap (λ (o : PlanOperation). o.bit) (any_default (element_at p k).operations 0 _ idle (ready.has_operation k))
 
 -- ---- the word of a background and a value
 
@@ -214,7 +214,7 @@ module _ (p : Plan) (ready : Ready p) (sized : Sized p) (regs ins e : Env) (s : 
   is_write =
       T.write_is p regs ins e s
       ∙ row_tells writes L.writes_at (T.writes_is p regs ins e s)
-      ∙ ap (λ (o : Operation). bit o.write) operation_told
+      ∙ ap (λ (o : PlanOperation). bit o.write) operation_told
 
   pub is_value : e L.value ≡ bit (operation p c).bit
   is_value = T.value_is p regs ins e s ∙ held_or_told (several_bits p) refl
@@ -224,7 +224,7 @@ module _ (p : Plan) (ready : Ready p) (sized : Sized p) (regs ins e : Env) (s : 
       held_or_told false h =
           row_tells ones (L.ones_row p) (T.ones_is p regs ins e s)
           ∙ ap (λ t. bit (cond t L.one_behind L.one_at (here p c) c.oper)) h
-          ∙ ap (λ (o : Operation). bit o.bit) operation_told
+          ∙ ap (λ (o : PlanOperation). bit o.bit) operation_told
 
   pub is_down : e down ≡ bit (here p c).down
   is_down = T.down_is p regs ins e s ∙ element_tells 1 (λ x. bit x.down)
@@ -260,7 +260,7 @@ module _ (p : Plan) (ready : Ready p) (sized : Sized p) (regs ins e : Env) (s : 
       let l = sh.oper_in in
       row_tells ones (L.ones_row p) (T.ones_is p regs ins e s)
       ∙ ap (λ t. bit (cond t L.one_behind L.one_at (here p c) c.oper)) wide
-      ∙ ap (λ (o : Operation). bit o.bit) (any_default (here p c).operations (c.oper + 1) _ idle (omega arith))
+      ∙ ap (λ (o : PlanOperation). bit o.bit) (any_default (here p c).operations (c.oper + 1) _ idle (omega arith))
 
   is_one_again : value ws e (by_element p 1 (λ x. bit (L.begins_one x))) ≡ bit (bit_at c.element 0)
   is_one_again = element_tells 1 (λ x. bit (L.begins_one x)) ∙ ap bit (begins p ready c.element)

@@ -1,7 +1,7 @@
 -- Public. The controller as a machine.
 use Rattle.std.specs.Prelude.{ℕ, zero, suc, ◌+◌, ◌-◌, Bool, true, false, cond, not, ◌&&◌, nat_eq, List, [], ◌∷◌, length, bit_xor, slice_index_or, bit_and, count_ones, ◌*◌, ◌%◌}
 use Rattle.verilog_tree.specs.Meaning.{bit}
-use Rattle.rtl_layout.specs.declared.element.Operation.{Operation}
+use Rattle.rtl_layout.specs.declared.element.PlanOperation.{PlanOperation}
 use Rattle.rtl_layout.specs.declared.row.Row.{Row}
 use Rattle.rtl_layout.specs.Plan.{Element, Plan, port_word, limit}
 
@@ -26,7 +26,7 @@ pub record Control : Type 0 where
   pub want : ℕ
   pub bad : Bool
 
-abbrev pub idle : Operation
+abbrev pub idle : PlanOperation
 idle = record { write = false; bit = false }
 
 abbrev pub nothing : Element
@@ -35,7 +35,7 @@ nothing = record { down = false; pause = false; operations = idle ∷ [] }
 abbrev pub element_at : Plan → ℕ → Element
 element_at p k = slice_index_or p.elements k nothing
 
-abbrev pub operation_at : Plan → ℕ → ℕ → Operation
+abbrev pub operation_at : Plan → ℕ → ℕ → PlanOperation
 operation_at p k o = slice_index_or (element_at p k).operations o idle
 
 abbrev pub background_at : Plan → ℕ → ℕ
@@ -79,7 +79,7 @@ younger s (t ∷ ts) = s ∷ younger t ts
 abbrev pub here : Plan → Control → Element
 here p c = element_at p c.element
 
-abbrev pub operation : Plan → Control → Operation
+abbrev pub operation : Plan → Control → PlanOperation
 operation p c = operation_at p c.element c.oper
 
 abbrev pub is_live : Plan → Control → Bool

@@ -6,7 +6,7 @@ use Rattle.verilog_tree.specs.declared.tree.Dir.TheVariants.{Input, Output}
 use Rattle.verilog_tree.specs.Plain.{Expression, Net, Concatenation, Prefixed, Infixed, Expressions, NoMore, Followed, Statement, SetTo, statements, ModuleItem, WireItem, RegItem, AssignItem, AlwaysItem, ModulePort, ModuleTree}
 use Rattle.verilog_tree.specs.Meaning.{bit}
 use Rattle.rtl_layout.specs.Build.{lit, choose, low_bits, pick, rotated, counted, number_of, bit_in, step_while, at_reset, counter}
-use Rattle.rtl_layout.specs.declared.element.Operation.{Operation}
+use Rattle.rtl_layout.specs.declared.element.PlanOperation.{PlanOperation}
 use Rattle.rtl_layout.specs.declared.row.Row.{Row}
 use Rattle.rtl_layout.specs.Plan.{Element, Plan, port_word, several, several_bits, is_single, limit}
 use Rattle.rtl_layout.specs.Control.{idle, element_at}
@@ -156,7 +156,7 @@ abbrev pub flag_row : Plan → (Element → ℕ → Bool) → Expression
 flag_row p f = by_element p (row_width p) (λ x. number_of (map (f x) (counted (row_width p))))
 
 -- the operation of a number, and behind the last the last
-abbrev pub operation_in : Element → ℕ → Operation
+abbrev pub operation_in : Element → ℕ → PlanOperation
 operation_in x i = slice_index_or x.operations i (slice_index_or x.operations (length x.operations - 1) idle)
 
 -- whether it writes, whether its bit is 1; whether the bit of the one behind it is 1, and whether that is the last
@@ -277,7 +277,8 @@ index_of p = choose (Net down) (Infixed Sub (lit p.addr_width (p.words - 1)) (vi
 
 -- what the element has at each number of an operation
 abbrev pub row_assigns : Plan → List ModuleItem
-row_assigns p = AssignItem writes (flag_row p writes_at) ∷ AssignItem ones (flag_row p (ones_row p)) ∷ AssignItem ends (flag_row p ends_behind) ∷ []
+row_assigns p = AssignItem writes (flag_row p writes_at) ∷ AssignItem ones (flag_row p (ones_row p)) ∷ AssignItem ends
+    (flag_row p ends_behind) ∷ []
 
 -- whether the operation's bit is 1
 abbrev pub value_now : Plan → Expression
@@ -286,12 +287,14 @@ value_now p = cond (several_bits p) (Net one) (in_row p ones)
 -- what stands at this place of the march
 abbrev pub flag_assigns : Plan → List ModuleItem
 flag_assigns p =
-    AssignItem write (in_row p writes) ∷ AssignItem value (value_now p) ∷ AssignItem down (by_element p 1 (λ x. bit x.down)) ∷ AssignItem pause (by_element p 1 (λ x. bit x.pause)) ∷ []
+    AssignItem write (in_row p writes) ∷ AssignItem value (value_now p) ∷ AssignItem down
+    (by_element p 1 (λ x. bit x.down)) ∷ AssignItem pause (by_element p 1 (λ x. bit x.pause)) ∷ []
 
 -- whether the operations that can come next are the last of their elements: one more, this element's first, and the next one's
 abbrev pub next_assigns : Plan → List ModuleItem
 next_assigns p =
-    AssignItem ends_more (in_row p ends) ∷ AssignItem ends_again (by_element p 1 (λ x. bit (is_single x))) ∷ AssignItem ends_next (by_next p (λ x. bit (is_single x)))
+    AssignItem ends_more (in_row p ends) ∷ AssignItem ends_again
+    (by_element p 1 (λ x. bit (is_single x))) ∷ AssignItem ends_next (by_next p (λ x. bit (is_single x)))
     ∷ AssignItem pause_next (by_next p (λ x. bit x.pause)) ∷ []
 
 -- what ends at this place of the march
@@ -301,14 +304,16 @@ last_assigns p = AssignItem last_element (is_last_element p) ∷ AssignItem last
 -- the command
 abbrev pub command_assigns : Plan → List ModuleItem
 command_assigns p =
-    AssignItem live is_live ∷ AssignItem index (index_of p) ∷ AssignItem pattern (pattern_of p back) ∷ AssignItem word (word_of value (Net pattern)) ∷ []
+    AssignItem live is_live ∷ AssignItem index (index_of p) ∷ AssignItem pattern (pattern_of p back) ∷ AssignItem word
+    (word_of value (Net pattern)) ∷ []
 
 abbrev pub wire_assigns : Plan → List ModuleItem
 wire_assigns p = row_assigns p ++ (flag_assigns p ++ (next_assigns p ++ (last_assigns p ++ command_assigns p)))
 
 -- its ports
 abbrev pub command_outputs : Plan → List ModuleItem
-command_outputs p = AssignItem en (gated (Net live)) ∷ AssignItem we (Net write) ∷ AssignItem addr (address p) ∷ AssignItem wdata (Net word) ∷ []
+command_outputs p = AssignItem en (gated (Net live)) ∷ AssignItem we (Net write) ∷ AssignItem addr
+    (address p) ∷ AssignItem wdata (Net word) ∷ []
 
 -- the ports of the end, of a module of so many ages with a value
 abbrev pub end_outputs : ℕ → List ModuleItem
@@ -330,7 +335,8 @@ abbrev pub back_next : Plan → Expression
 back_next p = counter back p.back_width (Net run ∷ Net last_oper ∷ Net last_visit ∷ Net last_element ∷ []) last_back
 
 abbrev pub run_next : Expression
-run_next = at_reset (lit 1 1) (step_while (Net run ∷ Net last_oper ∷ Net last_visit ∷ Net last_element ∷ Net last_back ∷ []) (lit 1 0) (Net run))
+run_next = at_reset (lit 1 1) (step_while
+    (Net run ∷ Net last_oper ∷ Net last_visit ∷ Net last_element ∷ Net last_back ∷ []) (lit 1 0) (Net run))
 
 -- what the next operation has: the first of all, one more, this element's first or the next one's
 abbrev pub turning : List ℕ → Bool → Expression → Expression → Expression → Expression
@@ -342,7 +348,8 @@ abbrev pub last_oper_next : Plan → Expression
 last_oper_next p = turning last_oper (is_single (element_at p 0)) (Net ends_next) (Net ends_again) (Net ends_more)
 
 abbrev pub one_next : Plan → Expression
-one_next p = turning one (begins_one (element_at p 0)) (by_next p (λ x. bit (begins_one x))) (by_element p 1 (λ x. bit (begins_one x))) (in_row p ones)
+one_next p = turning one (begins_one (element_at p 0)) (by_next p (λ x. bit (begins_one x)))
+    (by_element p 1 (λ x. bit (begins_one x))) (in_row p ones)
 
 -- whether the next visit is the last
 abbrev pub last_visit_next : Plan → Expression
@@ -374,7 +381,8 @@ back_set w i = SetTo (aged back (suc i)) (at_reset (lit w 0) (Net (back_at true 
 abbrev pub stage_sets : Bool → ℕ → ℕ → ℕ → List Statement
 stage_sets many w i zero = SetTo (reads_at (suc i)) (gated (feed_reads i)) ∷ SetTo (over_at (suc i)) (gated (feed_over i)) ∷ []
 stage_sets many w i (suc n) =
-    SetTo (reads_at (suc i)) (gated (feed_reads i)) ∷ SetTo (over_at (suc i)) (gated (feed_over i)) ∷ SetTo (value_at (suc i)) (gated (Net (value_at i)))
+    SetTo (reads_at (suc i)) (gated (feed_reads i)) ∷ SetTo (over_at (suc i)) (gated (feed_over i)) ∷ SetTo
+    (value_at (suc i)) (gated (Net (value_at i)))
     ∷ (maybe many (back_set w i) ++ stage_sets many w (suc i) n)
 
 -- the word that the read of the last age expects

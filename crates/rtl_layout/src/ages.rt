@@ -9,7 +9,7 @@ use crate::trees::{after_reset, gate};
 use arrayvec::ArrayString;
 use std::alloc::{AllocError, Global};
 use verilog_tree::build::{choose, flag, literal, name, net, register, unary};
-use verilog_tree::{Expr, Item, Name, Stmt, UnOp};
+use verilog_tree::{BodyItem, Expr, Name, Stmt, UnOp};
 
 // The digit of an age.
 fn digit(age: u8) -> &'static str
@@ -39,7 +39,7 @@ pub fn aged(text: &str, age: u8) -> Name
 }
 
 // The registers of an age that has a value.
-fn declare_age(items: &mut Vec<Item>, many: bool, width: u8, age: u8) -> Result<(), AllocError>
+fn declare_age(items: &mut Vec<BodyItem>, many: bool, width: u8, age: u8) -> Result<(), AllocError>
     requires some { 1 ≤ age }
     requires few { age ≤ 4 }
     ensures { OnOk result (map plain_item items.new.items ≡ map plain_item items.old.items ++ LInner.age_regs many width age) }
@@ -55,7 +55,7 @@ fn declare_age(items: &mut Vec<Item>, many: bool, width: u8, age: u8) -> Result<
 
 /// The registers of all ages, of which `delay` have a value.
 pub fn declare_ages(
-    items: &mut Vec<Item>,
+    items: &mut Vec<BodyItem>,
     many: bool,
     width: u8,
     delay: u8,

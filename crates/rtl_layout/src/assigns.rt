@@ -12,7 +12,7 @@ use crate::plan::Plan;
 use crate::tables::{by_element, by_next, flag_row, has_several_bits, in_row, pattern, word_of};
 use std::alloc::{AllocError, Global};
 use verilog_tree::build::{binary, choose, flag, literal, name, net};
-use verilog_tree::{BinOp, Expr, Item, Name};
+use verilog_tree::{BinOp, BodyItem, Expr, Name};
 
 // Whether a digit is at the last of so many.
 fn is_last(alloc: Global, digit: Name, width: u8, count: usize) -> Result<Expr, AllocError>
@@ -73,7 +73,7 @@ fn value_now(alloc: Global, plan: &Plan) -> Result<Expr, AllocError>
 }
 
 /// All wires.
-pub fn assign_wires(items: &mut Vec<Item>, alloc: Global, plan: &Plan) -> Result<(), AllocError>
+pub fn assign_wires(items: &mut Vec<BodyItem>, alloc: Global, plan: &Plan) -> Result<(), AllocError>
     ensures { OnOk result (map plain_item items.new.items ≡ map plain_item items.old.items ++ L.wire_assigns (seen plan.now)) }
 {
     let element = is_last(

@@ -16,7 +16,7 @@ use crate::tables::{has_several_bits, pattern, row_width, word_of};
 use crate::trees::gate;
 use std::alloc::{AllocError, Global};
 use verilog_tree::build::{binary, choose, flag, name, net, register};
-use verilog_tree::{BinOp, Expr, Item, Module, Stmt};
+use verilog_tree::{BinOp, BodyItem, Expr, Module, Stmt};
 
 fn is_several(plan: &Plan) -> bool
     ensures { result ≡ several (seen plan.now) }
@@ -24,7 +24,7 @@ fn is_several(plan: &Plan) -> bool
     plan.backgrounds.len() > 1
 }
 
-fn declare_one(items: &mut Vec<Item>, plan: &Plan) -> Result<(), AllocError>
+fn declare_one(items: &mut Vec<BodyItem>, plan: &Plan) -> Result<(), AllocError>
     ensures { OnOk result (map plain_item items.new.items ≡ map plain_item items.old.items ++ L.one_reg (several_bits (seen plan.now))) }
 {
     if has_several_bits(plan) {
@@ -34,7 +34,7 @@ fn declare_one(items: &mut Vec<Item>, plan: &Plan) -> Result<(), AllocError>
 }
 
 // All registers.
-fn declare_registers(items: &mut Vec<Item>, plan: &Plan) -> Result<(), AllocError>
+fn declare_registers(items: &mut Vec<BodyItem>, plan: &Plan) -> Result<(), AllocError>
     ensures { OnOk result (map plain_item items.new.items ≡ map plain_item items.old.items ++ LInner.registers (seen plan.now)) }
 {
     let digits = [
@@ -53,7 +53,7 @@ fn declare_registers(items: &mut Vec<Item>, plan: &Plan) -> Result<(), AllocErro
 }
 
 // All wires.
-fn declare_wires(items: &mut Vec<Item>, plan: &Plan) -> Result<(), AllocError>
+fn declare_wires(items: &mut Vec<BodyItem>, plan: &Plan) -> Result<(), AllocError>
     ensures { OnOk result (map plain_item items.new.items ≡ map plain_item items.old.items ++ L.wires (seen plan.now)) }
 {
     let row = row_width(plan);
@@ -118,16 +118,17 @@ fn set_registers(block: &mut Vec<Stmt>, alloc: Global, plan: &Plan) -> Result<()
     set_all(block, alloc, rows)
 }
 
-fn add_block(items: &mut Vec<Item>, alloc: Global, plan: &Plan) -> Result<(), AllocError>
-    ensures { OnOk result (map plain_item items.new.items ≡ map plain_item items.old.items ++ AlwaysItem L.clk (statements (L.sets_all (seen plan.now))) ∷ []) }
+fn add_block(items: &mut Vec<BodyItem>, alloc: Global, plan: &Plan) -> Result<(), AllocError>
+    ensures { OnOk result (map plain_item items.new.items ≡ map plain_item items.old.items
+        ++ AlwaysItem L.clk (statements (L.sets_all (seen plan.now))) ∷ []) }
 {
     let mut block = Vec::new(alloc);
     set_registers(&mut block, alloc, plan)?;
-    items.push(Item::Always(name("clk"), block))?;
+    items.push(BodyItem::Always(name("clk"), block))?;
     Ok(())
 }
 
-fn add_items(items: &mut Vec<Item>, alloc: Global, plan: &Plan) -> Result<(), AllocError>
+fn add_items(items: &mut Vec<BodyItem>, alloc: Global, plan: &Plan) -> Result<(), AllocError>
     ensures { OnOk result (map plain_item items.new.items ≡ map plain_item items.old.items ++ L.items (seen plan.now)) }
 {
     declare_registers(items, plan)?;

@@ -160,7 +160,8 @@ fn set_counters(block: &mut Vec<Stmt>, alloc: Global, plan: &Plan) -> Result<(),
 
 /// The place in the march, whether the run goes on, and the operation's bit where a register holds it.
 pub fn set_digits(block: &mut Vec<Stmt>, alloc: Global, plan: &Plan) -> Result<(), AllocError>
-    ensures { OnOk result (map plain_stmt block.new.items ≡ map plain_stmt block.old.items ++ (L.digit_sets (seen plan.now) ++ L.one_set (seen plan.now) (several_bits (seen plan.now)))) }
+    ensures { OnOk result (map plain_stmt block.new.items ≡ map plain_stmt block.old.items
+        ++ (L.digit_sets (seen plan.now) ++ L.one_set (seen plan.now) (several_bits (seen plan.now)))) }
 {
     set_counters(block, alloc, plan)?;
     if has_several_bits(plan) {

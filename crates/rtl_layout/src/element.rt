@@ -5,14 +5,14 @@ use std::marker::Model;
 
 /// An operation: a write or a read, and its bit.
 #[derive(Clone, Copy)]
-pub struct Operation {
+pub struct PlanOperation {
     pub write: bool,
     pub bit: bool,
 }
 
-impl Default for Operation {
+impl Default for PlanOperation {
     fn default() -> Self {
-        Operation {
+        PlanOperation {
             write: false,
             bit: false,
         }
@@ -24,7 +24,7 @@ impl Default for Operation {
 pub struct Element {
     down: bool,
     pause: bool,
-    operations: ArrayVec<Operation, 16>,
+    operations: ArrayVec<PlanOperation, 16>,
 }
 
 impl Model for Element {
@@ -62,14 +62,14 @@ impl Element {
     }
 
     /// Its operations.
-    pub fn operations(&self) -> &[Operation]
+    pub fn operations(&self) -> &[PlanOperation]
         ensures { result.now ≡ self.now.operations }
     {
         self.operations.as_slice()
     }
 
     /// One operation more, at the end.
-    pub fn push(&mut self, operation: Operation)
+    pub fn push(&mut self, operation: PlanOperation)
         requires { length self.old.operations < 16 }
         ensures { self.new ≡ record { down = self.old.down; pause = self.old.pause; operations = self.old.operations ++ operation ∷ [] } }
     {

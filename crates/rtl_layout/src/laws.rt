@@ -16,7 +16,8 @@ ghost use Rattle.rtl_layout.specs.Shows.{Ready, IsPlan, AnswersAlways};
 
 /// A choice among leaves gives the leaf whose number the name holds.
 pub fn choice_gives_its_leaf()
-    ensures { (widths : List ℕ → ℕ) (e : Env) (n : List ℕ) (w : ℕ) (xs : List Expression) → length xs ≤ 2 ^ w → e n < length xs → value widths e (pick n w xs) ≡ value widths e (leaf xs (e n)) }
+    ensures { (widths : List ℕ → ℕ) (e : Env) (n : List ℕ) (w : ℕ) (xs : List Expression) → length xs ≤ 2 ^ w
+        → e n < length xs → value widths e (pick n w xs) ≡ value widths e (leaf xs (e n)) }
 {}
 
 /// The module of a plan breaks no rule and can be written as text, no expression of it has more than 256 operators, and in
@@ -24,7 +25,8 @@ pub fn choice_gives_its_leaf()
 pub fn module_breaks_no_rule()
     ensures legal { (p : Plan) → Ready p → first_break (self_test p) ≡ None }
     ensures sizes { (p : Plan) → Ready p → formed (self_test p) ≡ true }
-    ensures text { (p : Plan) → Ready p → p.delay < 4 → p.element_width ≤ 16 → p.oper_width ≤ 16 → p.back_width ≤ 16 → is_name p.name ≡ true → fits (self_test p) ≡ true }
+    ensures text { (p : Plan) → Ready p → p.delay < 4 → p.element_width ≤ 16 → p.oper_width ≤ 16 → p.back_width ≤ 16
+        → is_name p.name ≡ true → fits (self_test p) ≡ true }
     ensures few { (p : Plan) → IsPlan p → few_operators (Some 256) (self_test p) ≡ true }
     ensures settles { (p : Plan) → Ready p → (regs ins : Env) → Starts (self_test p) regs ins → OneSettles (self_test p) regs ins }
 {}

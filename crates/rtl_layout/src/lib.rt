@@ -1,10 +1,10 @@
 //! The layout of a self-test module, made from a plan: a march and a memory as plain numbers and tables.
 //!
 //! ```
-//! use rtl_layout::{Element, Operation};
+//! use rtl_layout::{Element, PlanOperation};
 //!
 //! let mut element = Element::new(true, false);
-//! element.push(Operation { write: true, bit: false });
+//! element.push(PlanOperation { write: true, bit: false });
 //! assert!(rt; element.is_down() && !element.is_pause() && element.operations().len() == 1);
 //! ```
 //!
@@ -26,7 +26,7 @@ mod tables;
 mod trees;
 
 pub use build::module;
-pub use element::{Element, Operation};
+pub use element::{Element, PlanOperation};
 pub use laws::{
     choice_gives_its_leaf, module_breaks_no_rule, module_is_a_controller, open_run_shows_numbers,
 };

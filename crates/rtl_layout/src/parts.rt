@@ -6,10 +6,10 @@ ghost use Rattle.rtl_layout.specs.inner.Rows.{AreRows};
 
 use std::alloc::{AllocError, Global};
 use verilog_tree::build::{assign, name, register, wire};
-use verilog_tree::{Expr, Item, Name, Stmt};
+use verilog_tree::{BodyItem, Expr, Name, Stmt};
 
 /// Wires, each of a name and a width.
-pub fn wires(items: &mut Vec<Item>, rows: &[(&str, u8)]) -> Result<(), AllocError>
+pub fn wires(items: &mut Vec<BodyItem>, rows: &[(&str, u8)]) -> Result<(), AllocError>
     requires { IsTrue (are_names rows.now) }
     ensures { OnOk result (map plain_item items.new.items ≡ map plain_item items.old.items ++ map (λ r. WireItem r.0.now r.1) rows.now) }
 {
@@ -23,7 +23,7 @@ pub fn wires(items: &mut Vec<Item>, rows: &[(&str, u8)]) -> Result<(), AllocErro
 }
 
 /// Registers, each of a name and a width.
-pub fn registers(items: &mut Vec<Item>, rows: &[(&str, u8)]) -> Result<(), AllocError>
+pub fn registers(items: &mut Vec<BodyItem>, rows: &[(&str, u8)]) -> Result<(), AllocError>
     requires { IsTrue (are_names rows.now) }
     ensures { OnOk result (map plain_item items.new.items ≡ map plain_item items.old.items ++ map (λ r. RegItem r.0.now r.1) rows.now) }
 {
@@ -38,11 +38,12 @@ pub fn registers(items: &mut Vec<Item>, rows: &[(&str, u8)]) -> Result<(), Alloc
 
 /// One assignment more of each row, of what was built for it.
 pub fn assign_all<const N: usize>(
-    items: &mut Vec<Item>,
+    items: &mut Vec<BodyItem>,
     alloc: Global,
     rows: [(Name, Result<Expr, AllocError>); N],
 ) -> Result<(), AllocError>
-    ensures { (wanted : List ModuleItem) → AreRows AssignItem rows.entry wanted → OnOk result (map plain_item items.new.items ≡ map plain_item items.old.items ++ wanted) }
+    ensures { (wanted : List ModuleItem) → AreRows AssignItem rows.entry wanted
+        → OnOk result (map plain_item items.new.items ≡ map plain_item items.old.items ++ wanted) }
 {
     for (target, built) in Vec::from_array(alloc, rows)? {
         assign(items, target, built?)?;
@@ -56,7 +57,8 @@ pub fn set_all<const N: usize>(
     alloc: Global,
     rows: [(Name, Result<Expr, AllocError>); N],
 ) -> Result<(), AllocError>
-    ensures { (wanted : List Statement) → AreRows SetTo rows.entry wanted → OnOk result (map plain_stmt block.new.items ≡ map plain_stmt block.old.items ++ wanted) }
+    ensures { (wanted : List Statement) → AreRows SetTo rows.entry wanted
+        → OnOk result (map plain_stmt block.new.items ≡ map plain_stmt block.old.items ++ wanted) }
 {
     for (register, built) in Vec::from_array(alloc, rows)? {
         block.push(Stmt::Set(register, built?))?;

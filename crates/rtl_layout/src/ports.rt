@@ -11,7 +11,7 @@ use crate::row::Row;
 use crate::trees::gate;
 use std::alloc::{AllocError, Global};
 use verilog_tree::build::{binary, concat, flag, literal, name, net, port, unary};
-use verilog_tree::{BinOp, Dir, Expr, Item, Port, UnOp};
+use verilog_tree::{BinOp, BodyItem, Dir, Expr, Port, UnOp};
 
 /// The ports in their order.
 pub fn ports(alloc: Global, plan: &Plan) -> Result<Vec<Port>, AllocError>
@@ -68,7 +68,7 @@ fn address(alloc: Global, plan: &Plan) -> Result<Expr, AllocError>
 }
 
 /// All outputs.
-pub fn assign_ports(items: &mut Vec<Item>, alloc: Global, plan: &Plan) -> Result<(), AllocError>
+pub fn assign_ports(items: &mut Vec<BodyItem>, alloc: Global, plan: &Plan) -> Result<(), AllocError>
     ensures { OnOk result (map plain_item items.new.items ≡ map plain_item items.old.items ++ L.port_assigns (seen plan.now)) }
 {
     let rows = [

@@ -9,7 +9,7 @@ ghost use Rattle.rtl_layout.specs.Layout as L;
 ghost use Rattle.rtl_layout.specs.Plan.{several_bits};
 ghost use Rattle.rtl_layout.specs.Seen.{seen};
 
-use crate::element::{Element, Operation};
+use crate::element::{Element, PlanOperation};
 use crate::flags::MarchFlag;
 use crate::plan::Plan;
 use crate::trees::{bit, pick_leaf};
@@ -18,7 +18,7 @@ use verilog_tree::build::{choose, literal, name, net, unary};
 use verilog_tree::{Expr, Name, UnOp};
 
 // The operation of a number, and behind the last the last.
-fn operation_in(element: &Element, i: usize) -> Operation
+fn operation_in(element: &Element, i: usize) -> PlanOperation
     requires { 0 < length element.now.operations }
     ensures { result ≡ L.operation_in element.now i }
 {

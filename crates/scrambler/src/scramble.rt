@@ -119,6 +119,16 @@ impl Scramble {
         true
     }
 
+    /// Recalls to the prover what holds of every scrambling. It does nothing.
+    pub fn known(&self)
+        ensures bounds { (1 ≤ self.now.width) × (self.now.width ≤ 16) }
+        ensures full { IsFull self.now }
+        ensures invertible { IsInvertible self.now }
+    {
+        let _width = self.width();
+        let _rows = self.rows();
+    }
+
     /// How many bits an index and an address have: 1 to 16.
     pub fn width(&self) -> u8
         ensures width { result ≡ self.now.width }

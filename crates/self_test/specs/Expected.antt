@@ -13,7 +13,8 @@ use Rattle.self_test.specs.SelfTest.{AreInputs}
 -- where cycle t is that of a read, `wdata` has the word that it expects, as the memory inverts it
 abbrev pub CarriesExpected : List MarchElement → Description → ℕ → PortValues → Type 0
 CarriesExpected march d t q =
-    (j : ℕ) (command : PortOp) → slice_get (port_ops march d) j ≡ Some command → command.write ≡ false → t ≡ cycle_of march d j → q.wdata ≡ command.word
+    (j : ℕ) (command : PortOp) → slice_get (port_ops march d) j ≡ Some command → command.write ≡ false
+    → t ≡ cycle_of march d j → q.wdata ≡ command.word
 
 -- with any registers at first and any words that return, every history does so in each of its cycles
 abbrev pub ShowsExpected : ModuleTree → List MarchElement → Description → Type 0

@@ -14,7 +14,8 @@ use Rattle.self_test.specs.SelfTest.{reset_at}
 
 -- Words on `rdata` by cycle, each a word of the memory or nothing: where the answer of a read stands there, it isn't nothing.
 pub record AnswerReads (march : List MarchElement) (d : Description) (words : ℕ → Option ℕ) : Type 0 where
-  pub reads : (j : ℕ) (command : PortOp) → slice_get (port_ops march d) j ≡ Some command → command.write ≡ false → words (cycle_of march d j + d.latency) ≢ None
+  pub reads : (j : ℕ) (command : PortOp) → slice_get (port_ops march d) j ≡ Some command → command.write ≡ false
+      → words (cycle_of march d j + d.latency) ≢ None
   pub within : (t word : ℕ) → words t ≡ Some word → word < 2 ^ d.bits
 
 -- the inputs of cycle t: one reset, in the first cycle of all, and these words

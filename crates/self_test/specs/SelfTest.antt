@@ -36,4 +36,5 @@ pub record SelfTest (mo : ModuleTree) (march : List MarchElement) (d : Descripti
   -- in each cycle, whatever the registers and the inputs hold within their widths, exactly one environment settles
   pub settles : (regs ins : Env) → Starts mo regs ins → OneSettles mo regs ins
   -- with any registers at first and any words that return, every history meets the rule of the ports in each of its cycles
-  pub meets : (regs : Env) (words : List ℕ) (is es : List Env) → AreInputs 0 words is → History mo regs is es → EachMeets march d (slice_index words) es
+  pub meets : (regs : Env) (words : List ℕ) (is es : List Env) → AreInputs 0 words is → History mo regs is es
+      → EachMeets march d (slice_index words) es

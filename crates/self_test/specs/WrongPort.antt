@@ -48,7 +48,8 @@ wrong_port d qs = or_else (missing (ports d) qs) (further (ports d) [] qs)
 pub record ArePorts (d : Description) (qs : List ModulePort) : Type 0 where
   pub each : AllByRecursion (λ p. has_port p qs ≡ true) (ports d)
   pub only : AllByRecursion (λ q. has_port q (ports d) ≡ true) qs
-  pub once : (before : List ModulePort) (q : ModulePort) (behind : List ModulePort) → qs ≡ before ++ q ∷ behind → has_name q.name before ≡ false
+  pub once : (before : List ModulePort) (q : ModulePort) (behind : List ModulePort) → qs ≡ before ++ q ∷ behind
+      → has_name q.name before ≡ false
 
 -- this names the first port of the list that isn't among these: those before it are
 pub record IsFirstMissing (list qs : List ModulePort) (name : List ℕ) : Type 0 where

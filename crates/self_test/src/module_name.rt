@@ -10,7 +10,7 @@ use verilog_tree::Name;
 pub fn module_of(memory: &Memory) -> Name
     ensures { result.bytes ≡ module_name memory.now.name }
 {
-    let _words = memory.words();
+    memory.known();
     let mut module = ArrayString::new();
     module.push_str(memory.name());
     module.push_str("_bist");

@@ -123,7 +123,8 @@ fn named(ports: &[Port], memory: &Memory) -> Option<Name>
 /// is further. An output may be a register.
 pub fn wrong_port(ports: &[Port], memory: &Memory) -> Option<Name>
     ensures name { option_map (λ n. n.bytes) result ≡ wrong_port memory.now (map plain_port ports.now) }
-    ensures told { (name : List ℕ) → (option_map (λ n. n.bytes) result ≡ Some name) ↔ IsWrongPort memory.now (map plain_port ports.now) name }
+    ensures told { (name : List ℕ) → (option_map (λ n. n.bytes) result ≡ Some name)
+        ↔ IsWrongPort memory.now (map plain_port ports.now) name }
     ensures none { (result ≡ None) ↔ ArePorts memory.now (map plain_port ports.now) }
 {
     named(ports, memory)

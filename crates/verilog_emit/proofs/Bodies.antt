@@ -14,7 +14,7 @@ use Rattle.verilog_tree.specs.declared.tree.Stmt.{Stmt}
 use Rattle.verilog_tree.specs.declared.tree.Stmt as S
 use Rattle.verilog_tree.specs.declared.tree.Arm.{Arm}
 use Rattle.verilog_tree.specs.declared.tree.Expr.{Expr}
-use Rattle.verilog_tree.specs.declared.tree.Item.{Item}
+use Rattle.verilog_tree.specs.declared.tree.BodyItem.{BodyItem}
 use Rattle.std.proofs.Math.Seq.{drop-cons}
 use Rattle.std.proofs.lemmas.List.{drop_all}
 use Rattle.verilog_emit.specs.Printed.{expression_text, unless_empty}
@@ -130,7 +130,7 @@ one_written text rest own xs i x out more whole l e t f g =
 pub one_left : {A : Type 0} (holds : List A → Bool) (own : Bool) (xs : List A) (i : ℕ) (x : A) → i < length xs → x ≡ get_or xs i x → holds (x ∷ drop (i + 1) xs) ≡ (own && holds (drop (i + 1) xs)) → holds (drop i xs) ≡ true → (own ≡ true) × (holds (drop (i + 1) xs) ≡ true)
 one_left holds own xs i x l e t f = both own (holds (drop (i + 1) xs)) (sym t ∙ sym (ap holds (next_one xs i x l e)) ∙ f)
 
-pub item_left : (items : List Item) (i : ℕ) (x : Item) → i < length items → x ≡ get_or items i x → items_fit 64 (map plain_item (drop i items)) ≡ true → (item_fits 64 (plain_item x) ≡ true) × (items_fit 64 (map plain_item (drop (i + 1) items)) ≡ true)
+pub item_left : (items : List BodyItem) (i : ℕ) (x : BodyItem) → i < length items → x ≡ get_or items i x → items_fit 64 (map plain_item (drop i items)) ≡ true → (item_fits 64 (plain_item x) ≡ true) × (items_fit 64 (map plain_item (drop (i + 1) items)) ≡ true)
 item_left items i x l e f = one_left (λ is. items_fit 64 (map plain_item is)) (item_fits 64 (plain_item x)) items i x l e refl f
 
 pub arm_left : (d : ℕ) (choices : List Arm) (i : ℕ) (x : Arm) → i < length choices → x ≡ get_or choices i x → arms_shallow d (arms (map plain_arm (drop i choices))) ≡ true → ((nat_lt d 100 && statements_shallow (d + 1) (plain_stmts x.body.items)) ≡ true) × (arms_shallow d (arms (map plain_arm (drop (i + 1) choices))) ≡ true)

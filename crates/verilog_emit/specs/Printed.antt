@@ -37,8 +37,10 @@ abbrev mutual
   expression_text (Literal x) = literal_text x
   expression_text (Concatenation xs) = codes "{" ++ parts_text true xs ++ codes "}"
   expression_text (Prefixed o x) = codes "(" ++ mark_text (unary_mark o) ++ expression_text x ++ codes ")"
-  expression_text (Infixed o x y) = codes "(" ++ expression_text x ++ codes " " ++ mark_text (binary_mark o) ++ codes " " ++ expression_text y ++ codes ")"
-  expression_text (Conditional c x y) = codes "(" ++ expression_text c ++ codes " ? " ++ expression_text x ++ codes " : " ++ expression_text y ++ codes ")"
+  expression_text (Infixed o x y) = codes "(" ++ expression_text x ++ codes " " ++ mark_text (binary_mark o)
+      ++ codes " " ++ expression_text y ++ codes ")"
+  expression_text (Conditional c x y) = codes "(" ++ expression_text c ++ codes " ? " ++ expression_text x
+      ++ codes " : " ++ expression_text y ++ codes ")"
 
   pub parts_text : Bool → Expressions → List ℕ
   parts_text first NoMore = []
@@ -64,11 +66,13 @@ abbrev mutual
       ++ unless_empty b (line depth (codes "end else begin") ++ statements_text (depth + 1) b) ++ line depth (codes "end")
   statement_text depth (CaseOf x as' d) =
       line depth (codes "case (" ++ expression_text x ++ codes ")") ++ arms_text (depth + 1) as'
-      ++ unless_empty d (line (depth + 1) (codes "default: begin") ++ statements_text (depth + 2) d ++ line (depth + 1) (codes "end")) ++ line depth (codes "endcase")
+      ++ unless_empty d (line (depth + 1) (codes "default: begin") ++ statements_text (depth + 2) d
+      ++ line (depth + 1) (codes "end")) ++ line depth (codes "endcase")
 
   pub arms_text : ℕ → Arms → List ℕ
   arms_text depth NoArm = []
-  arms_text depth (ArmOf ls ss as') = line depth (labels_text true ls ++ codes ": begin") ++ statements_text (depth + 1) ss ++ line depth (codes "end") ++ arms_text depth as'
+  arms_text depth (ArmOf ls ss as') = line depth (labels_text true ls ++ codes ": begin")
+      ++ statements_text (depth + 1) ss ++ line depth (codes "end") ++ arms_text depth as'
 
   pub statements_text : ℕ → Statements → List ℕ
   statements_text depth Done = []
@@ -113,4 +117,5 @@ items_text (i ∷ is) = item_text i ++ items_text is
 
 -- the text of a module
 abbrev pub printed : ModuleTree → List ℕ
-printed mo = line 0 (codes "module " ++ mo.name ++ codes "(") ++ ports_text mo.ports ++ line 0 (codes ");") ++ items_text mo.items ++ line 0 (codes "endmodule")
+printed mo = line 0 (codes "module " ++ mo.name ++ codes "(") ++ ports_text mo.ports ++ line 0 (codes ");")
+    ++ items_text mo.items ++ line 0 (codes "endmodule")

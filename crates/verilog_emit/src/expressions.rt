@@ -69,7 +69,8 @@ pub fn put_enclosed(
 /// Appends a concatenation.
 #[cycle(put_expr)]
 fn put_parts(out: &mut Vec<u8>, parts: &[Expr]) -> Result<(), NoMemory>
-    ensures { OnOk result (out.new.items ≡ out.old.items ++ (codes "{" ++ parts_text true (expressions (map plain parts.now)) ++ codes "}")) }
+    ensures { OnOk result (out.new.items ≡ out.old.items
+        ++ (codes "{" ++ parts_text true (expressions (map plain parts.now)) ++ codes "}")) }
 {
     put(out, b"{")?;
     let mut first = true;

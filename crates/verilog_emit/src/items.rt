@@ -8,7 +8,7 @@ use crate::statements::{put_assigned, put_stmts};
 use crate::writing::{put_line, put_name_line, put_range};
 use bist_bits::NoMemory;
 use bist_text::{put, put_between};
-use verilog_tree::{Dir, Item, Name, Port, Stmt};
+use verilog_tree::{BodyItem, Dir, Name, Port, Stmt};
 
 /// The words of a port, behind the blanks before its line.
 fn port_words(dir: Dir) -> &'static [u8]
@@ -65,26 +65,32 @@ fn put_always(out: &mut Vec<u8>, clock: &Name, body: &[Stmt]) -> Result<(), NoMe
     put_line(out, 1, b"end")
 }
 
-fn put_item(out: &mut Vec<u8>, item: &Item) -> Result<(), NoMemory>
+fn put_item(out: &mut Vec<u8>, item: &BodyItem) -> Result<(), NoMemory>
     requires { item_fits 64 (plain_item item.now) ≡ true }
     ensures { OnOk result (out.new.items ≡ out.old.items ++ item_text (plain_item item.now)) }
 {
     match item {
-        Item::Wire(declared) => put_declared(
+        BodyItem::Wire(declared) => put_declared(
             out,
             b"  wire ",
             declared.width,
             &declared.name,
             b";\n",
         ),
-        Item::Reg(declared) => put_declared(out, b"  reg ", declared.width, &declared.name, b";\n"),
-        Item::Assign(name, x) => put_assigned(out, 1, b"assign ", name, b" = ", x),
-        Item::Always(clock, body) => put_always(out, clock, body),
+        BodyItem::Reg(declared) => put_declared(
+            out,
+            b"  reg ",
+            declared.width,
+            &declared.name,
+            b";\n",
+        ),
+        BodyItem::Assign(name, x) => put_assigned(out, 1, b"assign ", name, b" = ", x),
+        BodyItem::Always(clock, body) => put_always(out, clock, body),
     }
 }
 
 /// Appends the items.
-pub fn put_items(out: &mut Vec<u8>, items: &[Item]) -> Result<(), NoMemory>
+pub fn put_items(out: &mut Vec<u8>, items: &[BodyItem]) -> Result<(), NoMemory>
     requires { items_fit 64 (map plain_item items.now) ≡ true }
     ensures { OnOk result (out.new.items ≡ out.old.items ++ items_text (map plain_item items.now)) }
 {

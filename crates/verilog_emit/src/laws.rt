@@ -16,7 +16,8 @@ ghost use Rattle.verilog_emit.specs.Written.{IsTextOf, is_text_byte};
 pub fn texts_are_of_one_module()
     ensures derived { (bytes : List ℕ) (tree : ModuleTree) → IsTextOf bytes tree → Text Parenthesised no_limits bytes tree }
     ensures spelt { (bytes : List ℕ) (tree : ModuleTree) → IsTextOf bytes tree → Spells bytes tree }
-    ensures no_other { (bytes : List ℕ) (tree other : ModuleTree) → IsTextOf bytes tree → Text Parenthesised no_limits bytes other → other ≡ tree }
+    ensures no_other { (bytes : List ℕ) (tree other : ModuleTree) → IsTextOf bytes tree
+        → Text Parenthesised no_limits bytes other → other ≡ tree }
     ensures sized { (bytes : List ℕ) (tree : ModuleTree) → IsTextOf bytes tree → formed tree ≡ true }
     ensures one { (bytes : List ℕ) (tree other : ModuleTree) → IsTextOf bytes tree → IsTextOf bytes other → other ≡ tree }
     ensures some { (tree : ModuleTree) → fits tree ≡ true → IsTextOf (printed tree) tree }

@@ -36,7 +36,8 @@ pub fn put_assigned(
     mark: &[u8],
     x: &Expr,
 ) -> Result<(), NoMemory>
-    ensures { OnOk result (out.new.items ≡ out.old.items ++ line depth (word.now ++ name.now.bytes ++ mark.now ++ expression_text (plain x.now) ++ codes ";")) }
+    ensures { OnOk result (out.new.items ≡ out.old.items
+        ++ line depth (word.now ++ name.now.bytes ++ mark.now ++ expression_text (plain x.now) ++ codes ";")) }
 {
     put_margin(out, depth)?;
     put_between(out, word, name.as_str().as_bytes(), mark)?;

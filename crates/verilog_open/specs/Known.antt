@@ -22,12 +22,14 @@ AreKnown clear o = (n : List ℕ) → clear n ≡ true → Known (o n)
 -- the clear registers have numbers
 abbrev pub RegistersKnown : ModuleTree → (List ℕ → Bool) → OpenEnv → Type 0
 RegistersKnown mo clear regs =
-    (n : List ℕ) (d : Declaration) → lookup (declarations mo.ports mo.items) n ≡ Some d → d.kind ≡ K.Register → clear n ≡ true → Known (regs n)
+    (n : List ℕ) (d : Declaration) → lookup (declarations mo.ports mo.items) n ≡ Some d → d.kind ≡ K.Register
+    → clear n ≡ true → Known (regs n)
 
 -- the clear inputs but the clock have numbers
 abbrev pub InputsKnown : ModuleTree → (List ℕ → Bool) → OpenEnv → Type 0
 InputsKnown mo clear ins =
-    (n : List ℕ) (d : Declaration) → lookup (declarations mo.ports mo.items) n ≡ Some d → d.kind ≡ K.Input → is_clk n ≡ false → clear n ≡ true → Known (ins n)
+    (n : List ℕ) (d : Declaration) → lookup (declarations mo.ports mo.items) n ≡ Some d → d.kind ≡ K.Input
+    → is_clk n ≡ false → clear n ≡ true → Known (ins n)
 
 -- each number that is given to the name
 abbrev pub SetsKnown : List ℕ → List (List ℕ × Option ℕ) → Type 0

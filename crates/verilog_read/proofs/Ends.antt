@@ -6,8 +6,8 @@ use Rattle.verilog_tree.specs.Plain.{Expression}
 use Rattle.verilog_tree.specs.declared.tokens.Mark.{Mark}
 use Rattle.verilog_tree.specs.declared.tokens.Mark.TheVariants.{Open, OpenBrace, Bang, Tilde, OpenBracket, Close, Semicolon, Colon, Comma, CloseBrace, Question, Plus, Minus, Ampersand, Bar, Caret, TwoEquals, BangEquals, Less, LessEquals, Greater, GreaterEquals, TwoAmpersands, TwoBars, TwoLess, TwoGreater}
 use Rattle.verilog_tree.specs.declared.tree.UnOp.{UnOp}
-use Rattle.verilog_read.specs.declared.places.Base.TheVariants as B
-use Rattle.verilog_read.specs.declared.places.Base.{Base}
+use Rattle.verilog_read.specs.declared.places.Purpose.TheVariants as B
+use Rattle.verilog_read.specs.declared.places.Purpose.{Purpose}
 use Rattle.verilog_read.specs.declared.precedence.Nest.{Nest}
 use Rattle.verilog_read.specs.declared.precedence.Nest.TheVariants as N
 use Rattle.verilog_tree.specs.Grammar.{unlimited, is_sign}
@@ -40,7 +40,7 @@ ends_is p x (AsValue n a) m = where_is (is_sign Semicolon m) _
 not_expected : (m : Mark) (s : State) (t : Token) → is_expected m t ≡ false → expects m s t ≡ None
 not_expected m s t e = expects_is m s t ∙ ap (λ b. only_where b (Some s)) e
 
-pub ends_not : (p : ℕ) (x : Expression) (b : Base) (h : Head) (a : Around) (t : Token) → is_expected (end_of b) t ≡ false → alone_step p x (alone b h a) t ≡ None
+pub ends_not : (p : ℕ) (x : Expression) (b : Purpose) (h : Head) (a : Around) (t : Token) → is_expected (end_of b) t ≡ false → alone_step p x (alone b h a) t ≡ None
 ends_not p x (B.Drive n) h a t e = not_expected Semicolon _ t e
 ends_not p x (B.Test r q) h a t e = not_expected Close _ t e
 ends_not p x (B.Pick r q) h a t e = not_expected Close _ t e

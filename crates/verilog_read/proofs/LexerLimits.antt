@@ -6,7 +6,7 @@ use Rattle.bist_text.specs.Machine.{Holds}
 use Rattle.verilog_tree.specs.Tokens.{Token}
 use Rattle.verilog_read.specs.declared.lexer.LexFault.{LexFault}
 use Rattle.verilog_read.specs.declared.lexer.LexFault.TheVariants.{Unexpected, LongName, LargeNumber, WrongLiteral}
-use Rattle.verilog_read.specs.declared.lexer.Read.{Read}
+use Rattle.verilog_read.specs.declared.lexer.LexStep.{LexStep}
 use Rattle.verilog_read.specs.inner.Lexemes.{lexer_of, Fits, IsLarge, IsSize, Scans, behind}
 use Rattle.verilog_text.specs.Lexing.{Lexer, silent, with_token, InWord, InNumber}
 
@@ -25,7 +25,7 @@ holds_large most None h f = f
 holds_large most (Some r) h f = (f.0, large_more most r.0 h f.1)
 
 -- a part that reads no number, where numbers may be at most `most`
-pub any_numbers : (most : ℕ) (o : Option (Lexer × Option Token)) (r : Result Read LexFault) → 63 ≤ most → most ≤ 64 → Scans 63 64 o r → Scans most most o r
+pub any_numbers : (most : ℕ) (o : Option (Lexer × Option Token)) (r : Result LexStep LexFault) → 63 ≤ most → most ≤ 64 → Scans 63 64 o r → Scans most most o r
 any_numbers most o (Ok r) l h s = (s.0, fits_more most (lexer_of r.lexer) l s.1)
 any_numbers most o (Err Unexpected) l h s = s
 any_numbers most o (Err LongName) l h s = s

@@ -12,7 +12,7 @@ use Rattle.verilog_tree.specs.Formed.{is_width, is_literal}
 use Rattle.verilog_tree.specs.Tokens.{Token, Identifier, Number, Based, Unused, Sign}
 use Rattle.verilog_read.specs.declared.lexer.LexFault.{LexFault}
 use Rattle.verilog_read.specs.declared.lexer.LexFault.TheVariants as L
-use Rattle.verilog_read.specs.declared.lexer.Read.{Read}
+use Rattle.verilog_read.specs.declared.lexer.LexStep.{LexStep}
 use Rattle.verilog_text.specs.declared.fault.ByteFault.TheVariants.{LongName, OutOfRange}
 use Rattle.verilog_text.specs.Answering.{Move, Stops, while_live, within, read_on, lexed, byte_move}
 use Rattle.verilog_text.specs.inner.Answering.{read_within}
@@ -152,10 +152,10 @@ wrong_stops : (q : Both State Lexer) (o : Option (Lexer × Option Token)) → Ho
 wrong_stops q None h = absurd h
 wrong_stops q (Some r) h = ap (λ t. read_on q r.0 t) h.0 ∙ stops _ _ _ _ (wrong_live q.parser r.0 h.1) (within_out (name_fits r.0) (number_fits (most_of q.parser) r.0) _ (wrong_names r.0 h.1) (wrong_numbers (most_of q.parser) r.0 h.1))
 
-pub scanned : (q : Both State Lexer) (c most : ℕ) (r : Result Read LexFault) → most ≡ most_of q.parser → Scans most most (lex q.lexer c) r → Scanned q (byte_move q c) r
+pub scanned : (q : Both State Lexer) (c most : ℕ) (r : Result LexStep LexFault) → most ≡ most_of q.parser → Scans most most (lex q.lexer c) r → Scanned q (byte_move q c) r
 scanned q c most r e s = go r (subst (λ m. Scans m m (lex q.lexer c) r) e s)
   where
-    go : (r : Result Read LexFault) → Scans (most_of q.parser) (most_of q.parser) (lex q.lexer c) r → Scanned q (byte_move q c) r
+    go : (r : Result LexStep LexFault) → Scans (most_of q.parser) (most_of q.parser) (lex q.lexer c) r → Scanned q (byte_move q c) r
     go (Ok r) s = ap (lexed q) s.0 ∙ on_fits q (lexer_of r.lexer) (tokens_of r.token) s.1
     go (Err L.Unexpected) s = ap (lexed q) s
     go (Err L.LongName) s = long_stops q (lex q.lexer c) s

@@ -11,26 +11,26 @@ ghost use Rattle.verilog_read.specs.inner.Answers.{Goes};
 
 use crate::fault::ParseFault;
 use crate::lexemes::Lexeme;
-use crate::places::{Base, Case, Holder, ItemSpot, Outer, Place, StmtSpot};
-use crate::precedence::{Chain, ExprSpot, have, is_mark, operand, prim};
-use crate::stacks::{add_item, begin_in};
+use crate::places::{Case, Holder, ItemSpot, Outer, Place, Purpose, StmtSpot};
+use crate::precedence::{Chain, ExprSpot, after_operand, is_mark, step_operand, step_primary};
+use crate::stacks::{add_item, begin_stmt};
 use crate::trees::only;
 use std::alloc::Global;
-use verilog_tree::{Expr, Item, Mark, Name, Stmt};
+use verilog_tree::{BodyItem, Expr, Mark, Name, Stmt};
 
 /// The mark that ends an expression that stands in no other.
-pub(crate) fn end_of(base: &Base) -> Mark
+pub(crate) fn end_of(base: &Purpose) -> Mark
     ensures { result ≡ end_of base.now }
 {
     match base {
-        Base::Drive(_) | Base::Set(_) => Mark::Semicolon,
-        Base::Test(_, _) | Base::Pick(_, _) => Mark::Close,
+        Purpose::Drive(_) | Purpose::Set(_) => Mark::Semicolon,
+        Purpose::Test(_, _) | Purpose::Pick(_, _) => Mark::Close,
     }
 }
 
 /// What a token does behind an expression that stands in no other.
 #[tactic(auto, using(crate::proofs::HoldingLemmas::expects_is, crate::proofs::Ends::ends_not))]
-pub(crate) fn have_whole(
+pub(crate) fn after_whole(
     alloc: Global,
     outer: &mut Outer,
     depth: u8,
@@ -44,12 +44,12 @@ pub(crate) fn have_whole(
         return Err(ParseFault::Unexpected);
     }
     match base {
-        Base::Drive(name) => {
-            add_item(outer, Item::Assign(name, x))?;
+        Purpose::Drive(name) => {
+            add_item(outer, BodyItem::Assign(name, x))?;
             Ok(Place::InItem(ItemSpot::Want))
         }
-        Base::Test(above, inner) => begin_in(outer, Holder::Then(above, x), inner),
-        Base::Pick(above, inner) => {
+        Purpose::Test(above, inner) => begin_stmt(outer, Holder::Then(above, x), inner),
+        Purpose::Pick(above, inner) => {
             let case = Case {
                 depth: above,
                 subject: x,
@@ -57,7 +57,7 @@ pub(crate) fn have_whole(
             };
             Ok(Place::InStmt(StmtSpot::FirstLabel(inner, case)))
         }
-        Base::Set(name) => {
+        Purpose::Set(name) => {
             let body = only(alloc, Stmt::Set(name, x))?;
             Ok(Place::InStmt(StmtSpot::HaveStmt(depth, body)))
         }
@@ -73,14 +73,15 @@ pub(crate) fn step_expr(
     chain: Chain,
     token: &Lexeme,
 ) -> Result<Place, ParseFault>
-    ensures { Goes (step_expr bounded (standing spot chain (nests_of outer.old.nests.items (alone_of outer.old))) (token_of token.now)) result outer.new }
+    ensures { Goes (step_expr bounded (standing spot chain (nests_of outer.old.nests.items (alone_of outer.old)))
+        (token_of token.now)) result outer.new }
 {
     let next = match spot {
-        ExprSpot::Operand(depth) => return operand(alloc, outer, depth, chain, token),
-        ExprSpot::Prim(depth) => return prim(alloc, outer, depth, chain, token),
+        ExprSpot::Operand(depth) => return step_operand(alloc, outer, depth, chain, token),
+        ExprSpot::Prim(depth) => return step_primary(alloc, outer, depth, chain, token),
         ExprSpot::Named(depth, name) => match token {
             Lexeme::Sign(Mark::OpenBracket) => ExprSpot::Bracket(depth, name),
-            _ => return have(alloc, outer, depth, Expr::Name(name), chain, token),
+            _ => return after_operand(alloc, outer, depth, Expr::Name(name), chain, token),
         },
         ExprSpot::Bracket(depth, name) => match token {
             Lexeme::Number(_, high) => ExprSpot::HighRead(depth, name, high.value),
@@ -101,7 +102,7 @@ pub(crate) fn step_expr(
             }
             ExprSpot::Have(depth, Expr::Part(name, high, low))
         }
-        ExprSpot::Have(depth, x) => return have(alloc, outer, depth, x, chain, token),
+        ExprSpot::Have(depth, x) => return after_operand(alloc, outer, depth, x, chain, token),
     };
     Ok(Place::InExpr(next, chain))
 }

@@ -10,13 +10,13 @@ ghost use Rattle.verilog_read.specs.inner.Answers.{Goes, a_name, bytes_of};
 use crate::expressions::step_expr;
 use crate::fault::ParseFault;
 use crate::lexemes::Lexeme;
-use crate::places::{Base, ItemSpot, Outer, Place, StmtSpot, Use};
+use crate::places::{ItemSpot, Outer, Place, Purpose, StmtSpot, Use};
 use crate::precedence::is_mark;
-use crate::stacks::{add_item, begin, is_word};
+use crate::stacks::{add_item, begin_expr, is_word};
 use crate::statements::{step_stmt, want_item};
 use bist_text::is_reserved;
 use std::alloc::Global;
-use verilog_tree::{Decl, Dir, Item, Mark, Name, Port};
+use verilog_tree::{BodyItem, Decl, Dir, Mark, Name, Port};
 
 fn name_in(token: &Lexeme) -> Option<Name>
     ensures { bytes_of result ≡ a_name (token_of token.now) }
@@ -38,8 +38,8 @@ fn declare(outer: &mut Outer, what: &Use, width: u8, name: Name) -> Result<Place
     ensures { Goes (Some (declared (use_of what.now (head_of outer.old)) width name.bytes)) result outer.new }
 {
     match what {
-        Use::Wire => add_item(outer, Item::Wire(Decl { name, width }))?,
-        Use::Reg => add_item(outer, Item::Reg(Decl { name, width }))?,
+        Use::Wire => add_item(outer, BodyItem::Wire(Decl { name, width }))?,
+        Use::Reg => add_item(outer, BodyItem::Reg(Decl { name, width }))?,
         Use::Port(dir) => {
             let dir = *dir;
             outer.tree.ports.push(Port { dir, name, width })?;
@@ -155,7 +155,7 @@ pub(crate) fn step_item(
             None => return Err(ParseFault::Unexpected),
         },
         ItemSpot::DriveRead(name) if is_mark(Mark::Equals, token) => {
-            return Ok(begin(alloc, outer, Base::Drive(*name), 0));
+            return Ok(begin_expr(alloc, outer, Purpose::Drive(*name), 0));
         }
         ItemSpot::AlwaysRead if is_mark(Mark::At, token) => ItemSpot::AtRead,
         ItemSpot::AtRead if is_mark(Mark::Open, token) => ItemSpot::ClockOpen,

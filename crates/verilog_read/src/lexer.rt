@@ -27,7 +27,7 @@ pub enum Scanner {
 
 /// Where a byte leads, and the token that it ends.
 #[derive(Clone, Copy)]
-pub struct Read {
+pub struct LexStep {
     pub lexer: Scanner,
     pub token: Option<Lexeme>,
 }
@@ -162,7 +162,7 @@ fn longer(name: Name, c: u8) -> Result<Name, LexFault>
 
 /// What a byte begins, behind a token or in white space.
 #[tactic(auto, using(crate::proofs::LexerLimits::begins_behind, crate::proofs::LexerLimits::none_behind))]
-fn begin(token: Option<Lexeme>, c: u8) -> Result<Read, LexFault>
+fn begin_token(token: Option<Lexeme>, c: u8) -> Result<LexStep, LexFault>
     ensures { Scans 63 64 (behind (tokens_of token) (begin c)) result }
 {
     let lexer = if is_space(c) {
@@ -179,22 +179,22 @@ fn begin(token: Option<Lexeme>, c: u8) -> Result<Read, LexFault>
             None => return Err(LexFault::Unexpected),
         }
     };
-    Ok(Read { lexer, token })
+    Ok(LexStep { lexer, token })
 }
 
-fn silent(lexer: Scanner) -> Read
+fn silent(lexer: Scanner) -> LexStep
     ensures lexer { result.lexer ≡ lexer }
     ensures token { result.token ≡ None }
 {
-    Read { lexer, token: None }
+    LexStep { lexer, token: None }
 }
 
 /// What a byte does in white space.
-fn lex_gap(within: Within, c: u8) -> Result<Read, LexFault>
+fn lex_gap(within: Within, c: u8) -> Result<LexStep, LexFault>
     ensures { Scans 63 64 (lex (InGap within) c) result }
 {
     let next = match (within, c) {
-        (Within::Between, _) => return begin(None, c),
+        (Within::Between, _) => return begin_token(None, c),
         (Within::Line, b'\n') | (Within::Star, b'/') => Within::Between,
         (Within::Slash, b'/') | (Within::Line, _) => Within::Line,
         (Within::Slash, b'*') => Within::Block,
@@ -205,20 +205,20 @@ fn lex_gap(within: Within, c: u8) -> Result<Read, LexFault>
     Ok(silent(Scanner::InGap(next)))
 }
 
-fn lex_word(name: Name, c: u8) -> Result<Read, LexFault>
+fn lex_word(name: Name, c: u8) -> Result<LexStep, LexFault>
     ensures { Scans 63 64 (lex (InWord name.bytes) c) result }
 {
     if in_identifier(c) {
         let longer = longer(name, c)?;
         Ok(silent(Scanner::InWord(longer)))
     } else {
-        begin(Some(Lexeme::Word(name)), c)
+        begin_token(Some(Lexeme::Word(name)), c)
     }
 }
 
 /// Behind the digits of a number, which may be at most `most`.
 #[tactic(auto, using(crate::proofs::LexerLimits::size_vector))]
-fn lex_number(long: bool, n: SmallNumber, c: u8, most: u8) -> Result<Read, LexFault>
+fn lex_number(long: bool, n: SmallNumber, c: u8, most: u8) -> Result<LexStep, LexFault>
     requires low { 63 ≤ most }
     requires high { most ≤ 64 }
     ensures { Scans most most (lex (InNumber long n.value) c) result }
@@ -235,12 +235,12 @@ fn lex_number(long: bool, n: SmallNumber, c: u8, most: u8) -> Result<Read, LexFa
             None => Err(LexFault::WrongLiteral),
         }
     } else {
-        begin(Some(Lexeme::Number(long, n)), c)
+        begin_token(Some(Lexeme::Number(long, n)), c)
     }
 }
 
 /// The digits so far, and a further one.
-fn pushed(base: Base, size: u8, value: u64, c: u8) -> Result<Read, LexFault>
+fn pushed(base: Base, size: u8, value: u64, c: u8) -> Result<LexStep, LexFault>
     requires { is_digit_of base c ≡ true }
     ensures { Scans 63 64 (Some (InDigits size base (value * radix base + digit_value c), None)) result }
 {
@@ -256,7 +256,7 @@ fn pushed(base: Base, size: u8, value: u64, c: u8) -> Result<Read, LexFault>
     }
 }
 
-fn lex_digits(base: Base, bits: Bits, c: u8) -> Result<Read, LexFault>
+fn lex_digits(base: Base, bits: Bits, c: u8) -> Result<LexStep, LexFault>
     ensures { Scans 63 64 (lex (InDigits bits.width base bits.value) c) result }
 {
     if is_digit_of(base, c) {
@@ -266,23 +266,23 @@ fn lex_digits(base: Base, bits: Bits, c: u8) -> Result<Read, LexFault>
     } else if c == b'?' && !matches!(base, Base::Decimal) {
         Ok(silent(Scanner::Whole(Lexeme::Unused)))
     } else {
-        begin(Some(Lexeme::Constant(bits)), c)
+        begin_token(Some(Lexeme::Constant(bits)), c)
     }
 }
 
-fn lex_mark(mark: Mark, c: u8) -> Result<Read, LexFault>
+fn lex_mark(mark: Mark, c: u8) -> Result<LexStep, LexFault>
     ensures { Scans 63 64 (lex (Marked mark) c) result }
 {
     match lengthened(mark, c) {
         Some(longer) => Ok(silent(Scanner::Marked(longer))),
         None if spoils(mark, c) => Ok(silent(Scanner::Whole(Lexeme::Unused))),
-        None => begin(Some(Lexeme::Sign(mark)), c),
+        None => begin_token(Some(Lexeme::Sign(mark)), c),
     }
 }
 
 /// What the lexer does at a byte, where a number that goes on may be at most `most`.
 #[tactic(auto, using(crate::proofs::LexerLimits::any_numbers))]
-pub(crate) fn lex(lexer: Scanner, c: u8, most: u8) -> Result<Read, LexFault>
+pub(crate) fn lex(lexer: Scanner, c: u8, most: u8) -> Result<LexStep, LexFault>
     requires low { 63 ≤ most }
     requires high { most ≤ 64 }
     ensures { Scans most most (lex (lexer_of lexer) c) result }
@@ -310,7 +310,7 @@ pub(crate) fn lex(lexer: Scanner, c: u8, most: u8) -> Result<Read, LexFault>
         }
         Scanner::InDigits(base, bits) => lex_digits(base, bits, c),
         Scanner::Marked(mark) => lex_mark(mark, c),
-        Scanner::Whole(token) => begin(Some(token), c),
+        Scanner::Whole(token) => begin_token(Some(token), c),
     }
 }
 

@@ -33,4 +33,5 @@ mod takes;
 mod trees;
 mod words;
 
+pub use places::Style;
 pub use read::{read_free, read_module};

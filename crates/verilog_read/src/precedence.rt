@@ -14,7 +14,7 @@ ghost use Rattle.verilog_read.specs.inner.Frames.{alone_of};
 ghost use Rattle.verilog_read.specs.inner.Answers.{Goes};
 ghost use Rattle.verilog_read.specs.declared.places.Outer.{Outer};
 
-use crate::expressions::have_whole;
+use crate::expressions::after_whole;
 use crate::fault::ParseFault;
 use crate::lexemes::Lexeme;
 use crate::operators::{Left, MOST_HEIGHT, settle};
@@ -124,7 +124,8 @@ fn signed(alloc: Global, mark: Option<UnOp>, x: Expr) -> Result<Expr, ParseFault
 
 #[tactic(auto, using(crate::proofs::HoldingLemmas::parts_push))]
 fn with_part(parts: Vec<Expr>, x: Expr) -> Result<Vec<Expr>, ParseFault>
-    ensures value { IfOk result (λ ys. expressions (map plain ys.items) ≡ more_parts (expressions (map plain parts.items)) (Followed (plain x) NoMore)) }
+    ensures value { IfOk result (λ ys. expressions (map plain ys.items)
+        ≡ more_parts (expressions (map plain parts.items)) (Followed (plain x) NoMore)) }
     ensures fault { IfErr result (λ f. f ≡ ParseFault.NoMemory) }
 {
     let mut parts = parts;
@@ -134,14 +135,15 @@ fn with_part(parts: Vec<Expr>, x: Expr) -> Result<Vec<Expr>, ParseFault>
 
 /// An expression begins within another.
 #[tactic(auto, using(crate::proofs::HoldingLemmas::nests_push))]
-fn begun(
+fn begin_nested(
     alloc: Global,
     outer: &mut Outer,
     around: Nest,
     depth: u8,
     count: Count,
 ) -> Result<Place, ParseFault>
-    ensures { Goes (Some (AtExpr (WantOperand depth count [] (nest around (nests_of outer.old.nests.items (alone_of outer.old)))))) result outer.new }
+    ensures { Goes (Some (AtExpr (WantOperand depth count []
+        (nest around (nests_of outer.old.nests.items (alone_of outer.old)))))) result outer.new }
 {
     outer.nests.push(around)?;
     let chain = Chain {
@@ -153,14 +155,15 @@ fn begun(
 }
 
 /// Where a name, a literal, a parenthesis or a brace is wanted.
-pub(crate) fn prim(
+pub(crate) fn step_primary(
     alloc: Global,
     outer: &mut Outer,
     depth: u8,
     chain: Chain,
     token: &Lexeme,
 ) -> Result<Place, ParseFault>
-    ensures { Goes (prim_step bounded depth chain.count (lefts_of chain.lefts.items) chain.mark (nests_of outer.old.nests.items (alone_of outer.old)) (token_of token.now)) result outer.new }
+    ensures { Goes (prim_step bounded depth chain.count (lefts_of chain.lefts.items) chain.mark
+        (nests_of outer.old.nests.items (alone_of outer.old)) (token_of token.now)) result outer.new }
 {
     let count = chain.count;
     let spot = match token {
@@ -173,14 +176,14 @@ pub(crate) fn prim(
                 return Err(ParseFault::Unexpected);
             };
             let around = Nest::Round(depth, chain);
-            return begun(alloc, outer, around, inner, within(count, true));
+            return begin_nested(alloc, outer, around, inner, within(count, true));
         }
         Lexeme::Sign(Mark::OpenBrace) => {
             let Some(inner) = deeper(depth) else {
                 return Err(ParseFault::Unexpected);
             };
             let around = Nest::List(depth, Vec::new(alloc), chain);
-            return begun(alloc, outer, around, inner, within(count, false));
+            return begin_nested(alloc, outer, around, inner, within(count, false));
         }
         _ => return Err(ParseFault::Unexpected),
     };
@@ -188,14 +191,15 @@ pub(crate) fn prim(
 }
 
 /// Where an operand is wanted: a mark may stand before it.
-pub(crate) fn operand(
+pub(crate) fn step_operand(
     alloc: Global,
     outer: &mut Outer,
     depth: u8,
     chain: Chain,
     token: &Lexeme,
 ) -> Result<Place, ParseFault>
-    ensures { Goes (operand_step bounded depth chain.count (lefts_of chain.lefts.items) (nests_of outer.old.nests.items (alone_of outer.old)) (token_of token.now)) result outer.new }
+    ensures { Goes (operand_step bounded depth chain.count (lefts_of chain.lefts.items)
+        (nests_of outer.old.nests.items (alone_of outer.old)) (token_of token.now)) result outer.new }
 {
     let mut chain = chain;
     chain.mark = match token {
@@ -203,7 +207,7 @@ pub(crate) fn operand(
         _ => None,
     };
     if chain.mark.is_none() {
-        return prim(alloc, outer, depth, chain, token);
+        return step_primary(alloc, outer, depth, chain, token);
     }
     match one_more(chain.count) {
         Some(more) => {
@@ -237,12 +241,14 @@ fn in_list(
     x: Expr,
     token: &Lexeme,
 ) -> Result<Place, ParseFault>
-    ensures { Goes (close_step inner count (plain x) (InList depth (expressions (map plain parts.items)) chain.count (lefts_of chain.lefts.items) chain.mark (nests_of outer.old.nests.items (alone_of outer.old))) (token_of token.now)) result outer.new }
+    ensures { Goes (close_step inner count (plain x)
+        (InList depth (expressions (map plain parts.items)) chain.count (lefts_of chain.lefts.items) chain.mark
+        (nests_of outer.old.nests.items (alone_of outer.old))) (token_of token.now)) result outer.new }
 {
     let parts = with_part(parts, x)?;
     match token {
         Lexeme::Sign(Mark::Comma) => {
-            begun(alloc, outer, Nest::List(depth, parts, chain), inner, count)
+            begin_nested(alloc, outer, Nest::List(depth, parts, chain), inner, count)
         }
         Lexeme::Sign(Mark::CloseBrace) => {
             let mut chain = chain;
@@ -262,7 +268,8 @@ fn close(
     x: Expr,
     token: &Lexeme,
 ) -> Result<Place, ParseFault>
-    ensures { Goes (close_step depth count (plain x) (nests_of outer.old.nests.items (alone_of outer.old)) (token_of token.now)) result outer.new }
+    ensures { Goes (close_step depth count (plain x) (nests_of outer.old.nests.items (alone_of outer.old))
+        (token_of token.now)) result outer.new }
 {
     let mut last = x;
     while let Some(around) = outer.nests.pop() {
@@ -283,11 +290,11 @@ fn close(
                 if !is_mark(Mark::Colon, token) {
                     return Err(ParseFault::Unexpected);
                 }
-                return begun(alloc, outer, Nest::IfFalse(c, last), depth, count);
+                return begin_nested(alloc, outer, Nest::IfFalse(c, last), depth, count);
             }
         }
     }
-    have_whole(alloc, outer, depth, last, token)
+    after_whole(alloc, outer, depth, last, token)
 }
 
 /// An operator comes behind an operand: it waits, once those before it that bind as tightly have their second.
@@ -299,7 +306,9 @@ fn joined_by(
     chain: Chain,
     x: Expr,
 ) -> Result<Place, ParseFault>
-    ensures { (w : Outer) → Goes (in_room (one_more bounded chain.count) (λ j. AtExpr (WantOperand depth j (linked operator (lefts_of chain.lefts.items) (plain x)) (nests_of w.nests.items (alone_of w))))) result w }
+    ensures { (w : Outer) → Goes (in_room (one_more bounded chain.count)
+        (λ j. AtExpr (WantOperand depth j (linked operator (lefts_of chain.lefts.items) (plain x))
+        (nests_of w.nests.items (alone_of w))))) result w }
 {
     let Some(more) = one_more(chain.count) else {
         return Err(ParseFault::Unexpected);
@@ -313,7 +322,7 @@ fn joined_by(
 
 /// What a token does behind an operand.
 #[tactic(auto, using(crate::proofs::HoldingLemmas::ask_is, crate::proofs::WaitingLemmas::settled_all))]
-pub(crate) fn have(
+pub(crate) fn after_operand(
     alloc: Global,
     outer: &mut Outer,
     depth: u8,
@@ -321,7 +330,9 @@ pub(crate) fn have(
     chain: Chain,
     token: &Lexeme,
 ) -> Result<Place, ParseFault>
-    ensures { Goes (have_step bounded depth (plain x) (Linked chain.count (lefts_of chain.lefts.items) chain.mark (nests_of outer.old.nests.items (alone_of outer.old))) (token_of token.now)) result outer.new }
+    ensures { Goes (have_step bounded depth (plain x)
+        (Linked chain.count (lefts_of chain.lefts.items) chain.mark
+        (nests_of outer.old.nests.items (alone_of outer.old))) (token_of token.now)) result outer.new }
 {
     let mut chain = chain;
     let x = signed(alloc, chain.mark, x)?;
@@ -335,7 +346,7 @@ pub(crate) fn have(
         return close(alloc, outer, depth, chain.count, whole, token);
     }
     match one_more(chain.count) {
-        Some(more) => begun(alloc, outer, Nest::IfTrue(whole), depth, more),
+        Some(more) => begin_nested(alloc, outer, Nest::IfTrue(whole), depth, more),
         None => Err(ParseFault::Unexpected),
     }
 }

@@ -12,7 +12,7 @@ ghost use Rattle.verilog_text.specs.Refusals.{Says, SaysIn, IsFirst, IsFirstIn};
 ghost use Rattle.verilog_read.specs.inner.Holding.{token_of};
 ghost use Rattle.verilog_read.specs.declared.lexer.Scanner.TheVariants.{InGap};
 ghost use Rattle.verilog_tree.specs.declared.tokens.Within.TheVariants.{Between};
-ghost use Rattle.verilog_read.specs.inner.Frames.{styled};
+ghost use Rattle.verilog_read.specs.Style.{styled};
 ghost use Rattle.verilog_read.specs.inner.Lexemes.{tokens_of, lexer_of};
 ghost use Rattle.verilog_text.specs.Lexing.{last};
 ghost use Rattle.verilog_read.specs.inner.Spots.{state_of};
@@ -21,9 +21,9 @@ ghost use Rattle.verilog_text.specs.Steps.{value};
 use crate::fault::ParseFault;
 use crate::items::step;
 use crate::lexemes::Lexeme;
-use crate::lexer::{LexFault, Read, Scanner, last, lex};
+use crate::lexer::{LexFault, LexStep, Scanner, last, lex};
 use crate::places::{ItemSpot, Outer, Place, Style, blank_module};
-use crate::takes::{is_live, takes, takes_digits, takes_number};
+use crate::takes::{is_live, takes_digits, takes_number, takes_token};
 use crate::words::expected_at;
 use std::alloc::Global;
 use std::mem;
@@ -56,7 +56,7 @@ fn most_at(place: &Place, outer: &Outer) -> u8
 }
 
 /// What the lexer does at a byte.
-fn scan(place: &Place, outer: &Outer, lexer: Scanner, c: u8) -> Result<Read, LexFault>
+fn scan(place: &Place, outer: &Outer, lexer: Scanner, c: u8) -> Result<LexStep, LexFault>
     ensures { Scanned (both_of place.now outer.now lexer) (byte_move (both_of place.now outer.now lexer) c) result }
 {
     let most = most_at(place, outer);
@@ -64,7 +64,7 @@ fn scan(place: &Place, outer: &Outer, lexer: Scanner, c: u8) -> Result<Read, Lex
 }
 
 /// A token that ends goes to the parser.
-fn take(
+fn take_token(
     alloc: Global,
     outer: &mut Outer,
     place: &mut Place,
@@ -72,7 +72,7 @@ fn take(
 ) -> Result<(), ByteFault>
     ensures { Takes (take_token (state_of place.old outer.old) (token_of token.now)) result place.new outer.new }
 {
-    let taken = takes(place, outer, token);
+    let taken = takes_token(place, outer, token);
     let held = mem::replace(place, Place::InItem(ItemSpot::Begin));
     match step(alloc, outer, held, token) {
         Ok(next) => {
@@ -102,13 +102,14 @@ fn read_on(
     outer: &mut Outer,
     place: &mut Place,
     lexer: &Scanner,
-    read: Read,
+    read: LexStep,
 ) -> Result<Next, ByteFault>
-    ensures { Moves (read_within (both_of place.old outer.old lexer.now) (lexer_of read.lexer) (tokens_of read.token)) result place.new outer.new }
+    ensures { Moves (read_within (both_of place.old outer.old lexer.now) (lexer_of read.lexer)
+        (tokens_of read.token)) result place.new outer.new }
 {
     match &read.token {
         Some(token) => {
-            take(alloc, outer, place, token)?;
+            take_token(alloc, outer, place, token)?;
             arrive(outer, place, read.lexer, true)
         }
         None => {
@@ -144,7 +145,7 @@ fn step_byte(
         // The byte is unexpected, unless the token that it ends is an opening too many.
         Err(LexFault::Unexpected) => {
             if let Some(Some(token)) = last(lexer) {
-                take(alloc, outer, place, &token)?;
+                take_token(alloc, outer, place, &token)?;
             }
             Err(ByteFault::Unexpected)
         }
@@ -163,7 +164,7 @@ fn step_byte(
 }
 
 /// The module, where a text may end. It is taken out.
-fn value(alloc: Global, outer: &mut Outer, place: &Place) -> Result<Module, ReadFault>
+fn into_module(alloc: Global, outer: &mut Outer, place: &Place) -> Result<Module, ReadFault>
     ensures { Gives (value_answer (value (state_of place.now outer.old))) result }
 {
     match place {
@@ -186,10 +187,10 @@ fn finish(
         return Err(ReadFault::Truncated);
     };
     let Some(token) = end else {
-        return value(alloc, outer, place);
+        return into_module(alloc, outer, place);
     };
-    match take(alloc, outer, place, &token) {
-        Ok(()) => value(alloc, outer, place),
+    match take_token(alloc, outer, place, &token) {
+        Ok(()) => into_module(alloc, outer, place),
         Err(ByteFault::TooDeep) => Err(ReadFault::TooDeep { byte: start }),
         Err(ByteFault::NoMemory) => Err(ReadFault::NoMemory),
         Err(_) => Err(ReadFault::Truncated),
@@ -251,7 +252,8 @@ fn scan_text(alloc: Global, style: Style, bytes: &[u8]) -> Result<Module, ReadFa
 pub fn read_module(alloc: Global, bytes: &[u8]) -> Result<Module, ReadFault>
     // A text is read as the module that it spells, within all limits, unless memory runs out.
     ensures ok { IfOk result (λ m. Spells bytes.now (plain_module m)) }
-    ensures accepted { (mo : ModuleTree) → Spells bytes.now mo → MatchResult result (λ m. plain_module m ≡ mo) (λ fault. fault ≡ ReadFault.NoMemory) }
+    ensures accepted { (mo : ModuleTree) → Spells bytes.now mo
+        → MatchResult result (λ m. plain_module m ≡ mo) (λ fault. fault ≡ ReadFault.NoMemory) }
 
     // Every module that is read has the sizes of one.
     ensures formed { IfOk result (λ m. formed (plain_module m) ≡ true) }
@@ -276,7 +278,8 @@ pub fn read_module(alloc: Global, bytes: &[u8]) -> Result<Module, ReadFault>
 pub fn read_free(alloc: Global, bytes: &[u8]) -> Result<Module, ReadFault>
     // A text is read as the module that it spells, within all limits, unless memory runs out.
     ensures ok { IfOk result (λ m. FreelySpells bytes.now (plain_module m)) }
-    ensures accepted { (mo : ModuleTree) → FreelySpells bytes.now mo → MatchResult result (λ m. plain_module m ≡ mo) (λ fault. fault ≡ ReadFault.NoMemory) }
+    ensures accepted { (mo : ModuleTree) → FreelySpells bytes.now mo
+        → MatchResult result (λ m. plain_module m ≡ mo) (λ fault. fault ≡ ReadFault.NoMemory) }
 
     // Every module that is read has the sizes of one.
     ensures formed { IfOk result (λ m. formed (plain_module m) ≡ true) }

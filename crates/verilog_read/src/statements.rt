@@ -14,14 +14,14 @@ ghost use Rattle.verilog_read.specs.inner.Answers.{Goes, opens_expr};
 
 use crate::fault::ParseFault;
 use crate::lexemes::Lexeme;
-use crate::places::{Base, Case, Holder, ItemSpot, Outer, Place, StmtSpot, Use};
+use crate::places::{Case, Holder, ItemSpot, Outer, Place, Purpose, StmtSpot, Use};
 use crate::precedence::{deeper, is_mark};
-use crate::stacks::{add_item, begin, begin_in, hold, is_word, release};
+use crate::stacks::{add_item, begin_expr, begin_stmt, is_word, pop_holder, push_holder};
 use crate::trees::{add_arm, join, only};
 use bist_bits::Bits;
 use bist_text::is_reserved;
 use std::alloc::Global;
-use verilog_tree::{Item, Mark, Stmt};
+use verilog_tree::{BodyItem, Mark, Stmt};
 
 /// Where a statement begins.
 fn want_stmt(alloc: Global, outer: &Outer, depth: u8, token: &Lexeme) -> Result<Place, ParseFault>
@@ -59,7 +59,7 @@ fn in_block(
     if is_word("end", token) {
         return Ok(Place::InStmt(StmtSpot::HaveStmt(depth, old)));
     }
-    hold(outer, Holder::Block(depth, old))?;
+    push_holder(outer, Holder::Block(depth, old))?;
     want_stmt(alloc, outer, inner, token)
 }
 
@@ -88,7 +88,8 @@ fn in_case(
     case: Case,
     token: &Lexeme,
 ) -> Result<Place, ParseFault>
-    ensures { Goes (arm_step case.depth inner (plain case.subject) (arms_of case) (around_of outer.now) (token_of token.now)) result outer.now }
+    ensures { Goes (arm_step case.depth inner (plain case.subject) (arms_of case) (around_of outer.now)
+        (token_of token.now)) result outer.now }
 {
     if let Lexeme::Constant(_) = token {
         return next_label(inner, case, Vec::new(alloc), token);
@@ -107,7 +108,9 @@ fn end_case(
     other: Vec<Stmt>,
     token: &Lexeme,
 ) -> Result<Place, ParseFault>
-    ensures { Goes (expects_word (codes "endcase") (AtStmt (HaveStmt case.depth (case_of (plain case.subject) (arms_of case) (plain_stmts other.items)) (around_of outer.now))) (token_of token.now)) result outer.now }
+    ensures { Goes (expects_word (codes "endcase")
+        (AtStmt (HaveStmt case.depth (case_of (plain case.subject) (arms_of case) (plain_stmts other.items))
+        (around_of outer.now))) (token_of token.now)) result outer.now }
 {
     if !is_word("endcase", token) {
         return Err(ParseFault::Unexpected);
@@ -118,7 +121,7 @@ fn end_case(
 }
 
 /// What a token does behind a whole statement: an if without else ends where no else comes.
-fn have_stmt(
+fn after_stmt(
     alloc: Global,
     outer: &mut Outer,
     depth: u8,
@@ -127,10 +130,10 @@ fn have_stmt(
 ) -> Result<Place, ParseFault>
     ensures { Goes (have_stmt_step bounded (around_of outer.old) depth (plain_stmts body.items) (token_of token.now)) result outer.new }
 {
-    match release(outer) {
+    match pop_holder(outer) {
         None => {
             let clock = outer.clock;
-            add_item(outer, Item::Always(clock, body))?;
+            add_item(outer, BodyItem::Always(clock, body))?;
             want_item(outer, token)
         }
         Some(Holder::Block(above, old)) => {
@@ -139,14 +142,14 @@ fn have_stmt(
         }
         Some(Holder::Then(above, c)) => {
             if is_word("else", token) {
-                return begin_in(outer, Holder::Else(above, c, body), depth);
+                return begin_stmt(outer, Holder::Else(above, c, body), depth);
             }
             let body = only(alloc, Stmt::If(c, body, Vec::new(alloc)))?;
-            have_stmt(alloc, outer, above, body, token)
+            after_stmt(alloc, outer, above, body, token)
         }
         Some(Holder::Else(above, c, yes)) => {
             let body = only(alloc, Stmt::If(c, yes, body))?;
-            have_stmt(alloc, outer, above, body, token)
+            after_stmt(alloc, outer, above, body, token)
         }
         Some(Holder::Labelled(case, labels)) => {
             let mut case = case;
@@ -162,16 +165,17 @@ fn opened(
     alloc: Global,
     outer: &mut Outer,
     depth: u8,
-    whole: Base,
+    whole: Purpose,
     token: &Lexeme,
 ) -> Result<Place, ParseFault>
-    ensures { Goes (opens_expr bounded depth (style_of (around_of outer.old)) (alone whole (head_of outer.old) (around_of outer.old)) (token_of token.now)) result outer.new }
+    ensures { Goes (opens_expr bounded depth (style_of (around_of outer.old))
+        (alone whole (head_of outer.old) (around_of outer.old)) (token_of token.now)) result outer.new }
 {
     if !is_mark(Mark::Open, token) {
         return Err(ParseFault::Unexpected);
     }
     match deeper(depth) {
-        Some(inner) => Ok(begin(alloc, outer, whole, inner)),
+        Some(inner) => Ok(begin_expr(alloc, outer, whole, inner)),
         None => Err(ParseFault::Unexpected),
     }
 }
@@ -205,31 +209,31 @@ pub(crate) fn step_stmt(
             if !is_mark(Mark::LessEquals, token) {
                 return Err(ParseFault::Unexpected);
             }
-            Ok(begin(alloc, outer, Base::Set(name), depth))
+            Ok(begin_expr(alloc, outer, Purpose::Set(name), depth))
         }
         StmtSpot::IfRead(depth, inner) => {
-            opened(alloc, outer, inner, Base::Test(depth, inner), token)
+            opened(alloc, outer, inner, Purpose::Test(depth, inner), token)
         }
         StmtSpot::CaseRead(depth, inner) => {
-            opened(alloc, outer, inner, Base::Pick(depth, inner), token)
+            opened(alloc, outer, inner, Purpose::Pick(depth, inner), token)
         }
         StmtSpot::FirstLabel(inner, case) => next_label(inner, case, Vec::new(alloc), token),
         StmtSpot::Labels(inner, case, labels) => match token {
             Lexeme::Sign(Mark::Comma) => {
                 Ok(Place::InStmt(StmtSpot::NextLabel(inner, case, labels)))
             }
-            Lexeme::Sign(Mark::Colon) => begin_in(outer, Holder::Labelled(case, labels), inner),
+            Lexeme::Sign(Mark::Colon) => begin_stmt(outer, Holder::Labelled(case, labels), inner),
             _ => Err(ParseFault::Unexpected),
         },
         StmtSpot::NextLabel(inner, case, labels) => next_label(inner, case, labels, token),
         StmtSpot::DefaultRead(inner, case) => {
-            hold(outer, Holder::Other(case))?;
+            push_holder(outer, Holder::Other(case))?;
             match token {
                 Lexeme::Sign(Mark::Colon) => Ok(Place::InStmt(StmtSpot::WantStmt(inner))),
                 _ => want_stmt(alloc, outer, inner, token),
             }
         }
         StmtSpot::Block(inner, depth, old) => in_block(alloc, outer, inner, depth, old, token),
-        StmtSpot::HaveStmt(depth, body) => have_stmt(alloc, outer, depth, body, token),
+        StmtSpot::HaveStmt(depth, body) => after_stmt(alloc, outer, depth, body, token),
     }
 }

@@ -15,7 +15,7 @@ ghost use Rattle.verilog_text.specs.Steps.{alone_step};
 
 use crate::lexemes::Lexeme;
 use crate::lexer::Scanner;
-use crate::places::{Base, ItemSpot, Outer, Place, StmtSpot, Use};
+use crate::places::{ItemSpot, Outer, Place, Purpose, StmtSpot, Use};
 use crate::precedence::{ExprSpot, Nest};
 use crate::words::expected_at;
 use bist_text::is_reserved;
@@ -27,8 +27,8 @@ fn base_takes(outer: &Outer, mark: Mark) -> bool
     ensures { (p : ℕ) (x : Expression) → result ≡ is_step (alone_step p x (alone_of outer.now) (Sign mark)) }
 {
     match &outer.base {
-        Base::Drive(_) | Base::Set(_) => matches!(mark, Mark::Semicolon),
-        Base::Test(_, _) | Base::Pick(_, _) => matches!(mark, Mark::Close),
+        Purpose::Drive(_) | Purpose::Set(_) => matches!(mark, Mark::Semicolon),
+        Purpose::Test(_, _) | Purpose::Pick(_, _) => matches!(mark, Mark::Close),
     }
 }
 
@@ -89,7 +89,9 @@ fn operand_takes(count: Count, outer: &Outer, mark: Mark) -> bool
 
 #[tactic(auto, using(crate::proofs::Ends::named_takes, crate::proofs::Ends::linked_takes, crate::proofs::Ends::operand_is, crate::proofs::Ends::prim_is))]
 fn expr_takes(place: &ExprSpot, count: Count, outer: &Outer, mark: Mark) -> bool
-    ensures { (c : Chain) → c.count ≡ count → result ≡ taken (AtExpr (standing place.now c (nests_of outer.now.nests.items (alone_of outer.now)))) (Sign mark) }
+    ensures { (c : Chain) → c.count ≡ count
+        → result ≡ taken (AtExpr (standing place.now c (nests_of outer.now.nests.items (alone_of outer.now))))
+        (Sign mark) }
 {
     match place {
         ExprSpot::Operand(_) if unary_of(mark).is_some() => may_link(count),
@@ -161,7 +163,7 @@ pub(crate) fn takes_number(place: &Place, outer: &Outer, long: bool, value: u8) 
 
 /// Whether a text may go on with a token.
 #[tactic(auto, using(verilog_text::proofs::Expectations::word_taken, verilog_text::proofs::Expectations::literals_alike, verilog_text::proofs::Expectations::no_query))]
-pub(crate) fn takes(place: &Place, outer: &Outer, token: &Lexeme) -> bool
+pub(crate) fn takes_token(place: &Place, outer: &Outer, token: &Lexeme) -> bool
     ensures { result ≡ taken (state_of place.now outer.now) (token_of token.now) }
 {
     match token {
@@ -221,6 +223,6 @@ pub(crate) fn is_live(place: &Place, outer: &Outer, lexer: &Scanner) -> bool
         Scanner::Marked(mark) => {
             takes_mark(place, outer, *mark) || takes_longer(place, outer, *mark)
         }
-        Scanner::Whole(token) => takes(place, outer, token),
+        Scanner::Whole(token) => takes_token(place, outer, token),
     }
 }

@@ -74,7 +74,8 @@ stuck s (Some None) = Stops Unexpected
 stuck s None = Stops Unexpected
 
 abbrev pub read_on : Both State Lexer → Lexer → Option Token → Move
-read_on q l None = while_live (live q.parser l) (within (name_fits l) (number_fits (most_of q.parser) l) (gone q.parser l (is_between q.lexer)))
+read_on q l None = while_live (live q.parser l)
+    (within (name_fits l) (number_fits (most_of q.parser) l) (gone q.parser l (is_between q.lexer)))
 read_on q l (Some t) = ended (take_token q.parser t) l
 
 abbrev pub lexed : Both State Lexer → Option (Lexer × Option Token) → Move

@@ -164,4 +164,5 @@ number_fits most _ = true
 
 -- whether what is begun can go on to a token that may come, and that keeps these limits
 abbrev pub live_in : Limits → State → Lexer → Bool
-live_in limits s l = live s l && (if limits.names then name_fits l else true) && (if limits.numbers then number_fits (most_of s) l else true)
+live_in limits s l = live s l && (if limits.names then name_fits l else true)
+    && (if limits.numbers then number_fits (most_of s) l else true)

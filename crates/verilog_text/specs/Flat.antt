@@ -88,7 +88,8 @@ abbrev mutual
   prim l d (Select w i) n K = name w (sign OpenBracket (number i (sign CloseBracket (K n))))
   prim l d (Range w h i) n K = name w (sign OpenBracket (number h (sign Colon (number i (sign CloseBracket (K n))))))
   prim l d (Constant x) n K = literal x (K n)
-  prim l d (Braces x xs) n K = sign OpenBrace (inside l d (λ e. flat l e x (in_braces n) (λ m. flats l e xs m (λ j. sign CloseBrace (K (behind n j))))))
+  prim l d (Braces x xs) n K = sign OpenBrace
+      (inside l d (λ e. flat l e x (in_braces n) (λ m. flats l e xs m (λ j. sign CloseBrace (K (behind n j))))))
   prim l d (Parens x) n K = sign Open (inside l d (λ e. flat l e x (in_parens n) (λ m. sign Close (K (behind n m)))))
 
   pub flats : Limit → ℕ → Flats → Count → (Count → List Token → Type 0) → List Token → Type 0

@@ -20,12 +20,17 @@ use Rattle.verilog_text.specs.Flat as F
 -- The ten rules derive these tokens, before those, with this tree and no more operators than may be, exactly where the
 -- flat form does.
 abbrev pub SameTexts : Type 0
-SameTexts = (limit : Limit) (d : ℕ) (ts us : List Token) (e : Expression) → ((x : T.Expr) × ((few limit (operators (T.expr_tree x)) ≡ true) × T.expr limit d x (λ vs. (T.expr_tree x ≡ e) × (vs ≡ us)) ts)) ↔ ((x : F.Flat) × F.flat limit d x (F.Together 0) (λ n vs. (F.flat_tree x ≡ e) × (vs ≡ us)) ts)
+SameTexts = (limit : Limit) (d : ℕ) (ts us : List Token) (e : Expression)
+    → ((x : T.Expr) × ((few limit (operators (T.expr_tree x)) ≡ true)
+    × T.expr limit d x (λ vs. (T.expr_tree x ≡ e) × (vs ≡ us)) ts))
+    ↔ ((x : F.Flat) × F.flat limit d x (F.Together 0) (λ n vs. (F.flat_tree x ≡ e) × (vs ≡ us)) ts)
 
 -- In full parentheses these tokens are derived, before those, with this tree, exactly where the flat form derives them
 -- that has at most one operator in each parenthesis, and none elsewhere.
 abbrev pub FullTexts : Type 0
-FullTexts = (limit : Limit) (d : ℕ) (ts us : List Token) (e : Expression) → ((x : Y.Expr) × Y.expr limit d x (λ vs. (Y.expr_tree x ≡ e) × (vs ≡ us)) ts) ↔ ((x : F.Flat) × F.flat limit d x (F.Apart false) (λ n vs. (F.flat_tree x ≡ e) × (vs ≡ us)) ts)
+FullTexts = (limit : Limit) (d : ℕ) (ts us : List Token) (e : Expression)
+    → ((x : Y.Expr) × Y.expr limit d x (λ vs. (Y.expr_tree x ≡ e) × (vs ≡ us)) ts)
+    ↔ ((x : F.Flat) × F.flat limit d x (F.Apart false) (λ n vs. (F.flat_tree x ≡ e) × (vs ≡ us)) ts)
 
 -- The machine reads exactly the texts within its limits, each to its one module.
 abbrev pub ReadsTexts : Type 0
@@ -45,7 +50,8 @@ FinishesExactly = (y : Style) (b : List ℕ) (v : ModuleTree) → (answer y b �
 
 -- Each refusal that stands in a text is the one that is told, or has a later byte; none stands in a text that is read.
 abbrev pub ToldFaultsAreFirst : Type 0
-ToldFaultsAreFirst = (y : Style) (b : List ℕ) (f g : ReadFault) → answer y b ≡ Faulty f → StandsIn y b g → (g ≡ f) ⊎ (byte_of b f < byte_of b g)
+ToldFaultsAreFirst = (y : Style) (b : List ℕ) (f g : ReadFault) → answer y b ≡ Faulty f → StandsIn y b g → (g ≡ f)
+    ⊎ (byte_of b f < byte_of b g)
 
 abbrev pub NoneStandsInATextThatIsRead : Type 0
 NoneStandsInATextThatIsRead = (y : Style) (b : List ℕ) (v : ModuleTree) (g : ReadFault) → answer y b ≡ Finished v → StandsIn y b g → ⊥

@@ -57,10 +57,15 @@ lex (InGap Line) c = if c == 10 then Some (InGap Between, None) else Some (InGap
 lex (InGap Block) c = if c == 42 then Some (InGap Star, None) else Some (InGap Block, None)
 lex (InGap Star) c = if c == 47 then Some (InGap Between, None) else if c == 42 then Some (InGap Star, None) else Some (InGap Block, None)
 lex (InWord w) c = if in_identifier c then Some (InWord (w ++ (c ∷ [])), None) else with_token (Identifier w) (begin c)
-lex (InNumber long n) c = if is_digit c then Some (InNumber true (n * 10 + digit_value c), None) else if c == 39 then Some (Quoted n, None) else with_token (Number long n) (begin c)
+lex (InNumber long n) c = if is_digit c then Some
+    (InNumber true (n * 10 + digit_value c), None) else if c == 39 then Some (Quoted n, None) else with_token
+    (Number long n) (begin c)
 lex (Quoted n) c = lettered n (base_of c)
 lex (Lettered n base) c = if is_digit_of base c then Some (InDigits n base (digit_value c), None) else None
-lex (InDigits n base v) c = if is_digit_of base c then Some (InDigits n base (v * radix base + digit_value c), None) else if c == 95 then Some (InDigits n base v, None) else if is_query base c then Some (Whole Unused, None) else with_token (literal n v) (begin c)
+lex (InDigits n base v) c = if is_digit_of base c then Some
+    (InDigits n base (v * radix base + digit_value c), None) else if c == 95 then Some
+    (InDigits n base v, None) else if is_query base c then Some (Whole Unused, None) else with_token (literal n v)
+    (begin c)
 lex (Marked m) c = grow m c (growth m c)
 lex (Whole t) c = with_token t (begin c)
 

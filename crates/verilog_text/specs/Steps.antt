@@ -50,7 +50,8 @@ alone_step p e (AsValue n a) t = expects Semicolon (AtStmt (HaveStmt p (alone (P
 
 abbrev pub parts_step : ℕ → Count → ℕ → P.Expressions → P.Expression → Count → List Left → Option UnOp → Nest → Mark → Option State
 parts_step p m r old e n ws u o Comma = to_expr (WantOperand p m [] (InList r (more_parts old (P.Followed e P.NoMore)) n ws u o))
-parts_step p m r old e n ws u o CloseBrace = to_expr (Have r (P.Concatenation (more_parts old (P.Followed e P.NoMore))) (Linked (behind n m) ws u o))
+parts_step p m r old e n ws u o CloseBrace = to_expr
+    (Have r (P.Concatenation (more_parts old (P.Followed e P.NoMore))) (Linked (behind n m) ws u o))
 parts_step p m r old e n ws u o _ = None
 
 -- behind a whole expression, with m operators counted
@@ -73,10 +74,14 @@ is_word w _ = false
 
 abbrev pub arm_step : ℕ → ℕ → P.Expression → P.Arms → Around → Token → Option State
 arm_step r q x as' a (Based y) = to_stmt (Labels r q x as' (y ∷ []) a)
-arm_step r q x as' a t = if is_word (codes "default") t then to_stmt (DefaultRead r q x as' a) else if is_word (codes "endcase") t then to_stmt (HaveStmt r (case_of x as' P.Done) a) else None
+arm_step r q x as' a t = if is_word (codes "default") t then to_stmt (DefaultRead r q x as' a) else if is_word
+    (codes "endcase") t then to_stmt (HaveStmt r (case_of x as' P.Done) a) else None
 
 abbrev pub item_word_step : Head → List ℕ → Option State
-item_word_step h w = if bytes_eq w (codes "wire") then Some (AtItem (WantRange (AsWire h))) else if bytes_eq w (codes "reg") then Some (AtItem (WantRange (AsReg h))) else if bytes_eq w (codes "assign") then Some (AtItem (AssignRead h)) else if bytes_eq w (codes "always") then Some (AtItem (AlwaysRead h)) else if bytes_eq w (codes "endmodule") then Some (AtItem (Ended h)) else None
+item_word_step h w = if bytes_eq w (codes "wire") then Some (AtItem (WantRange (AsWire h))) else if bytes_eq w
+    (codes "reg") then Some (AtItem (WantRange (AsReg h))) else if bytes_eq w (codes "assign") then Some
+    (AtItem (AssignRead h)) else if bytes_eq w (codes "always") then Some (AtItem (AlwaysRead h)) else if bytes_eq w
+    (codes "endmodule") then Some (AtItem (Ended h)) else None
 
 abbrev pub want_item_step : Head → Token → Option State
 want_item_step h (Identifier w) = item_word_step h w
@@ -115,13 +120,15 @@ range_step u (Sign OpenBracket) = to_item (WantHigh u)
 range_step u t = takes_name (declared u 1) t
 
 abbrev pub port_step : Head → Token → Option State
-port_step h t = if is_word (codes "input") t then to_item (InputRead h) else if is_word (codes "output") t then to_item (OutputRead h) else None
+port_step h t = if is_word (codes "input") t then to_item (InputRead h) else if is_word (codes "output") t then to_item
+    (OutputRead h) else None
 
 abbrev pub input_step : Head → Token → Option State
 input_step h t = if is_word (codes "wire") t then to_item (WantRange (AsPort Input h)) else range_step (AsPort Input h) t
 
 abbrev pub output_step : Head → Token → Option State
-output_step h t = if is_word (codes "wire") t then to_item (WantRange (AsPort Output h)) else if is_word (codes "reg") t then to_item (WantRange (AsPort OutputReg h)) else range_step (AsPort Output h) t
+output_step h t = if is_word (codes "wire") t then to_item (WantRange (AsPort Output h)) else if is_word
+    (codes "reg") t then to_item (WantRange (AsPort OutputReg h)) else range_step (AsPort Output h) t
 
 -- behind a name: another one, or the end
 abbrev pub list_step : State → Mark → State → Token → Option State
@@ -163,7 +170,8 @@ module _ (limit : Limit) where
   prim_step p n ws u o (Based x) = to_expr (Have p (P.Literal x) (Linked n ws u o))
   prim_step p n ws u o Unused = None
   prim_step p n ws u o (Sign Open) = in_room (deeper limit p) (λ q. AtExpr (WantOperand q (in_parens n) [] (InRound p n ws u o)))
-  prim_step p n ws u o (Sign OpenBrace) = in_room (deeper limit p) (λ q. AtExpr (WantOperand q (in_braces n) [] (InList p P.NoMore n ws u o)))
+  prim_step p n ws u o (Sign OpenBrace) = in_room (deeper limit p)
+      (λ q. AtExpr (WantOperand q (in_braces n) [] (InList p P.NoMore n ws u o)))
   prim_step p n ws u o (Sign m) = None
 
   abbrev pub sign_step : Option UnOp → ℕ → Count → List Left → Nest → Mark → Option State
@@ -190,7 +198,10 @@ module _ (limit : Limit) where
   step_expr (WantPrim p n ws u o) t = prim_step p n ws u o t
 
   abbrev pub word_step : ℕ → Around → List ℕ → Option State
-  word_step q a w = if bytes_eq w (codes "begin") then in_room (deeper limit q) (λ p. AtStmt (Block p q P.Done a)) else if bytes_eq w (codes "if") then in_room (deeper limit q) (λ p. AtStmt (IfRead q p a)) else if bytes_eq w (codes "case") then in_room (deeper limit q) (λ p. AtStmt (CaseRead q p a)) else target_step (is_among w reserved_words) q w a
+  word_step q a w = if bytes_eq w (codes "begin") then in_room (deeper limit q)
+      (λ p. AtStmt (Block p q P.Done a)) else if bytes_eq w (codes "if") then in_room (deeper limit q)
+      (λ p. AtStmt (IfRead q p a)) else if bytes_eq w (codes "case") then in_room (deeper limit q)
+      (λ p. AtStmt (CaseRead q p a)) else target_step (is_among w reserved_words) q w a
 
   abbrev pub want_stmt_step : ℕ → Around → Token → Option State
   want_stmt_step q a (Identifier w) = word_step q a w
@@ -203,7 +214,8 @@ module _ (limit : Limit) where
   abbrev pub have_stmt_step : Around → ℕ → P.Statements → Token → Option State
   have_stmt_step (InAlways h c) q s t = want_item_step (with_item h (P.AlwaysItem c s)) t
   have_stmt_step (InBlock r old a) q s t = block_step q r (then_all old s) a t
-  have_stmt_step (InThen r c a) q s t = if is_word (codes "else") t then to_stmt (WantStmt q (InElse r c s a)) else have_stmt_step a r (alone (P.IfElse c s P.Done)) t
+  have_stmt_step (InThen r c a) q s t = if is_word (codes "else") t then to_stmt
+      (WantStmt q (InElse r c s a)) else have_stmt_step a r (alone (P.IfElse c s P.Done)) t
   have_stmt_step (InElse r c s' a) q s t = have_stmt_step a r (alone (P.IfElse c s' s)) t
   have_stmt_step (InArm r x as' ls a) q s t = arm_step r q x (more_arms as' (P.ArmOf ls s P.NoArm)) a t
   have_stmt_step (InDefault r x as' a) q s t = expects_word (codes "endcase") (AtStmt (HaveStmt r (case_of x as' s) a)) t

@@ -147,7 +147,8 @@ abbrev pub item : Style → Limit → Item → (List Token → Type 0) → List 
 item y l (Wires r n ns) K = keyword (codes "wire") (range r (name n (names ns (sign Semicolon K))))
 item y l (Regs r n ns) K = keyword (codes "reg") (range r (name n (names ns (sign Semicolon K))))
 item y l (Drives n x) K = keyword (codes "assign") (name n (sign Equals (expr y l 0 x (sign Semicolon K))))
-item y l (Always c s) K = keyword (codes "always") (sign At (sign Open (inside l 0 (λ e. keyword (codes "posedge") (name c (sign Close (stmt y l 0 s K)))))))
+item y l (Always c s) K = keyword (codes "always")
+    (sign At (sign Open (inside l 0 (λ e. keyword (codes "posedge") (name c (sign Close (stmt y l 0 s K)))))))
 
 abbrev pub items : Style → Limit → List Item → (List Token → Type 0) → List Token → Type 0
 items y l [] K = K

@@ -6,8 +6,8 @@ use Rattle.verilog_tree.specs.declared.tree.BinOp.{BinOp}
 use Rattle.verilog_tree.specs.declared.tree.Dir.{Dir}
 use Rattle.verilog_tree.specs.declared.tree.Port.{Port}
 use Rattle.verilog_tree.specs.declared.tree.Module.{Module}
-use Rattle.verilog_tree.specs.declared.tree.Item.{Item}
-use Rattle.verilog_tree.specs.declared.tree.Item.TheVariants.{Wire, Reg, Assign, Always}
+use Rattle.verilog_tree.specs.declared.tree.BodyItem.{BodyItem}
+use Rattle.verilog_tree.specs.declared.tree.BodyItem.TheVariants.{Wire, Reg, Assign, Always}
 use Rattle.verilog_tree.specs.declared.tree.Expr.{Expr}
 use Rattle.verilog_tree.specs.declared.tree.Expr.TheOpen.{Expr-F, Name, Bit, Part, Lit, Concat, Unary, Binary, Choose}
 use Rattle.verilog_tree.specs.declared.tree.Expr.TheFolds.{fold-Expr}
@@ -112,7 +112,7 @@ plain_stmt = fold-Stmt Statement ArmTree stmt_layer arm_layer
 abbrev pub plain_stmts : List Stmt → Statements
 plain_stmts ss = statements (map plain_stmt ss)
 
-abbrev pub plain_item : Item → ModuleItem
+abbrev pub plain_item : BodyItem → ModuleItem
 plain_item (Wire d) = WireItem d.name.bytes d.width
 plain_item (Reg d) = RegItem d.name.bytes d.width
 plain_item (Assign n x) = AssignItem n.bytes (plain x)

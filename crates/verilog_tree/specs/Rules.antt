@@ -138,7 +138,8 @@ abbrev mutual
   expression_widths w (Literal b) = None
   expression_widths w (Concatenation xs) = first_of (parts_widths w xs ∷ too_wide (widths w xs) ∷ [])
   expression_widths w (Prefixed o x) = expression_widths w x
-  expression_widths w (Infixed o x y) = first_of (expression_widths w x ∷ expression_widths w y ∷ infixed_widths o (width w x) (width w y) ∷ [])
+  expression_widths w (Infixed o x y) = first_of
+      (expression_widths w x ∷ expression_widths w y ∷ infixed_widths o (width w x) (width w y) ∷ [])
   expression_widths w (Conditional c x y) =
       first_of (expression_widths w c ∷ expression_widths w x ∷ expression_widths w y ∷ unequal (width w x) (width w y) ∷ [])
 

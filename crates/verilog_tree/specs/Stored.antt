@@ -102,7 +102,8 @@ node_read (suc (suc (suc zero))) what parts = Literal (record { width = num (lef
 node_read (suc (suc (suc (suc zero)))) what parts = Concatenation parts
 node_read (suc (suc (suc (suc (suc zero))))) what parts = Prefixed (prefix_read (num what)) (part parts)
 node_read (suc (suc (suc (suc (suc (suc zero)))))) what parts = Infixed (infix_read (num what)) (part parts) (part (behind parts))
-node_read (suc (suc (suc (suc (suc (suc (suc n))))))) what parts = Conditional (part parts) (part (behind parts)) (part (behind (behind parts)))
+node_read (suc (suc (suc (suc (suc (suc (suc n))))))) what parts = Conditional (part parts) (part (behind parts))
+    (part (behind (behind parts)))
 
 abbrev mutual
   expression_read : Gv → Expression
@@ -122,7 +123,8 @@ mutual
   expression_back (PartSelect n h l) = ap (λ k. PartSelect k h l) (bytes_back n)
   expression_back (Literal b) = refl
   expression_back (Concatenation xs) = ap Concatenation (expressions_back xs)
-  expression_back (Prefixed o x) = ap (λ k. Prefixed k (expression_read (expression x))) (prefix_back o) ∙ ap (Prefixed o) (expression_back x)
+  expression_back (Prefixed o x) = ap (λ k. Prefixed k (expression_read (expression x))) (prefix_back o)
+      ∙ ap (Prefixed o) (expression_back x)
   expression_back (Infixed o x y) =
       ap (λ k. Infixed k (expression_read (expression x)) (expression_read (expression y))) (infix_back o)
       ∙ ap (λ k. Infixed o k (expression_read (expression y))) (expression_back x)
@@ -134,7 +136,8 @@ mutual
 
   expressions_back : (xs : Expressions) → expressions_read (expressions xs) ≡ xs
   expressions_back NoMore = refl
-  expressions_back (Followed x xs) = ap (λ k. Followed k (expressions_read (expressions xs))) (expression_back x) ∙ ap (Followed x) (expressions_back xs)
+  expressions_back (Followed x xs) = ap (λ k. Followed k (expressions_read (expressions xs))) (expression_back x)
+      ∙ ap (Followed x) (expressions_back xs)
 
 abbrev labels : List Vector → Gv
 labels [] = gnil
@@ -249,13 +252,18 @@ item_back (AlwaysItem c ss) = refl
 
 abbrev item_code : Coded ModuleItem
 item_code =
-    code_by (List ℕ × ItemBody) (coded× (coded_list coded_ℕ) (coded⊎ (coded⊎ coded_ℕ coded_ℕ) (coded⊎ expression_code statements_code))) item_body (λ p. item_of p.0 p.1) item_back
+    code_by (List ℕ × ItemBody) (coded× (coded_list coded_ℕ)
+    (coded⊎ (coded⊎ coded_ℕ coded_ℕ) (coded⊎ expression_code statements_code))) item_body
+    (λ p. item_of p.0 p.1) item_back
 
 abbrev port_code : Coded ModulePort
 port_code =
-    code_by (Dir × (List ℕ × ℕ)) (coded× the_row.coded (coded× (coded_list coded_ℕ) coded_ℕ)) (λ p. (p.dir, (p.name, p.width))) (λ p. record { dir = p.0; name = p.1.0; width = p.1.1 }) (λ _. refl)
+    code_by (Dir × (List ℕ × ℕ)) (coded× the_row.coded (coded× (coded_list coded_ℕ) coded_ℕ))
+    (λ p. (p.dir, (p.name, p.width))) (λ p. record { dir = p.0; name = p.1.0; width = p.1.1 }) (λ _. refl)
 
 -- a module is stored as its name, its ports and its items
 abbrev pub module_code : Coded ModuleTree
 module_code =
-    code_by (List ℕ × (List ModulePort × List ModuleItem)) (coded× (coded_list coded_ℕ) (coded× (coded_list port_code) (coded_list item_code))) (λ m. (m.name, (m.ports, m.items))) (λ p. record { name = p.0; ports = p.1.0; items = p.1.1 }) (λ _. refl)
+    code_by (List ℕ × (List ModulePort × List ModuleItem))
+    (coded× (coded_list coded_ℕ) (coded× (coded_list port_code) (coded_list item_code)))
+    (λ m. (m.name, (m.ports, m.items))) (λ p. record { name = p.0; ports = p.1.0; items = p.1.1 }) (λ _. refl)

@@ -3,7 +3,7 @@ ghost use Rattle.std.specs.Prelude.{◌≡◌, ◌^◌, ◌<◌, ◌≤◌, ◌+
 ghost use Rattle.verilog_tree.specs.Plain.{plain, plain_item, plain_port, expressions, Net, Literal, Concatenation, Prefixed, Infixed, Conditional, WireItem, RegItem, AssignItem};
 ghost use Rattle.verilog_tree.specs.Operators.{bit};
 
-use crate::tree::{BinOp, Decl, Dir, Expr, Item, Name, Port, UnOp};
+use crate::tree::{BinOp, BodyItem, Decl, Dir, Expr, Name, Port, UnOp};
 use arrayvec::ArrayString;
 use bist_bits::Bits;
 use std::alloc::{AllocError, Global};
@@ -89,25 +89,25 @@ pub fn port(dir: Dir, text: &str, width: u8) -> Port
 }
 
 /// One wire more.
-pub fn wire(items: &mut Vec<Item>, name: Name, width: u8) -> Result<(), AllocError>
+pub fn wire(items: &mut Vec<BodyItem>, name: Name, width: u8) -> Result<(), AllocError>
     ensures { OnOk result (map plain_item items.new.items ≡ map plain_item items.old.items ++ WireItem name.bytes width ∷ []) }
 {
-    items.push(Item::Wire(Decl { name, width }))?;
+    items.push(BodyItem::Wire(Decl { name, width }))?;
     Ok(())
 }
 
 /// One register more.
-pub fn register(items: &mut Vec<Item>, name: Name, width: u8) -> Result<(), AllocError>
+pub fn register(items: &mut Vec<BodyItem>, name: Name, width: u8) -> Result<(), AllocError>
     ensures { OnOk result (map plain_item items.new.items ≡ map plain_item items.old.items ++ RegItem name.bytes width ∷ []) }
 {
-    items.push(Item::Reg(Decl { name, width }))?;
+    items.push(BodyItem::Reg(Decl { name, width }))?;
     Ok(())
 }
 
 /// One assignment more.
-pub fn assign(items: &mut Vec<Item>, target: Name, value: Expr) -> Result<(), AllocError>
+pub fn assign(items: &mut Vec<BodyItem>, target: Name, value: Expr) -> Result<(), AllocError>
     ensures { OnOk result (map plain_item items.new.items ≡ map plain_item items.old.items ++ AssignItem target.bytes (plain value) ∷ []) }
 {
-    items.push(Item::Assign(target, value))?;
+    items.push(BodyItem::Assign(target, value))?;
     Ok(())
 }

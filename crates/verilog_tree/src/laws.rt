@@ -11,14 +11,16 @@ ghost use Rattle.verilog_tree.specs.Wires.{Uses, Leads, Read, IsLoop, Falls, Sta
 /// The value of an expression is within its width, where the values of the names that it uses are.
 #[tactic(auto, using(crate::proofs::Bounds::value_fits))]
 pub fn values_within_widths()
-    ensures { (w : List ℕ → ℕ) (e : Env) (x : Expression) → ((m : List ℕ) → Uses m x → e m < 2 ^ w m) → expression_formed x ≡ true → expression_widths w x ≡ None → value w e x < 2 ^ width w x }
+    ensures { (w : List ℕ → ℕ) (e : Env) (x : Expression) → ((m : List ℕ) → Uses m x → e m < 2 ^ w m)
+        → expression_formed x ≡ true → expression_widths w x ≡ None → value w e x < 2 ^ width w x }
 {}
 
 /// In a module that breaks no rule, exactly one environment settles where a rank of the names falls from
 /// each wire to the names that its expression uses, whatever values within their widths the registers, and
 /// the inputs but the clock, have.
 pub fn one_environment_settles()
-    ensures { (mo : ModuleTree) → formed mo ≡ true → first_break mo ≡ None → (rank : List ℕ → ℕ) → Falls rank mo.items → (regs ins : Env) → Starts mo regs ins → OneSettles mo regs ins }
+    ensures { (mo : ModuleTree) → formed mo ≡ true → first_break mo ≡ None → (rank : List ℕ → ℕ) → Falls rank mo.items
+        → (regs ins : Env) → Starts mo regs ins → OneSettles mo regs ins }
 {}
 
 /// In a module that breaks no rule, what the expression of a wire or plain output uses is declared, and isn't the

@@ -5,7 +5,7 @@ ghost use Rattle.verilog_tree.specs.inner.Plain.{plain_arm};
 ghost use Rattle.verilog_tree.specs.Fits.{expression_fits, statement_fits, statements_fit, arms_fit, items_fit, fits};
 
 use crate::sizes::formed;
-use crate::tree::{Arm, Expr, Item, Module, Stmt};
+use crate::tree::{Arm, BodyItem, Expr, Module, Stmt};
 use crate::words::is_name;
 
 #[cycle(expr_fits)]
@@ -72,14 +72,14 @@ fn arms_fit(room: u8, choices: &[Arm]) -> bool
     true
 }
 
-fn items_fit(items: &[Item]) -> bool
+fn items_fit(items: &[BodyItem]) -> bool
     ensures { result ≡ items_fit 64 (map plain_item items.now) }
 {
     for item in items {
         let fits = match item {
-            Item::Wire(declared) | Item::Reg(declared) => is_name(&declared.name),
-            Item::Assign(name, x) => is_name(name) && expr_fits(64, x),
-            Item::Always(clock, body) => is_name(clock) && stmts_fit(63, body),
+            BodyItem::Wire(declared) | BodyItem::Reg(declared) => is_name(&declared.name),
+            BodyItem::Assign(name, x) => is_name(name) && expr_fits(64, x),
+            BodyItem::Always(clock, body) => is_name(clock) && stmts_fit(63, body),
         };
         if !fits {
             return false;

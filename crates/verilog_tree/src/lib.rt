@@ -45,5 +45,5 @@ pub use rules::check;
 pub use sizes::formed;
 pub use tables::{Declarations, NameSet, all_declarations};
 pub use tokens::{Base, Mark, Within};
-pub use tree::{Arm, BinOp, Decl, Dir, Expr, Item, Module, Name, Port, Stmt, UnOp};
+pub use tree::{Arm, BinOp, BodyItem, Decl, Dir, Expr, Module, Name, Port, Stmt, UnOp};
 pub use words::is_name;

@@ -4,7 +4,7 @@ ghost use Rattle.verilog_tree.specs.Plain.{plain, plain_stmt, plain_stmts, plain
 ghost use Rattle.verilog_tree.specs.Rules.{mentioned, reads, statement_mentions, statements_mentions, mentions};
 ghost use Rattle.verilog_tree.specs.inner.Seen.{mention};
 
-use crate::tree::{Expr, Item, Name, Stmt};
+use crate::tree::{BodyItem, Expr, Name, Stmt};
 use bist_bits::NoMemory;
 use std::alloc::Global;
 
@@ -125,16 +125,16 @@ pub fn names_read(alloc: Global, x: &Expr) -> Result<Vec<Name>, NoMemory>
 }
 
 /// Puts the names that an item uses, in the order of the text.
-pub(crate) fn put_item(out: &mut Vec<Mention>, item: &Item) -> Result<(), NoMemory>
+pub(crate) fn put_item(out: &mut Vec<Mention>, item: &BodyItem) -> Result<(), NoMemory>
     ensures { OnOk result (map mention out.new.items ≡ map mention out.old.items ++ mentions (plain_item item.now)) }
 {
     match item {
-        Item::Wire(_) | Item::Reg(_) => Ok(()),
-        Item::Assign(name, x) => {
+        BodyItem::Wire(_) | BodyItem::Reg(_) => Ok(()),
+        BodyItem::Assign(name, x) => {
             put(out, Mention::Target(*name))?;
             put_expr(out, x)
         }
-        Item::Always(clock, body) => {
+        BodyItem::Always(clock, body) => {
             put(out, Mention::Clock(*clock))?;
             put_stmts(out, body)
         }

@@ -7,7 +7,7 @@ ghost use Rattle.verilog_tree.specs.Names.{kind_of, lookup, item_declarations, d
 ghost use Rattle.verilog_tree.specs.Seen.{declaration};
 ghost use Rattle.verilog_tree.specs.inner.Seen.{declares};
 
-use crate::tree::{Dir, Item, Module, Name, Port};
+use crate::tree::{BodyItem, Dir, Module, Name, Port};
 use bist_bits::NoMemory;
 use std::alloc::Global;
 
@@ -49,21 +49,21 @@ pub(crate) fn declared_port(port: &Port) -> Declared
     }
 }
 
-pub(crate) fn declared_item(item: &Item) -> Option<Declared>
+pub(crate) fn declared_item(item: &BodyItem) -> Option<Declared>
     ensures { declares (option_map declaration result) ≡ item_declarations (plain_item item.now ∷ []) }
 {
     match item {
-        Item::Wire(wire) => Some(Declared {
+        BodyItem::Wire(wire) => Some(Declared {
             name: wire.name,
             kind: Kind::Wire,
             width: wire.width,
         }),
-        Item::Reg(register) => Some(Declared {
+        BodyItem::Reg(register) => Some(Declared {
             name: register.name,
             kind: Kind::Register,
             width: register.width,
         }),
-        Item::Assign(_, _) | Item::Always(_, _) => None,
+        BodyItem::Assign(_, _) | BodyItem::Always(_, _) => None,
     }
 }
 
@@ -76,7 +76,7 @@ fn push(all: &mut Vec<Declared>, next: Declared) -> Result<(), NoMemory>
     }
 }
 
-fn push_items(all: &mut Vec<Declared>, items: &[Item]) -> Result<(), NoMemory>
+fn push_items(all: &mut Vec<Declared>, items: &[BodyItem]) -> Result<(), NoMemory>
     ensures { OnOk result (map declaration all.new.items ≡ map declaration all.old.items ++ item_declarations (map plain_item items.now)) }
 {
     for item in items {
@@ -89,7 +89,8 @@ fn push_items(all: &mut Vec<Declared>, items: &[Item]) -> Result<(), NoMemory>
 
 /// What a module declares, in the order of its ports and then its items.
 pub fn all_declared(alloc: Global, module: &Module) -> Result<Vec<Declared>, NoMemory>
-    ensures { IfOk result (λ all. map declaration all.items ≡ declarations (plain_module «module».now).ports (plain_module «module».now).items) }
+    ensures { IfOk result (λ all. map declaration all.items
+        ≡ declarations (plain_module «module».now).ports (plain_module «module».now).items) }
 {
     let mut all = Vec::new(alloc);
     for port in &module.ports {

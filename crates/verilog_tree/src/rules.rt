@@ -12,7 +12,7 @@ use crate::fault::TreeFault;
 use crate::mentions::{Mention, put_item};
 use crate::names::{Declared, Kind, all_declared, declared_item, declared_port, is_clk};
 use crate::tables::{Declarations, NameSet, by_name};
-use crate::tree::{Item, Module, Name, Port};
+use crate::tree::{BodyItem, Module, Name, Port};
 use crate::widths::item_widths;
 use bist_bits::NoMemory;
 use std::alloc::Global;
@@ -29,11 +29,11 @@ struct Before {
 
 // N2 and N10: no name is declared twice, no item declares `clk`, and no wire or plain output has a second
 // `assign`.
-fn once(before: &Before, item: &Item) -> Result<(), TreeFault>
+fn once(before: &Before, item: &BodyItem) -> Result<(), TreeFault>
     ensures { Refuses (again before.now.declared (among before.now.assigned) (plain_item item.now)) result }
 {
     match item {
-        Item::Wire(next) | Item::Reg(next) => {
+        BodyItem::Wire(next) | BodyItem::Reg(next) => {
             if before.declared.get(&next.name).is_some() {
                 return Err(TreeFault::Twice { name: next.name });
             }
@@ -41,7 +41,7 @@ fn once(before: &Before, item: &Item) -> Result<(), TreeFault>
                 return Err(TreeFault::Clock { name: next.name });
             }
         }
-        Item::Assign(name, _) => {
+        BodyItem::Assign(name, _) => {
             let is_wire = match before.declared.get(name) {
                 Some(found) => found.kind == Kind::Wire,
                 None => false,
@@ -50,7 +50,7 @@ fn once(before: &Before, item: &Item) -> Result<(), TreeFault>
                 return Err(TreeFault::Twice { name: *name });
             }
         }
-        Item::Always(_, _) => {}
+        BodyItem::Always(_, _) => {}
     }
     Ok(())
 }
@@ -74,7 +74,7 @@ fn is_broken(
     rule: Rule,
     widths: &Declarations,
     before: &Before,
-    item: &Item,
+    item: &BodyItem,
     next: &Mention,
 ) -> bool
     ensures { result ≡ is_broken rule (width_of widths.now) before.now.declared before.now.set (plain_item item.now) (mention next.now) }
@@ -93,7 +93,7 @@ fn is_broken(
         Rule::Assignable => match next {
             Mention::Target(_) => match found {
                 Some(found) => match item {
-                    Item::Always(_, _) => found.kind != Kind::Register,
+                    BodyItem::Always(_, _) => found.kind != Kind::Register,
                     _ => found.kind != Kind::Wire,
                 },
                 None => true,
@@ -131,10 +131,11 @@ fn keeps(
     rule: Rule,
     widths: &Declarations,
     before: &Before,
-    item: &Item,
+    item: &BodyItem,
     all: &[Mention],
 ) -> Result<(), TreeFault>
-    ensures { Refuses (first_broken rule (width_of widths.now) before.now.declared before.now.set (plain_item item.now) (map mention all.now)) result }
+    ensures { Refuses (first_broken rule (width_of widths.now) before.now.declared before.now.set (plain_item item.now)
+        (map mention all.now)) result }
 {
     for next in all {
         if is_broken(rule, widths, before, item, next) {
@@ -147,11 +148,12 @@ fn keeps(
 fn check_item(
     widths: &Declarations,
     before: &Before,
-    item: &Item,
+    item: &BodyItem,
     all: &[Mention],
 ) -> Result<(), TreeFault>
     requires { map mention all.now ≡ mentions (plain_item item.now) }
-    ensures { Refuses (break_behind (width_of widths.now) before.now.declared (among before.now.assigned) before.now.set (plain_item item.now)) result }
+    ensures { Refuses (break_behind (width_of widths.now) before.now.declared (among before.now.assigned) before.now.set
+        (plain_item item.now)) result }
 {
     keeps(Rule::Known, widths, before, item, all)?;
     once(before, item)?;
@@ -163,19 +165,19 @@ fn check_item(
 }
 
 // Goes behind an item.
-fn pass(before: &mut Before, item: &Item, all: &[Mention]) -> Result<(), NoMemory>
+fn pass(before: &mut Before, item: &BodyItem, all: &[Mention]) -> Result<(), NoMemory>
     requires { map mention all.now ≡ mentions (plain_item item.now) }
     ensures declared { OnOk result (before.new.declared ≡ declared_behind before.old.declared (plain_item item.now)) }
     ensures assigned { OnOk result (before.new.assigned ≡ assigned_behind before.old.assigned (plain_item item.now)) }
     ensures set { OnOk result (before.new.set ≡ set_behind before.old.set (plain_item item.now)) }
 {
     match item {
-        Item::Wire(_) | Item::Reg(_) => match declared_item(item) {
+        BodyItem::Wire(_) | BodyItem::Reg(_) => match declared_item(item) {
             Some(declared) => before.declared.add(declared),
             None => Ok(()),
         },
-        Item::Assign(name, _) => before.assigned.add(*name),
-        Item::Always(_, _) => {
+        BodyItem::Assign(name, _) => before.assigned.add(*name),
+        BodyItem::Always(_, _) => {
             for next in all {
                 if let Mention::Target(name) = next {
                     before.set.add(*name)?;
@@ -191,9 +193,11 @@ fn check_items(
     alloc: Global,
     widths: &Declarations,
     before: &mut Before,
-    items: &[Item],
+    items: &[BodyItem],
 ) -> Result<(), TreeFault>
-    ensures refuses { Refuses (breaks_behind (width_of widths.now) before.old.declared before.old.assigned before.old.set (map plain_item items.now)) result }
+    ensures refuses { Refuses (breaks_behind
+        (width_of widths.now) before.old.declared before.old.assigned before.old.set
+        (map plain_item items.now)) result }
     ensures assigned { OnOk result (before.new.assigned ≡ all_assigned before.old.assigned (map plain_item items.now)) }
 {
     for item in items {

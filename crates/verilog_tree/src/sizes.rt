@@ -4,7 +4,7 @@ ghost use Rattle.verilog_tree.specs.Plain.{plain, plain_stmt, plain_stmts, plain
 ghost use Rattle.verilog_tree.specs.inner.Plain.{plain_arm};
 ghost use Rattle.verilog_tree.specs.Formed.{is_width, is_literal, has_expression, expression_formed, expressions_formed, has_label, labels_formed, has_arm, statement_formed, statements_formed, arms_formed, items_formed, formed};
 
-use crate::tree::{Arm, Expr, Item, Module, Stmt};
+use crate::tree::{Arm, BodyItem, Expr, Module, Stmt};
 use bist_bits::Bits;
 
 fn width_formed(width: u8) -> bool
@@ -97,14 +97,14 @@ fn arms_formed(choices: &[Arm]) -> bool
     !choices.is_empty()
 }
 
-fn items_formed(items: &[Item]) -> bool
+fn items_formed(items: &[BodyItem]) -> bool
     ensures { result ≡ items_formed (map plain_item items.now) }
 {
     for item in items {
         let formed = match item {
-            Item::Wire(declared) | Item::Reg(declared) => width_formed(declared.width),
-            Item::Assign(_, x) => expr_formed(x),
-            Item::Always(_, body) => stmts_formed(body),
+            BodyItem::Wire(declared) | BodyItem::Reg(declared) => width_formed(declared.width),
+            BodyItem::Assign(_, x) => expr_formed(x),
+            BodyItem::Always(_, body) => stmts_formed(body),
         };
         if !formed {
             return false;

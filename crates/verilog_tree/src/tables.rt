@@ -104,7 +104,8 @@ pub(crate) fn by_name(alloc: Global, declared: &[Declared]) -> Result<Declaratio
 
 /// What a module declares, by name.
 pub fn all_declarations(alloc: Global, module: &Module) -> Result<Declarations, NoMemory>
-    ensures { IfOk result (λ all. (n : List ℕ) → lookup all n ≡ lookup (declarations (plain_module «module».now).ports (plain_module «module».now).items) n) }
+    ensures { IfOk result (λ all. (n : List ℕ)
+        → lookup all n ≡ lookup (declarations (plain_module «module».now).ports (plain_module «module».now).items) n) }
 {
     let declared = all_declared(alloc, module)?;
     by_name(alloc, &declared)

@@ -100,7 +100,7 @@ pub struct Arm {
 
 /// An item of a module.
 #[derive(Drop)]
-pub enum Item {
+pub enum BodyItem {
     Wire(Decl),
     Reg(Decl),
     /// A continuous assignment.
@@ -114,5 +114,5 @@ pub enum Item {
 pub struct Module {
     pub name: Name,
     pub ports: Vec<Port>,
-    pub items: Vec<Item>,
+    pub items: Vec<BodyItem>,
 }

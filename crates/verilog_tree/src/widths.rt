@@ -9,7 +9,7 @@ ghost use Rattle.verilog_tree.specs.inner.Rules.{RefusesOr};
 use crate::fault::TreeFault;
 use crate::operators::{binary_width, operands, unary_width};
 use crate::tables::Declarations;
-use crate::tree::{Expr, Item, Name, Stmt};
+use crate::tree::{BodyItem, Expr, Name, Stmt};
 use bist_bits::Bits;
 
 pub(crate) fn equal(left: u64, right: u64) -> Result<(), TreeFault>
@@ -126,12 +126,12 @@ fn stmts_widths(names: &Declarations, body: &[Stmt]) -> Result<(), TreeFault>
 }
 
 /// The first two widths of an item that must be equal and aren't, where names are declared so.
-pub(crate) fn item_widths(names: &Declarations, item: &Item) -> Result<(), TreeFault>
+pub(crate) fn item_widths(names: &Declarations, item: &BodyItem) -> Result<(), TreeFault>
     ensures { Refuses (item_widths (width_of names.now) (plain_item item.now)) result }
 {
     match item {
-        Item::Wire(_) | Item::Reg(_) => Ok(()),
-        Item::Assign(name, x) => assignment_widths(names, name, x),
-        Item::Always(_, body) => stmts_widths(names, body),
+        BodyItem::Wire(_) | BodyItem::Reg(_) => Ok(()),
+        BodyItem::Assign(name, x) => assignment_widths(names, name, x),
+        BodyItem::Always(_, body) => stmts_widths(names, body),
     }
 }

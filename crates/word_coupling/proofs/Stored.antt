@@ -11,7 +11,7 @@ use Rattle.fault_core.specs.Cells.{has_act, has_this_act}
 use Rattle.cell_machine.specs.declared.pair.Pair.{Pair}
 use Rattle.cell_machine.specs.Pairs.{pair_of, side_holds, pair_holds, with_victim, pair_close, agg_act_of, pair_pause}
 use Rattle.word_march.specs.declared.operations.WordOp.{WordOp}
-use Rattle.word_device.specs.declared.device.Place.{Place}
+use Rattle.word_device.specs.declared.device.BitPlace.{BitPlace}
 use Rattle.word_device.specs.declared.device.Planted.{Planted}
 use Rattle.word_device.specs.Chips.{has_bit, with_bit, bit_in, with_bit_in, agg_bit_holds, bits_hold, closed_words, falls_on, falls_on_agg, matches, plain_words, answered, paused_words, words_after, reply_to}
 use Rattle.word_device.proofs.Lanes.{with_bit_same}
@@ -22,7 +22,7 @@ use Rattle.word_coupling.specs.inner.Couples.{act_with, couple_acts, plain_coupl
 use Rattle.word_coupling.proofs.Bits.{with_bit_other, with_bit_kept, with_bit_twice, low_same}
 
 -- a bit of the word
-abbrev pub bit_place : ℕ → ℕ → Place
+abbrev pub bit_place : ℕ → ℕ → BitPlace
 bit_place word bit = record { word = word; bit = bit }
 
 -- good words with this bit at the victim's place
@@ -66,7 +66,7 @@ stored_same w vic words = ap (slice_set words w) (with_bit_kept (slice_index wor
 
 -- ---- states and closing
 
-agg_state : (agg : Option Sense) (at : Place) (words : List ℕ) (bit : Bool) → bit_in words at ≡ bit
+agg_state : (agg : Option Sense) (at : BitPlace) (words : List ℕ) (bit : Bool) → bit_in words at ≡ bit
     → agg_bit_holds agg (Some at) words ≡ side_holds agg bit
 agg_state None at words bit e = refl
 agg_state (Some sense) at words bit e = ap (λ b. same_bit b sense.state) e

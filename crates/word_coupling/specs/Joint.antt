@@ -24,7 +24,8 @@ pub record HasDetectedInWord (march : List MarchElement) (d : Description) (p : 
 -- such a chip answers some read of the march wrong
 abbrev pub FailsInWord : List MarchElement → Description → Type 0
 FailsInWord march d =
-    (p : Primitive) (word agg vic : ℕ) (chip : Chip) → HasDetectedInWord march d p word agg vic chip → SomeWrong march d (run_word march d chip)
+    (p : Primitive) (word agg vic : ℕ) (chip : Chip) → HasDetectedInWord march d p word agg vic chip
+    → SomeWrong march d (run_word march d chip)
 
 -- and a self-test beside it ends with `fail`
 abbrev pub JointFailsInWord : List MarchElement → Description → Type 0
@@ -34,7 +35,8 @@ JointFailsInWord march d =
 
 -- the chip has the memory's words, and the primitive is planted in it at the two bits of an escape, in whichever word, and with the
 -- escape's content, closed
-pub record HasEscapeInWord (march : List MarchElement) (d : Description) (p : Primitive) (word : ℕ) (e : WordEscape) (chip : Chip) : Type 0 where
+pub record HasEscapeInWord (march : List MarchElement) (d : Description) (p : Primitive) (word : ℕ) (e : WordEscape)
+    (chip : Chip) : Type 0 where
   pub planted : chip.planted ≡ Some (in_word p word e.agg e.vic)
   pub primitive : IsPrimitive p
   pub two_cell : has_aggressor p ≡ true

@@ -22,7 +22,8 @@ pub(crate) struct JudgedCoupling {
 
 /// The static primitive of two cells that an item is.
 fn coupling_of(item: &Item) -> Option<&Prim>
-    ensures { MatchOption result (coupling_of item.now ≡ []) (λ prim. (coupling_of item.now ≡ prim.now ∷ []) × IsTrue (has_aggressor prim.now)) }
+    ensures { MatchOption result (coupling_of item.now ≡ [])
+        (λ prim. (coupling_of item.now ≡ prim.now ∷ []) × IsTrue (has_aggressor prim.now)) }
 {
     match item {
         Item::Plain(prim) if prim.agg().is_some() => Some(prim),

@@ -114,8 +114,8 @@ pub fn judge_in_word(march: &March, memory: &Memory, prim: &Prim) -> Option<Word
     ensures { IsWordVerdict march.now memory.now prim.now result }
 {
     let table = table_of(prim, march);
-    let _ = march.len();
-    let _ = prim.agg();
+    march.known();
+    prim.known();
     for vic in 0..memory.bits() {
         if let Some(escape) = least_beside(&table, prim, memory, vic) {
             return Some(escape);

@@ -10,14 +10,14 @@ pub fn planted_in_word_fails(march: &March, memory: &Memory)
     ensures alone { FailsInWord march.now memory.now }
     ensures joint { JointFailsInWord march.now memory.now }
 {
-    let _ = memory.words();
+    memory.known();
 }
 
 /// A self-test beside a chip with an instance at the two bits of an escape, with its content, ends without `fail`.
 pub fn escape_in_word_passes(march: &March, memory: &Memory)
     ensures { JointPassesInWord march.now memory.now }
 {
-    let _ = memory.words();
+    memory.known();
 }
 
 /// The bytes of a report are determined by the march, the memory and the items.

@@ -3,7 +3,7 @@ use Rattle.std.proofs.Common.{◌≡◌, ◌≤◌, ◌∙◌, ℕ, Option, Some
 use Rattle.std.proofs.Math.ListN.{drop_of_length-le}
 use Rattle.std.proofs.Math.Seq.{take-length}
 use Rattle.fault_core.specs.declared.primitive.Sense.{Sense}
-use Rattle.word_device.specs.declared.device.Place.{Place}
+use Rattle.word_device.specs.declared.device.BitPlace.{BitPlace}
 use Rattle.word_device.specs.declared.device.Planted.{Planted}
 use Rattle.word_device.specs.Chips.{FitsMemory, FitsAggPlace, closed_words}
 use Rattle.word_device.specs.Boxes.{FitsPlanted}
@@ -21,7 +21,7 @@ closed_whole n i lent new old all same is =
     let closes : new ≡ closed_words i old = is ∙ ap (closed_words i) same in
     whole n new old all (ap length closes ∙ length-closed_words i old) ∙ closes
 
-agg_wide : (agg : Option Sense) (at : Option Place) (vic : Place) (words bits n : ℕ) → bits ≤ 64 → n ≡ words → FitsAggPlace agg at vic words bits
+agg_wide : (agg : Option Sense) (at : Option BitPlace) (vic : BitPlace) (words bits n : ℕ) → bits ≤ 64 → n ≡ words → FitsAggPlace agg at vic words bits
     → FitsAggPlace agg at vic n 64
 agg_wide None None vic words bits n narrow same fits = tt
 agg_wide None (Some at) vic words bits n narrow same fits = fits

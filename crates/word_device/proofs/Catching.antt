@@ -27,7 +27,7 @@ use Rattle.backgrounds.specs.Backgrounds.{word_of}
 use Rattle.memory_desc.specs.Descriptions.{Description, IsMemory}
 use Rattle.word_march.specs.declared.operations.WordOp.{WordOp}
 use Rattle.word_march.specs.Commands.{word_op, word_step, run_in, word_steps}
-use Rattle.word_device.specs.declared.device.Place.{Place}
+use Rattle.word_device.specs.declared.device.BitPlace.{BitPlace}
 use Rattle.word_device.specs.declared.device.Planted.{Planted}
 use Rattle.word_device.specs.Chips.{has_bit, act_on, words_after, words_paused, closed_words, reply_to, FitsMemory, FitsAggPlace}
 use Rattle.word_device.proofs.Lanes.{lane, length-lane, has_bit-zero}
@@ -150,7 +150,7 @@ up_fits (e ∷ es) = go (order_of e) (up_fits es)
     go Down rest = rest
     go Any rest = rest
 
-fits_agg : (agg : Option Sense) (place : Option Place) (vic : Place) (words bits : ℕ) → FitsAggPlace agg place vic words bits
+fits_agg : (agg : Option Sense) (place : Option BitPlace) (vic : BitPlace) (words bits : ℕ) → FitsAggPlace agg place vic words bits
     → FitsAgg agg (word_at place) vic.word words
 fits_agg None None vic words bits h = tt
 fits_agg None (Some p) vic words bits h = absurd h
@@ -158,14 +158,14 @@ fits_agg (Some sense) None vic words bits h = absurd h
 fits_agg (Some sense) (Some p) vic words bits h = (h.0, h.2)
 
 -- the bit of each word that the lane goes through
-abbrev pub bit_beside : Option Place → ℕ → ℕ
+abbrev pub bit_beside : Option BitPlace → ℕ → ℕ
 bit_beside None bit = bit
 bit_beside (Some p) bit = p.bit
 
 abbrev pub bit_through : Planted → ℕ → ℕ
 bit_through i k = cond (eqb i.vic.word k) i.vic.bit (bit_beside i.agg i.vic.bit)
 
-through_agg : (i : Planted) (agg : Option Sense) (place : Option Place) (words bits : ℕ) → FitsAggPlace agg place i.vic words bits
+through_agg : (i : Planted) (agg : Option Sense) (place : Option BitPlace) (words bits : ℕ) → FitsAggPlace agg place i.vic words bits
     → ThroughAgg place (λ k. cond (eqb i.vic.word k) i.vic.bit (bit_beside place i.vic.bit))
 through_agg i agg None words bits h = tt
 through_agg i None (Some p) words bits h = absurd h
@@ -183,7 +183,7 @@ through i words bits fits =
       agg = through_agg i i.prim.agg i.agg words bits fits.agg;
     }
 
-beside_below : (agg : Option Sense) (place : Option Place) (vic : Place) (words bits : ℕ) → vic.bit < bits → FitsAggPlace agg place vic words bits
+beside_below : (agg : Option Sense) (place : Option BitPlace) (vic : BitPlace) (words bits : ℕ) → vic.bit < bits → FitsAggPlace agg place vic words bits
     → bit_beside place vic.bit < bits
 beside_below agg None vic words bits low h = low
 beside_below None (Some p) vic words bits low h = absurd h

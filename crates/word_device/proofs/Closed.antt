@@ -7,13 +7,13 @@ use Rattle.fault_core.specs.declared.primitive.Act.TheVariants.{Write, Read, Pau
 use Rattle.fault_core.specs.Primitive.{IsPrimitive, same_bit, agg_has_act, is_pause, is_retention}
 use Rattle.fault_core.specs.Cells.{has_act}
 use Rattle.cell_machine.proofs.Closing.{spent, differs, left_state}
-use Rattle.word_device.specs.declared.device.Place.{Place}
+use Rattle.word_device.specs.declared.device.BitPlace.{BitPlace}
 use Rattle.word_device.specs.declared.device.Planted.{Planted}
 use Rattle.word_device.specs.Chips.{has_bit, with_bit, bit_in, with_bit_in, agg_bit_holds, bits_hold, closed_words, paused_words}
 use Rattle.word_device.specs.Runs.{Closes}
 use Rattle.word_device.proofs.Lanes.{with_bit_same}
 
-bit_in_set : (ws : List ℕ) (at : Place) (b : Bool) → at.word < length ws → bit_in (with_bit_in ws at b) at ≡ b
+bit_in_set : (ws : List ℕ) (at : BitPlace) (b : Bool) → at.word < length ws → bit_in (with_bit_in ws at b) at ≡ b
 bit_in_set ws at b inside =
     ap (λ w. has_bit w at.bit) (get_or-set_same ws at.word (with_bit (slice_index ws at.word) at.bit b) 0 inside) ∙ with_bit_same (slice_index ws at.word) at.bit b
 

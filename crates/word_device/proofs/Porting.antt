@@ -23,7 +23,7 @@ use Rattle.word_march.specs.Commands.{word_op, word_ops, port_op}
 use Rattle.word_march.specs.Standing.{sweeps_from, run_ops}
 use Rattle.word_march.proofs.Left.{runs_are}
 use Rattle.word_march.proofs.Next.{index_fits}
-use Rattle.word_device.specs.declared.device.Place.{Place}
+use Rattle.word_device.specs.declared.device.BitPlace.{BitPlace}
 use Rattle.word_device.specs.declared.device.Planted.{Planted}
 use Rattle.word_device.specs.declared.device.PortCmd.{PortCmd}
 use Rattle.word_device.specs.declared.shape.Shape.{Shape}
@@ -108,7 +108,7 @@ march_in_memory march d m =
 abbrev pub op_of : Bool → ℕ → ℕ → WordOp
 op_of w k a = record { write = w; index = k; word = a }
 
-falls_same : (agg : Option Sense) (place : Option Place) (k a b : ℕ) → falls_on_agg agg place (op_of false k a) ≡ falls_on_agg agg place (op_of false k b)
+falls_same : (agg : Option Sense) (place : Option BitPlace) (k a b : ℕ) → falls_on_agg agg place (op_of false k a) ≡ falls_on_agg agg place (op_of false k b)
 falls_same None place k a b = refl
 falls_same (Some sense) None k a b = refl
 falls_same (Some sense) (Some p) k a b = refl

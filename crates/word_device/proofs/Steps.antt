@@ -9,13 +9,13 @@ use Rattle.fault_core.specs.declared.cells.Places.{Places}
 use Rattle.fault_core.specs.Primitive.{Primitive, IsPrimitive, same_bit, agg_has_act, is_retention}
 use Rattle.fault_core.specs.Cells.{cell, agg_holds, states_hold, has_act, close_of, has_this_act, agg_acts, acts, plain_cells, answer_or, acted, step_cells, step_answer, pause_cells}
 use Rattle.word_march.specs.declared.operations.WordOp.{WordOp}
-use Rattle.word_device.specs.declared.device.Place.{Place}
+use Rattle.word_device.specs.declared.device.BitPlace.{BitPlace}
 use Rattle.word_device.specs.declared.device.Planted.{Planted}
 use Rattle.word_device.specs.Chips.{has_bit, with_bit, bit_in, with_bit_in, agg_bit_holds, bits_hold, closed_words, act_on, falls_on, falls_on_agg, matches, plain_words, plain_reply, acted_words, answered, words_after, paused_words, reply_to}
 use Rattle.word_device.proofs.Lanes.{lane, lane_cell, lane_set, with_bit_same}
 
 -- the words of the instance, as places in the lane
-abbrev pub word_at : Option Place → Option ℕ
+abbrev pub word_at : Option BitPlace → Option ℕ
 word_at None = None
 word_at (Some p) = Some p.word
 
@@ -23,7 +23,7 @@ abbrev pub spots : Planted → Places
 spots i = record { agg = word_at i.agg; vic = i.vic.word }
 
 -- the lane goes through the places of the instance
-abbrev pub ThroughAgg : Option Place → (ℕ → ℕ) → Type 0
+abbrev pub ThroughAgg : Option BitPlace → (ℕ → ℕ) → Type 0
 ThroughAgg None at = Unit {0}
 ThroughAgg (Some p) at = at p.word ≡ p.bit
 
@@ -31,10 +31,10 @@ pub record Through (i : Planted) (at : ℕ → ℕ) : Type 0 where
   pub vic : at i.vic.word ≡ i.vic.bit
   pub agg : ThroughAgg i.agg at
 
-lane_place : (at : ℕ → ℕ) (ws : List ℕ) (p : Place) → at p.word ≡ p.bit → cell (lane at ws) p.word ≡ bit_in ws p
+lane_place : (at : ℕ → ℕ) (ws : List ℕ) (p : BitPlace) → at p.word ≡ p.bit → cell (lane at ws) p.word ≡ bit_in ws p
 lane_place at ws p e = lane_cell at ws p.word ∙ ap (has_bit (slice_index ws p.word)) e
 
-pub lane_with_bit : (at : ℕ → ℕ) (ws : List ℕ) (p : Place) (b : Bool) → at p.word ≡ p.bit → lane at (with_bit_in ws p b) ≡ slice_set (lane at ws) p.word b
+pub lane_with_bit : (at : ℕ → ℕ) (ws : List ℕ) (p : BitPlace) (b : Bool) → at p.word ≡ p.bit → lane at (with_bit_in ws p b) ≡ slice_set (lane at ws) p.word b
 lane_with_bit at ws p b e =
     let w : ℕ = with_bit (slice_index ws p.word) p.bit b in
     lane_set at ws p.word w ∙ ap (slice_set (lane at ws) p.word) (ap (has_bit w) e ∙ with_bit_same (slice_index ws p.word) p.bit b)
@@ -44,7 +44,7 @@ pub lane_if : (at : ℕ → ℕ) (b : Bool) (xs ys : List ℕ) (cs ds : List Boo
 lane_if at true xs ys cs ds ex ey = ex
 lane_if at false xs ys cs ds ex ey = ey
 
-agg_state : (agg : Option Sense) (place : Option Place) (at : ℕ → ℕ) (ws : List ℕ) → ThroughAgg place at
+agg_state : (agg : Option Sense) (place : Option BitPlace) (at : ℕ → ℕ) (ws : List ℕ) → ThroughAgg place at
     → agg_bit_holds agg place ws ≡ agg_holds agg (word_at place) (lane at ws)
 agg_state None place at ws e = refl
 agg_state (Some sense) None at ws e = refl
@@ -62,7 +62,7 @@ lane_closed i at ws t =
     ∙ lane_if at (not (has_act i.prim) && states_hold i.prim (spots i) (lane at ws)) (with_bit_in ws i.vic i.prim.after) ws
     (slice_set (lane at ws) i.vic.word i.prim.after) (lane at ws) (lane_with_bit at ws i.vic i.prim.after t.vic) refl
 
-falls_same : (act : Option Act) (p : Place) (at : ℕ → ℕ) (o : WordOp) → at p.word ≡ p.bit
+falls_same : (act : Option Act) (p : BitPlace) (at : ℕ → ℕ) (o : WordOp) → at p.word ≡ p.bit
     → falls_on act p o ≡ (p.word == o.index) && has_this_act act (act_on o (at o.index))
 falls_same act p at o e =
     ⊎_elim
@@ -72,7 +72,7 @@ falls_same act p at o e =
     ap (λ b. b && has_this_act act (act_on o p.bit)) h.0 ∙ sym (ap (λ b. b && has_this_act act (act_on o (at o.index))) h.0))
     (eqb_tells p.word o.index)
 
-agg_falls_same : (agg : Option Sense) (place : Option Place) (at : ℕ → ℕ) (o : WordOp) → ThroughAgg place at
+agg_falls_same : (agg : Option Sense) (place : Option BitPlace) (at : ℕ → ℕ) (o : WordOp) → ThroughAgg place at
     → falls_on_agg agg place o ≡ agg_acts agg (word_at place) o.index (act_on o (at o.index))
 agg_falls_same None place at o e = refl
 agg_falls_same (Some sense) None at o e = refl
@@ -140,7 +140,7 @@ idle_agg p is read = at (agg_has_act p.agg) refl
     at true e = let none : p.vic.act ≡ None = is.one_act e in cc
     at false e = e
 
-agg_falls_not : (agg : Option Sense) (place : Option Place) (o : WordOp) → agg_has_act agg ≡ false → falls_on_agg agg place o ≡ false
+agg_falls_not : (agg : Option Sense) (place : Option BitPlace) (o : WordOp) → agg_has_act agg ≡ false → falls_on_agg agg place o ≡ false
 agg_falls_not None place o e = refl
 agg_falls_not (Some sense) None o e = refl
 agg_falls_not (Some sense) (Some p) o e = ap (λ act. falls_on act p o) (none_here sense.act e) ∙ and-false (p.word == o.index)

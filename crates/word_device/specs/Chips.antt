@@ -7,7 +7,7 @@ use Rattle.fault_core.specs.declared.primitive.Sense.{Sense}
 use Rattle.fault_core.specs.Primitive.{same_bit, is_retention}
 use Rattle.fault_core.specs.Cells.{has_act, has_this_act}
 use Rattle.word_march.specs.declared.operations.WordOp.{WordOp}
-use Rattle.word_device.specs.declared.device.Place.{Place}
+use Rattle.word_device.specs.declared.device.BitPlace.{BitPlace}
 use Rattle.word_device.specs.declared.device.Planted.{Planted}
 
 -- whether a bit of a word is 1
@@ -19,14 +19,14 @@ unfoldable pub with_bit : ℕ → ℕ → Bool → ℕ
 with_bit word i bit = if same_bit (has_bit word i) bit then word else bit_xor word (2 ^ i)
 
 -- the bit at a place, and the words with another bit there
-abbrev pub bit_in : List ℕ → Place → Bool
+abbrev pub bit_in : List ℕ → BitPlace → Bool
 bit_in words at = has_bit (slice_index words at.word) at.bit
 
-abbrev pub with_bit_in : List ℕ → Place → Bool → List ℕ
+abbrev pub with_bit_in : List ℕ → BitPlace → Bool → List ℕ
 with_bit_in words at bit = slice_set words at.word (with_bit (slice_index words at.word) at.bit bit)
 
 -- whether the aggressor's bit holds its state, where there is an aggressor
-abbrev pub agg_bit_holds : Option Sense → Option Place → List ℕ → Bool
+abbrev pub agg_bit_holds : Option Sense → Option BitPlace → List ℕ → Bool
 agg_bit_holds None place words = true
 agg_bit_holds (Some sense) None words = true
 agg_bit_holds (Some sense) (Some at) words = same_bit (bit_in words at) sense.state
@@ -44,10 +44,10 @@ abbrev pub act_on : WordOp → ℕ → Act
 act_on o bit = if o.write then Write (has_bit o.word bit) else Read
 
 -- whether an operation is this act on the bit at a place
-abbrev pub falls_on : Option Act → Place → WordOp → Bool
+abbrev pub falls_on : Option Act → BitPlace → WordOp → Bool
 falls_on act at o = (at.word == o.index) && has_this_act act (act_on o at.bit)
 
-abbrev pub falls_on_agg : Option Sense → Option Place → WordOp → Bool
+abbrev pub falls_on_agg : Option Sense → Option BitPlace → WordOp → Bool
 falls_on_agg None place o = false
 falls_on_agg (Some sense) None o = false
 falls_on_agg (Some sense) (Some at) o = falls_on sense.act at o
@@ -69,7 +69,7 @@ acted_words i words o =
     if matches i words o then with_bit_in (plain_words words o) i.vic i.prim.after else plain_words words o
 
 -- a reply with the victim's bit that the primitive answers, where it answers one
-abbrev pub answered : Option Bool → Place → ℕ → ℕ
+abbrev pub answered : Option Bool → BitPlace → ℕ → ℕ
 answered None at word = word
 answered (Some bit) at word = with_bit word at.bit bit
 
@@ -98,7 +98,7 @@ reply_to None words o = plain_reply words o
 reply_to (Some i) words o = if matches i words o then answered i.prim.answer i.vic (plain_reply words o) else plain_reply words o
 
 -- the place of the aggressor: there exactly for a primitive with an aggressor, and in another word than the victim's
-abbrev pub FitsAggPlace : Option Sense → Option Place → Place → ℕ → ℕ → Type 0
+abbrev pub FitsAggPlace : Option Sense → Option BitPlace → BitPlace → ℕ → ℕ → Type 0
 FitsAggPlace None None vic words bits = Unit {0}
 FitsAggPlace None (Some at) vic words bits = ⊥
 FitsAggPlace (Some sense) None vic words bits = ⊥

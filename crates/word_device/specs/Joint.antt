@@ -21,10 +21,12 @@ chip_at shape chip q (suc t) = chip_after shape (chip_at shape chip q t) (comman
 
 -- in each cycle up to the last the ports keep their rule, and the word on `rdata` is the low bits of what the chip answered in
 -- the cycle before; as many answers were under way at the start as the memory's latency asks for
-pub record Joined (march : List MarchElement) (d : Description) (chip : Chip) (q : ℕ → PortValues) (returned : ℕ → ℕ) (last : ℕ) : Type 0 where
+pub record Joined (march : List MarchElement) (d : Description) (chip : Chip) (q : ℕ → PortValues) (returned : ℕ → ℕ)
+    (last : ℕ) : Type 0 where
   pub under_way : length chip.pending + 1 ≡ d.latency
   pub rule : (t : ℕ) → t ≤ last → PortRule march d returned t (q t)
-  pub answer : (t : ℕ) → t < last → returned (suc t) ≡ cycle_answer (shape_of d) (chip_at (shape_of d) chip q t) (command_on (q t)) % 2 ^ d.bits
+  pub answer : (t : ℕ) → t < last → returned (suc t)
+      ≡ cycle_answer (shape_of d) (chip_at (shape_of d) chip q t) (command_on (q t)) % 2 ^ d.bits
   -- the last answer has come by then
   pub late : span march d + 1 + d.latency ≤ last
 

@@ -77,7 +77,8 @@ cycle_answer shape chip cmd = slice_index (queued chip.pending (own_answer shape
 abbrev pub chip_after : Shape → Chip → PortCmd → Chip
 chip_after shape chip cmd =
     record {
-      words = if cmd.en then acted_at shape chip.planted chip.words cmd (addressed shape cmd.addr) else rested shape chip.planted chip.words chip.idle;
+      words = if cmd.en then acted_at shape chip.planted chip.words cmd
+          (addressed shape cmd.addr) else rested shape chip.planted chip.words chip.idle;
       planted = chip.planted;
       pending = drop 1 (queued chip.pending (own_answer shape chip cmd));
       idle = if cmd.en then 0 else idle_more shape chip.idle;

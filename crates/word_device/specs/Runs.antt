@@ -58,7 +58,8 @@ run_word march d chip j = answer_to march d (run_answers march d chip) j % 2 ^ d
 
 -- the word of command j is the one that it expects, where it is a read
 abbrev pub IsRight : List MarchElement → Description → (ℕ → ℕ) → ℕ → Type 0
-IsRight march d words j = (command : PortOp) → slice_get (port_ops march d) j ≡ Some command → command.write ≡ false → words j ≡ command.word
+IsRight march d words j = (command : PortOp) → slice_get (port_ops march d) j ≡ Some command → command.write ≡ false
+    → words j ≡ command.word
 
 -- command j is a read, and its word isn't the one that it expects
 pub record IsWrong (march : List MarchElement) (d : Description) (words : ℕ → ℕ) (j : ℕ) : Type 0 where

@@ -30,7 +30,12 @@ impl ConstDevice {
 impl Device for ConstDevice {
     ghost use Rattle.word_device.specs.Boxes.{TellsScript};
 
-    ghost told = { λ s. record { room = s.room; shape = s.shape; tells = TellsScript (record { base = s.word; step = 0; count = s.count }) } };
+    ghost told = { λ s. record {
+      room = s.room;
+      shape = s.shape;
+      tells = TellsScript
+          (record { base = s.word; step = 0; count = s.count });
+    } };
 
     fn room(&self) -> u32 {
         self.room

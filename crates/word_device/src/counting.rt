@@ -32,7 +32,12 @@ impl Device for CountDevice {
     ghost use Rattle.std.specs.Prelude.{◌^◌};
     ghost use Rattle.word_device.specs.Boxes.{TellsScript};
 
-    ghost told = { λ s. record { room = s.room; shape = s.shape; tells = TellsScript (record { base = 2 ^ 63; step = 1; count = s.count }) } };
+    ghost told = { λ s. record {
+      room = s.room;
+      shape = s.shape;
+      tells = TellsScript
+          (record { base = 2 ^ 63; step = 1; count = s.count });
+    } };
 
     fn room(&self) -> u32 {
         self.room

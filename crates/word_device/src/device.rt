@@ -7,7 +7,7 @@ use fault_core::Prim;
 
 /// A bit of a word, by the word's physical index.
 #[derive(Clone, Copy)]
-pub struct Place {
+pub struct BitPlace {
     pub word: u32,
     pub bit: u8,
 }
@@ -17,8 +17,8 @@ pub struct Place {
 pub struct Planted {
     pub prim: Prim,
     /// The aggressor's place, exactly for a primitive of two cells.
-    pub agg: Option<Place>,
-    pub vic: Place,
+    pub agg: Option<BitPlace>,
+    pub vic: BitPlace,
 }
 
 /// What stands at the port in a cycle.

@@ -5,12 +5,12 @@ ghost use Rattle.word_device.specs.Boxes.{FitsBox};
 ghost use Rattle.word_device.specs.Chips.{bit_in, with_bit_in, bits_hold, closed_words, paused_words, falls_on, matches, plain_words, plain_reply, words_after, reply_to, FitsMemory};
 
 use crate::bits::{has_bit, with_bit};
-use crate::device::{DeviceFault, Place, Planted};
+use crate::device::{BitPlace, DeviceFault, Planted};
 use crate::shape::Shape;
 use fault_core::{Act, Prim};
 use word_march::WordOp;
 
-fn bit_in(words: &[u64], at: Place) -> bool
+fn bit_in(words: &[u64], at: BitPlace) -> bool
     requires word { at.word < length words.now }
     requires bit { at.bit < 64 }
     ensures { result ≡ bit_in words.now at }
@@ -18,7 +18,7 @@ fn bit_in(words: &[u64], at: Place) -> bool
     has_bit(words[at.word as usize], at.bit)
 }
 
-fn set_bit(words: &mut [u64], at: Place, bit: bool)
+fn set_bit(words: &mut [u64], at: BitPlace, bit: bool)
     requires word { at.word < length words.old }
     requires bit { at.bit < 64 }
     ensures { words.new ≡ with_bit_in words.old at bit }
@@ -63,7 +63,8 @@ pub(crate) fn close(planted: &Planted, words: &mut [u64])
 /// The effect of the instance where the act was its own, and closing.
 fn take_effect(planted: &Planted, words: &mut [u64], own: bool)
     requires { FitsMemory planted.now (length words.old) 64 }
-    ensures { words.new ≡ closed_words planted.now (if own then with_bit_in words.old planted.now.vic planted.now.prim.after else words.old) }
+    ensures { words.new ≡ closed_words planted.now
+        (if own then with_bit_in words.old planted.now.vic planted.now.prim.after else words.old) }
 {
     if own {
         set_bit(words, planted.vic, planted.prim.after());
@@ -83,7 +84,7 @@ pub(crate) fn pause(planted: &Planted, words: &mut [u64])
 }
 
 /// Whether what an operation does to the bit at its place is the act.
-fn does_fall_on(act: Option<Act>, at: Place, op: WordOp) -> bool
+fn does_fall_on(act: Option<Act>, at: BitPlace, op: WordOp) -> bool
     requires { at.bit < 64 }
     ensures { result ≡ falls_on act at op }
 {
@@ -140,7 +141,7 @@ pub(crate) fn operate_planted(planted: &Planted, words: &mut [u64], op: WordOp) 
     }
 }
 
-fn is_within(at: Place, shape: &Shape) -> bool
+fn is_within(at: BitPlace, shape: &Shape) -> bool
     ensures { IsTrue result ↔ ((at.word < shape.now.words) × (at.bit < shape.now.bits)) }
 {
     at.word < shape.words && at.bit < shape.bits

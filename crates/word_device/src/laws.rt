@@ -18,14 +18,14 @@ pub fn planted_fails(march: &March, memory: &Memory)
     ensures commands { FailsPlanted march.now memory.now }
     ensures alone { FailsAlone march.now memory.now }
 {
-    let _ = memory.words();
+    memory.known();
 }
 
 /// So does a chip in which it was just planted.
 pub fn freshly_planted_fails(march: &March, memory: &Memory)
     ensures { FailsFresh march.now memory.now }
 {
-    let _ = memory.words();
+    memory.known();
 }
 
 /// A chip with nothing planted answers every read right.
@@ -33,23 +33,23 @@ pub fn unplanted_passes(march: &March, memory: &Memory)
     ensures commands { PassesPlain march.now memory.now }
     ensures alone { PassesAlone march.now memory.now }
 {
-    let _ = march.len();
-    let _ = memory.words();
+    march.known();
+    memory.known();
 }
 
 /// A self-test beside a chip with a planted instance of a detected primitive ends with `fail`.
 pub fn joint_fails(march: &March, memory: &Memory)
     ensures { JointFails march.now memory.now }
 {
-    let _ = memory.words();
+    memory.known();
 }
 
 /// Beside a chip with nothing planted it ends without `fail`, and no read differs.
 pub fn joint_passes(march: &March, memory: &Memory)
     ensures { JointPasses march.now memory.now }
 {
-    let _ = march.len();
-    let _ = memory.words();
+    march.known();
+    memory.known();
 }
 
 /// Beside any chip a self-test sees what the chip alone answers to the march: the same words, so it fails exactly where one of them is

@@ -36,7 +36,7 @@ pub use array::ArrayDevice;
 pub use bits::has_bit;
 pub use constant::ConstDevice;
 pub use counting::CountDevice;
-pub use device::{Device, DeviceFault, Place, Planted, PortCmd};
+pub use device::{BitPlace, Device, DeviceFault, Planted, PortCmd};
 pub use laws::{
     closing, first_differs, freshly_planted_fails, joint_fails, joint_passes,
     pauses_are_those_of_memories, planted_fails, unplanted_passes,

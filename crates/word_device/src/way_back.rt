@@ -18,7 +18,7 @@ impl WayBack {
     pub(crate) fn of(scramble: &Scramble) -> WayBack
         ensures { IsWayBack scramble.now result }
     {
-        let _rows = scramble.rows();
+        scramble.known();
         let last = all_ones(scramble.width()) as u32;
         let low = low_indexes(scramble, last.min(255));
         let high = high_indexes(scramble, last >> 8, low[0]);

@@ -12,7 +12,7 @@ use Rattle.march_core.specs.Visits.{Upward, Visit, cell_visits, addresses, addre
 use Rattle.march_core.proofs.Addresses.{length-addresses}
 use Rattle.memory_desc.specs.Descriptions.{Description}
 use Rattle.word_march.specs.declared.operations.WordOp.{WordOp}
-use Rattle.word_march.specs.declared.place.Place.{Place}
+use Rattle.word_march.specs.declared.place.MarchPlace.{MarchPlace}
 use Rattle.march_core.specs.Runs.{upward, up}
 use Rattle.word_march.specs.Commands.{word_op, word_step, run_in, word_ops}
 use Rattle.word_march.specs.Standing.{addresses_at, sweeps_from, run_ops, visits_left, run_left, ops_left, IsPlace}
@@ -71,7 +71,7 @@ behind march size element step =
     address_visits element (ops_at march element) (drop (suc step) (addresses_at march element size))
     ++ sweeps_from (element + 1) (drop (suc element) march) size
 
-first_visit : (march : List MarchElement) (size : ℕ) (p : Place) (o : Op) → p.op < length (ops_at march p.element)
+first_visit : (march : List MarchElement) (size : ℕ) (p : MarchPlace) (o : Op) → p.op < length (ops_at march p.element)
     → slice_get (ops_at march p.element) p.op ≡ Some o
     → visits_left march size p.element p.step p.op
     ≡ visit_at march size p o ∷ (cell_visits p.element (slice_index (addresses_at march p.element size) p.step) (p.op + 1) (drop (suc p.op) (ops_at march p.element))
@@ -135,12 +135,12 @@ abbrev run_at : List MarchElement → Description → ℕ → List Visit → Lis
 run_at march d background vs =
     map (word_op d.bits (slice_index d.backgrounds background)) vs ++ flat_map (run_ops march d) (drop (suc background) d.backgrounds)
 
-started : (march : List MarchElement) (d : Description) (p : Place) → p.background < length d.backgrounds
+started : (march : List MarchElement) (d : Description) (p : MarchPlace) → p.background < length d.backgrounds
     → ops_left march d p ≡ run_at march d p.background (visits_left march d.words p.element p.step p.op)
 started march d p h = ap (λ (t : Bool). if t then run_left march d p else []) (lt-ltb p.background (length d.backgrounds) h)
 
 -- where a run goes on
-within : (march : List MarchElement) (d : Description) (p q : Place) (o : Op) → p.background < length d.backgrounds → q.background ≡ p.background
+within : (march : List MarchElement) (d : Description) (p q : MarchPlace) (o : Op) → p.background < length d.backgrounds → q.background ≡ p.background
     → visits_left march d.words p.element p.step p.op ≡ visit_at march d.words p o ∷ visits_left march d.words q.element q.step q.op
     → ops_left march d p ≡ word_op d.bits (slice_index d.backgrounds p.background) (visit_at march d.words p o) ∷ ops_left march d q
 within march d p q o h e v =
@@ -196,12 +196,12 @@ pub runs_are : (march : List MarchElement) (d : Description) → word_ops march 
 runs_are march d = all_runs march d d.backgrounds
 
 -- all operations are left at the first place
-pub all_left : (march : List MarchElement) (d : Description) (p : Place) → IsFirst march 0 p → 0 < d.words → word_ops march d ≡ ops_left march d p
+pub all_left : (march : List MarchElement) (d : Description) (p : MarchPlace) → IsFirst march 0 p → 0 < d.words → word_ops march d ≡ ops_left march d p
 all_left march d p first w =
-    runs_are march d ∙ runs_from march d 0 first.0 first.1 w ∙ ap (λ (q : Place). ops_left march d q) (sym first.2)
+    runs_are march d ∙ runs_from march d 0 first.0 first.1 w ∙ ap (λ (q : MarchPlace). ops_left march d q) (sym first.2)
 
 -- where a run ends
-over : (march : List MarchElement) (d : Description) (p q : Place) (o : Op) → p.background < length d.backgrounds
+over : (march : List MarchElement) (d : Description) (p q : MarchPlace) (o : Op) → p.background < length d.backgrounds
     → IsFirst march (p.background + 1) q → 0 < d.words
     → visits_left march d.words p.element p.step p.op ≡ visit_at march d.words p o ∷ []
     → ops_left march d p ≡ word_op d.bits (slice_index d.backgrounds p.background) (visit_at march d.words p o) ∷ ops_left march d q
@@ -210,12 +210,12 @@ over march d p q o h first w v =
     started march d p h ∙ ap (run_at march d p.background) v
     ∙ ap (λ (xs : List WordOp). item ∷ xs) (runs_from march d (suc p.background) first.0 first.1 w)
     ∙ ap (λ (n : ℕ). item ∷ ops_left march d (first_of n first.0)) (sym (add-one p.background))
-    ∙ ap (λ (r : Place). item ∷ ops_left march d r) (sym first.2)
+    ∙ ap (λ (r : MarchPlace). item ∷ ops_left march d r) (sym first.2)
 
 -- ---- the four ways to go on
 
 -- behind the last operation on a cell
-cell_done : (march : List MarchElement) (size : ℕ) (p : Place) (o : Op) → p.op < length (ops_at march p.element)
+cell_done : (march : List MarchElement) (size : ℕ) (p : MarchPlace) (o : Op) → p.op < length (ops_at march p.element)
     → slice_get (ops_at march p.element) p.op ≡ Some o → p.op + 1 ≡ length (ops_at march p.element)
     → visits_left march size p.element p.step p.op ≡ visit_at march size p o ∷ behind march size p.element p.step
 cell_done march size p o h e last =
@@ -225,7 +225,7 @@ cell_done march size p o h e last =
     (drop_all (suc p.op) (ops_at march p.element) (omega arith))
 
 -- at each of them, what is left is the operation and what is left behind it
-pub left_step : (march : List MarchElement) (d : Description) (p q : Place) (o : Op) → 0 < d.words → IsPlace march d p
+pub left_step : (march : List MarchElement) (d : Description) (p q : MarchPlace) (o : Op) → 0 < d.words → IsPlace march d p
     → p.background < length d.backgrounds → slice_get (ops_at march p.element) p.op ≡ Some o → Follows march d p q
     → ops_left march d p ≡ word_op d.bits (slice_index d.backgrounds p.background) (visit_at march d.words p o) ∷ ops_left march d q
 left_step march d p q o w place h e (next_op more is) =
@@ -235,16 +235,16 @@ left_step march d p q o w place h e (next_op more is) =
     ≡ visits_left march d.words p.element p.step (p.op + 1) =
     ap (λ (n : ℕ). cell_visits p.element (slice_index (addresses_at march p.element d.words) p.step) (p.op + 1) (drop n (ops_at march p.element)) ++ behind march d.words p.element p.step)
     (sym (add-one p.op)) in
-    subst (λ (r : Place). ops_left march d p ≡ word_op d.bits (slice_index d.backgrounds p.background) visit ∷ ops_left march d r) (sym is)
+    subst (λ (r : MarchPlace). ops_left march d p ≡ word_op d.bits (slice_index d.backgrounds p.background) visit ∷ ops_left march d r) (sym is)
     (within march d p (record p { op = p.op + 1 }) o h refl (on ∙ ap (λ (vs : List Visit). visit ∷ vs) same))
 left_step march d p q o w place h e (next_step last more is) =
     let visit = visit_at march d.words p o in
-    subst (λ (r : Place). ops_left march d p ≡ word_op d.bits (slice_index d.backgrounds p.background) visit ∷ ops_left march d r) (sym is)
+    subst (λ (r : MarchPlace). ops_left march d p ≡ word_op d.bits (slice_index d.backgrounds p.background) visit ∷ ops_left march d r) (sym is)
     (within march d p (record p { step = p.step + 1; op = 0 }) o h refl
     (cell_done march d.words p o place.op e last ∙ ap (λ (vs : List Visit). visit ∷ vs) (next_cell march d.words p.element p.step more)))
 left_step march d p q o w place h e (next_elem last end next is) =
     let visit = visit_at march d.words p o in
-    subst (λ (r : Place). ops_left march d p ≡ word_op d.bits (slice_index d.backgrounds p.background) visit ∷ ops_left march d r) (sym is)
+    subst (λ (r : MarchPlace). ops_left march d p ≡ word_op d.bits (slice_index d.backgrounds p.background) visit ∷ ops_left march d r) (sym is)
     (within march d p (record p { element = q.element; step = 0; op = 0 }) o h refl
     (cell_done march d.words p o place.op e last ∙ ap (λ (vs : List Visit). visit ∷ vs) (next_element march d.words p.element p.step q.element end next w)))
 left_step march d p q o w place h e (next_run last end pauses first) =

@@ -4,7 +4,7 @@ use Rattle.std.specs.Option.{unwrap_or}
 use Rattle.std.specs.List.{AllByRecursion}
 use Rattle.march_core.specs.March.{MarchElement, pause, sweep, has_sweep, is_pause_at, IsElement, IsMarch, ops_at}
 use Rattle.memory_desc.specs.Descriptions.{Description}
-use Rattle.word_march.specs.declared.place.Place.{Place}
+use Rattle.word_march.specs.declared.place.MarchPlace.{MarchPlace}
 use Rattle.word_march.specs.Standing.{IsPlace}
 use Rattle.word_march.specs.inner.Standing.{ArePauses, IsNextSweep, first_of, IsFirst}
 
@@ -21,8 +21,8 @@ element_filled march e m h s = filled march e m.each h s
 place_of : (march : List MarchElement) (d : Description) (b n : ℕ) → IsMarch march → b ≤ length d.backgrounds → 0 < d.words → IsNextSweep march 0 n → IsPlace march d (first_of b n)
 place_of march d b n m h w next = record { background = h; element = next.within; step = w; op = element_filled march n m next.within next.sweeps }
 
-pub first_place : (march : List MarchElement) (d : Description) (b : ℕ) (p : Place) → IsMarch march → b ≤ length d.backgrounds → 0 < d.words → IsFirst march b p → IsPlace march d p
-first_place march d b p m h w first = subst (λ (q : Place). IsPlace march d q) (sym first.2) (place_of march d b first.0 m h w first.1)
+pub first_place : (march : List MarchElement) (d : Description) (b : ℕ) (p : MarchPlace) → IsMarch march → b ≤ length d.backgrounds → 0 < d.words → IsFirst march b p → IsPlace march d p
+first_place march d b p m h w first = subst (λ (q : MarchPlace). IsPlace march d q) (sym first.2) (place_of march d b first.0 m h w first.1)
 
 -- a march isn't pauses alone
 all_pauses : (march : List MarchElement) → IsTrue (has_sweep march) → ((k : ℕ) → k < length march → is_pause_at march k ≡ true) → ⊥
@@ -40,7 +40,7 @@ run_begins march b r None m some none e = not_pauses march _ m none
 run_begins march b r (Some n) m some none e = (n, some, ap (first_of b) e)
 
 -- a place in the next element
-pub next_place : (march : List MarchElement) (d : Description) (from n : ℕ) (p : Place) → IsMarch march → p.background < length d.backgrounds → 0 < d.words
+pub next_place : (march : List MarchElement) (d : Description) (from n : ℕ) (p : MarchPlace) → IsMarch march → p.background < length d.backgrounds → 0 < d.words
     → IsNextSweep march from n → IsPlace march d (record p { element = n; step = 0; op = 0 })
 next_place march d from n p m h w next =
     record { background = omega arith; element = next.within; step = w; op = element_filled march n m next.within next.sweeps }

@@ -5,7 +5,7 @@ use Rattle.march_core.specs.March.{MarchElement, order_of, ops_of, order_at, ops
 use Rattle.march_core.specs.Visits.{Visit, cell_visits, addresses, address_visits}
 use Rattle.memory_desc.specs.Descriptions.{Description}
 use Rattle.word_march.specs.declared.operations.WordOp.{WordOp}
-use Rattle.word_march.specs.declared.place.Place.{Place}
+use Rattle.word_march.specs.declared.place.MarchPlace.{MarchPlace}
 use Rattle.march_core.specs.Runs.{upward}
 use Rattle.word_march.specs.Commands.{word_op}
 
@@ -31,16 +31,16 @@ visits_left march size element step op =
     ++ sweeps_from (element + 1) (drop (suc element) march) size)
 
 -- the operations that are left in this run and the runs after it
-abbrev pub run_left : List MarchElement → Description → Place → List WordOp
+abbrev pub run_left : List MarchElement → Description → MarchPlace → List WordOp
 run_left march d p =
     map (word_op d.bits (slice_index d.backgrounds p.background)) (visits_left march d.words p.element p.step p.op)
     ++ flat_map (run_ops march d) (drop (suc p.background) d.backgrounds)
 
-abbrev pub ops_left : List MarchElement → Description → Place → List WordOp
+abbrev pub ops_left : List MarchElement → Description → MarchPlace → List WordOp
 ops_left march d p = if nat_lt p.background (length d.backgrounds) then run_left march d p else []
 
 -- the place is one of the march's, or the end
-pub record IsPlace (march : List MarchElement) (d : Description) (p : Place) : Type 0 where
+pub record IsPlace (march : List MarchElement) (d : Description) (p : MarchPlace) : Type 0 where
   pub background : p.background ≤ length d.backgrounds
   pub element : p.element < length march
   pub step : p.step < d.words

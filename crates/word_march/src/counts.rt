@@ -15,7 +15,7 @@ pub fn length(march: &March, memory: &Memory) -> u64
     ensures count { result ≡ command_count march.now memory.now }
     ensures at_most { result ≤ 134217728 }
 {
-    let _ = march.len();
+    march.known();
     let operations = march.total_ops() as u64;
     let words = u64::from(memory.words());
     let backgrounds = memory.backgrounds().len() as u64;
@@ -53,6 +53,6 @@ pub fn cycle_count(march: &March, memory: &Memory) -> u64
     ensures march { IsMarch march.now }
     ensures memory { IsMemory memory.now }
 {
-    let _ = march.len();
+    march.known();
     span(march, memory) + u64::from(memory.latency()) + 2
 }

@@ -2,7 +2,7 @@ ghost use Rattle.std.specs.Prelude.{◌≡◌, ◌<◌, ◌^◌, All};
 ghost use Rattle.word_march.specs.Commands.{word_ops, port_op, port_ops};
 
 use crate::operations::{PortOp, WordOp};
-use crate::place::{Place, operation_at, place_behind, run_start};
+use crate::place::{MarchPlace, operation_at, place_behind, run_start};
 use march_core::March;
 use memory_desc::Memory;
 use std::marker::Model;
@@ -12,7 +12,7 @@ use std::marker::Model;
 pub struct WordOps<'a> {
     march: &'a March,
     memory: &'a Memory,
-    place: Place,
+    place: MarchPlace,
 }
 
 impl<'a> Model for WordOps<'a> {
@@ -33,8 +33,8 @@ impl<'a> Model for WordOps<'a> {
 pub fn word_ops<'a>(march: &'a March, memory: &'a Memory) -> WordOps<'a>
     ensures { result ≡ word_ops march.now memory.now }
 {
-    let _ = march.len();
-    let _ = memory.words();
+    march.known();
+    memory.known();
     WordOps {
         march,
         memory,
@@ -66,7 +66,7 @@ impl<'a> Iterator for WordOps<'a> {
 pub struct PortOps<'a> {
     march: &'a March,
     memory: &'a Memory,
-    place: Place,
+    place: MarchPlace,
 }
 
 impl<'a> Model for PortOps<'a> {
@@ -88,8 +88,8 @@ pub fn port_ops<'a>(march: &'a March, memory: &'a Memory) -> PortOps<'a>
     ensures commands { result ≡ port_ops march.now memory.now }
     ensures words_fit { All (λ o. o.word < 2 ^ memory.now.bits) (port_ops march.now memory.now) }
 {
-    let _ = march.len();
-    let _ = memory.words();
+    march.known();
+    memory.known();
     PortOps {
         march,
         memory,
@@ -122,7 +122,7 @@ fn at_port(memory: &Memory, operation: WordOp) -> PortOp
     requires { operation.index < memory.now.words }
     ensures { result ≡ port_op memory.now operation }
 {
-    let _ = memory.words();
+    memory.known();
     PortOp {
         write: operation.write,
         addr: memory.scramble().logical_of(operation.index),

@@ -14,7 +14,7 @@ use memory_desc::Memory;
 
 /// Where in the operations of a march on a memory an iterator stands.
 #[derive(Clone, Copy)]
-pub struct Place {
+pub struct MarchPlace {
     pub background: usize,
     pub element: usize,
     pub step: u32,
@@ -35,7 +35,7 @@ fn address_of(order: Order, step: u32, words: u32) -> u32
 }
 
 /// The operation at a place.
-pub fn operation_at(march: &March, memory: &Memory, place: Place) -> WordOp
+pub fn operation_at(march: &March, memory: &Memory, place: MarchPlace) -> WordOp
     requires place { IsPlace march.now memory.now place }
     requires more { place.background < length memory.now.backgrounds }
     ensures operation { (op : Op) → slice_get (ops_at march.now place.element) place.op ≡ Some op
@@ -65,11 +65,11 @@ fn sweep_from(march: &March, first: usize) -> Option<usize>
 }
 
 /// The first place of the run in a background.
-pub fn run_start(march: &March, background: usize) -> Place
+pub fn run_start(march: &March, background: usize) -> MarchPlace
     ensures { IsFirst march.now background result }
 {
-    let _ = march.len();
-    Place {
+    march.known();
+    MarchPlace {
         background,
         element: sweep_from(march, 0).unwrap_or(0),
         step: 0,
@@ -78,7 +78,7 @@ pub fn run_start(march: &March, background: usize) -> Place
 }
 
 /// The place behind a place, in the order of the operations.
-pub fn place_behind(march: &March, memory: &Memory, place: Place) -> Place
+pub fn place_behind(march: &March, memory: &Memory, place: MarchPlace) -> MarchPlace
     requires place { IsPlace march.now memory.now place }
     requires more { place.background < length memory.now.backgrounds }
     ensures place { IsPlace march.now memory.now result }
@@ -86,22 +86,22 @@ pub fn place_behind(march: &March, memory: &Memory, place: Place) -> Place
 {
     let ops = march.ops(place.element).len();
     let words = memory.words();
-    let _ = march.len();
+    march.known();
     if place.op + 1 < ops {
-        return Place {
+        return MarchPlace {
             op: place.op + 1,
             ..place
         };
     }
     if place.step + 1 < words {
-        return Place {
+        return MarchPlace {
             step: place.step + 1,
             op: 0,
             ..place
         };
     }
     match sweep_from(march, place.element + 1) {
-        Some(element) => Place {
+        Some(element) => MarchPlace {
             element,
             step: 0,
             op: 0,

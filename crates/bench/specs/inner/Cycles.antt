@@ -44,7 +44,8 @@ outputs_at values pins = record {
 }
 
 -- cycle t of the module and the box, with registers by their list
-pub record Turned (mo : ModuleTree) (d : Description) (t : ℕ) (before after : List ℕ) (rdata returned : ℕ) (box left : Tells) (ended failed : Bool) : Type 0 where
+pub record Turned (mo : ModuleTree) (d : Description) (t : ℕ) (before after : List ℕ) (rdata returned : ℕ)
+    (box left : Tells) (ended failed : Bool) : Type 0 where
   pub env : Env
   pub turn : Turn mo d t env (record { registers = valued (names (registers_of mo)) before; rdata = rdata; box = box })
       (record { registers = next mo env; rdata = returned; box = left })
@@ -99,7 +100,8 @@ Controls march d control k es =
     (returned : ℕ → ℕ) (n : ℕ) → suc n ≡ k → ((t : ℕ) → t < k → returned t ≡ word_in es t) → StandsIn march d control returned n
 
 -- k cycles are done
-pub record Stage (mo : ModuleTree) (march : List MarchElement) (d : Description) (first_registers : List ℕ) (first_box : Tells) (k : ℕ) (now : List ℕ) (watch : Watch) (box : Tells) (control : State) : Type 0 where
+pub record Stage (mo : ModuleTree) (march : List MarchElement) (d : Description) (first_registers : List ℕ)
+    (first_box : Tells) (k : ℕ) (now : List ℕ) (watch : Watch) (box : Tells) (control : State) : Type 0 where
   pub cycles : List Env
   pub left : Between
   pub joint : Joint mo d 0 cycles (at_first (valued (names (registers_of mo)) first_registers) first_box) left

@@ -1,6 +1,6 @@
 -- What is left of a line is taken as the grammar says, part by part.
 use Rattle.bist_text.proofs.keyed.Common.{apart, byte, byte_of, space, spaced, when_false, ◌==◌, ◌↔◌, Bool, Class, List, Read, and_parts, ap, arith, digits_value, ends_with, false, fits_of, gap, gap_of, in_identifier, is_blank, is_digit, is_hex_digit, is_word, nat_lt, number_of, of_blank, onward, refl, subst, suc, sym, tail, took, true, word, word_of, ℕ, ◌∙◌, ◌∷◌, ◌≡◌}
-use Rattle.bist_text.specs.declared.keyed_lines.Class.TheVariants.{Number, Word as HexWord, Name, File}
+use Rattle.bist_text.specs.declared.keyed_lines.WordKind.TheVariants.{Number, Word as HexWord, Name, File}
 use Rattle.bist_text.specs.keyed.Numbers.{is_number, number}
 use Rattle.bist_text.specs.keyed.Parts.{is_file_byte}
 use Rattle.bist_text.proofs.Carried.{Said, Valued, byte_carries, many_carries, gap_carries, said_on, word_carries}

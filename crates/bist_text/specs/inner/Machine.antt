@@ -5,7 +5,8 @@ use Rattle.bist_text.specs.Machine.{Holds, Outcome, read, unexpected, truncated}
 
 -- What may follow in each state, by what the machine does there: at a text's end and at each byte; a state
 -- that is met can still be continued.
-pub record Follows {S V : Type 0} (step : S → ℕ → Option S) (value : S → Option V) (rest : S → List ℕ → V → Type 0) (good : S → Type 0) : Type 0 where
+pub record Follows {S V : Type 0} (step : S → ℕ → Option S) (value : S → Option V) (rest : S → List ℕ → V → Type 0)
+    (good : S → Type 0) : Type 0 where
   pub ends : (s : S) (v : V) → rest s [] v ↔ (value s ≡ Some v)
   pub goes : (s : S) (c : ℕ) (b : List ℕ) (v : V) → rest s (c ∷ b) v ↔ Holds (step s c) (λ t. rest t b v)
   pub alive : (s : S) → good s → Continues (rest s) []

@@ -7,8 +7,8 @@ use Rattle.bist_text.specs.declared.keywords.Spelled.TheVariants.{More, Whole}
 use Rattle.bist_text.specs.Grammar.{is_blank}
 use Rattle.bist_text.specs.Keywords.{Word, spell}
 use Rattle.bist_text.specs.Identifiers.{is_digit, begins_identifier, in_identifier}
-use Rattle.bist_text.specs.declared.keyed_lines.Class.{Class as ClassName}
-use Rattle.bist_text.specs.declared.keyed_lines.Class.TheVariants.{Number, Word as HexWord, Name, File}
+use Rattle.bist_text.specs.declared.keyed_lines.WordKind.{WordKind as ClassName}
+use Rattle.bist_text.specs.declared.keyed_lines.WordKind.TheVariants.{Number, Word as HexWord, Name, File}
 use Rattle.bist_text.specs.keyed.Reading.{Read, took, stuck, onward}
 
 -- ---- blanks, a byte, the end

@@ -9,43 +9,45 @@ use Rattle.bist_text.specs.keyed.Parts.{gap_of, fits_of, word_of, number_of, end
 use Rattle.bist_text.specs.keyed.Lines.{line_of, answer}
 use Rattle.bist_text.specs.keyed.Texts.{said_in, all_stated, versions, walk}
 use Rattle.bist_text.specs.declared.keyed_lines.TextFault.{TextFault}
-use Rattle.bist_text.specs.declared.keyed_lines.Class.TheVariants.{Name as NameWord, File}
+use Rattle.bist_text.specs.declared.keyed_lines.WordKind.TheVariants.{Name as NameWord, File}
 use Rattle.bist_text.specs.declared.keyed_lines.LineFault.{LineFault}
 use Rattle.chip_desc.specs.Chips.{ChipDescription, UnitDescription}
 use Rattle.chip_desc.specs.ChipLines.{Content, version, name, budget, unit, key_text, Statement, version_in}
 use Rattle.chip_desc.specs.ChipTable.{by_statements, refusal, of_lines}
-use Rattle.chip_desc.specs.declared.content.Content.{Content as ReadContent}
-use Rattle.chip_desc.specs.declared.content.Content.TheVariants as C
-use Rattle.chip_desc.specs.declared.content.Key.{Key}
-use Rattle.chip_desc.specs.declared.content.Statement.{Statement as ReadStatement}
+use Rattle.chip_desc.specs.declared.content.ChipContent.{ChipContent as ReadContent}
+use Rattle.chip_desc.specs.declared.content.ChipContent.TheVariants as C
+use Rattle.chip_desc.specs.declared.content.ChipKey.{ChipKey}
+use Rattle.chip_desc.specs.declared.content.ChipStatement.{ChipStatement as ReadStatement}
 use Rattle.chip_desc.specs.declared.content.UnitLine.{UnitLine}
-use Rattle.chip_desc.specs.declared.content.Key.TheVariants.{Chip, Name, Budget, Unit as OfUnit}
+use Rattle.chip_desc.specs.declared.content.ChipKey.TheVariants.{Chip, Name, Budget, Unit as OfUnit}
 use Rattle.chip_desc.specs.declared.fault.ChipFault.{ChipFault}
-use Rattle.chip_desc.specs.declared.content.Version.{Version}
-use Rattle.chip_desc.specs.declared.content.Version.TheVariants.{One}
+use Rattle.chip_desc.specs.declared.content.ChipVersion.{ChipVersion}
+use Rattle.chip_desc.specs.declared.content.ChipVersion.TheVariants.{One}
 
 -- ---- a line
 
 -- the first words that may stand
-abbrev pub keys_in : Option Version → List Key
+abbrev pub keys_in : Option ChipVersion → List ChipKey
 keys_in None = Chip ∷ []
 keys_in (Some v) = Chip ∷ Name ∷ Budget ∷ OfUnit ∷ []
 
-abbrev pub keys_of : Option Version → List (Word Key)
+abbrev pub keys_of : Option ChipVersion → List (Word ChipKey)
 keys_of given = all_words (λ k. key_text k ∷ []) (keys_in given)
 
 abbrev pub file_of : List ℕ → Read (List ℕ)
 file_of b = word_of (fits_of File) b
 
 -- what stands behind a first word and blanks
-abbrev pub argument_of : Key → List ℕ → Read (Option Content)
+abbrev pub argument_of : ChipKey → List ℕ → Read (Option Content)
 argument_of Chip b = onward (number_of b) (λ n x. ends_with (Some (version n)) x)
 argument_of Name b = onward (word_of (fits_of NameWord) b) (λ n x. ends_with (Some (name n)) x)
 argument_of Budget b = onward (number_of b) (λ n x. ends_with (Some (budget n)) x)
 argument_of OfUnit b =
-    onward (number_of b) (λ w x. onward (gap_of x) (λ _ x. onward (file_of x) (λ m x. onward (gap_of x) (λ _ x. onward (file_of x) (λ d x. ends_with (Some (unit w m d)) x)))))
+    onward (number_of b) (λ w x. onward (gap_of x)
+    (λ _ x. onward (file_of x) (λ m x. onward (gap_of x)
+    (λ _ x. onward (file_of x) (λ d x. ends_with (Some (unit w m d)) x)))))
 
-abbrev pub heard : Option Version → List ℕ → Outcome (Option Content)
+abbrev pub heard : Option ChipVersion → List ℕ → Outcome (Option Content)
 heard given b = outcome b (line_of (keys_of given) argument_of b)
 
 -- what a line says
@@ -56,7 +58,7 @@ abbrev pub statements : List TextLine → List Statement
 statements ls = all_stated said ls
 
 -- the version that a line gives, where it has content
-abbrev pub version_at : Option Version → List ℕ → Result (Option (Option Version)) LineFault
+abbrev pub version_at : Option ChipVersion → List ℕ → Result (Option (Option ChipVersion)) LineFault
 version_at given b = versions version_in (answer (heard given b))
 
 -- ---- what the code has of it

@@ -5,21 +5,21 @@ use Rattle.chip_desc.specs.ChipLines.{Content, unit, Statement}
 use Rattle.chip_desc.specs.ChipTable.{at_line, first_of, missing, is_repeat, is_out_of_range, is_heavier, too_many, units_said}
 use Rattle.chip_desc.specs.inner.Heard.{plain_statement}
 use Rattle.chip_desc.specs.declared.chip.ChipUnit.{ChipUnit}
-use Rattle.chip_desc.specs.declared.content.Key.{Key}
-use Rattle.chip_desc.specs.declared.content.Statement.{Statement as ReadStatement}
+use Rattle.chip_desc.specs.declared.content.ChipKey.{ChipKey}
+use Rattle.chip_desc.specs.declared.content.ChipStatement.{ChipStatement as ReadStatement}
 use Rattle.chip_desc.specs.declared.fault.ChipField.{ChipField}
 use Rattle.chip_desc.specs.declared.fault.ChipFault.{ChipFault}
 use Rattle.chip_desc.specs.declared.fault.ChipFault.TheVariants.{Repeated, OutOfRange as OutOfRangeLine, TooHeavy}
-use Rattle.chip_desc.specs.declared.search.Sought.{Sought}
-use Rattle.chip_desc.specs.declared.search.Sought.TheVariants.{Repeat, OutOfRange, Heavier}
+use Rattle.chip_desc.specs.declared.search.ChipSought.{ChipSought}
+use Rattle.chip_desc.specs.declared.search.ChipSought.TheVariants.{Repeat, OutOfRange, Heavier}
 
-abbrev pub is_sought : Sought → List Statement → Statement → Bool
+abbrev pub is_sought : ChipSought → List Statement → Statement → Bool
 is_sought Repeat ss = λ s. is_repeat ss s
 is_sought OutOfRange ss = λ s. is_out_of_range s.content
 is_sought (Heavier most) ss = λ s. is_heavier most s.content
 
 -- the refusal of a line that is sought
-abbrev pub fault_of : Sought → ℕ → ChipFault
+abbrev pub fault_of : ChipSought → ℕ → ChipFault
 fault_of Repeat n = Repeated n
 fault_of OutOfRange n = OutOfRangeLine n
 fault_of (Heavier most) n = TooHeavy n
@@ -32,7 +32,7 @@ abbrev pub heavier_than : ℕ → List Statement → Option ChipFault
 heavier_than most ss = at_line (λ n. TooHeavy n) (find (λ s. is_heavier most s.content) ss)
 
 -- the line of a field that must be there
-abbrev pub GivesField : List Statement → Key → ChipField → Result ReadStatement ChipFault → Type 0
+abbrev pub GivesField : List Statement → ChipKey → ChipField → Result ReadStatement ChipFault → Type 0
 GivesField ss key field (Ok s) = first_of key ss ≡ Some (plain_statement s)
 GivesField ss key field (Err fault) = missing key field ss ≡ Some fault
 

@@ -3,9 +3,9 @@ use Rattle.std.specs.Prelude.{List, Option}
 use Rattle.march_core.specs.March.{MarchElement}
 use Rattle.memory_desc.specs.Descriptions.{Description}
 use Rattle.microcode.specs.declared.code.Instr.{Instr}
-use Rattle.microcode.specs.declared.place.Place.{Place}
+use Rattle.microcode.specs.declared.place.CodePlace.{CodePlace}
 use Rattle.microcode.specs.Running.{IsBehind as IsPlacedBehind}
 use Rattle.controller.specs.Places.{extent_of}
 
-abbrev pub IsBehind : List MarchElement → List Instr → Description → Place → Option Place → Type 0
+abbrev pub IsBehind : List MarchElement → List Instr → Description → CodePlace → Option CodePlace → Type 0
 IsBehind march code d p q = IsPlacedBehind march code (extent_of d) p q

@@ -2,7 +2,7 @@
 use Rattle.std.specs.Prelude.{◌≡◌, ℕ, Bool, true, if◌then◌else◌, not, ◌&&◌, List}
 use Rattle.word_march.specs.PortRule.{PortValues}
 use Rattle.microcode.specs.declared.code.Instr.{Instr}
-use Rattle.microcode.specs.declared.place.Place.{Place as CodePlace}
+use Rattle.microcode.specs.declared.place.CodePlace.{CodePlace}
 use Rattle.controller.specs.declared.stage.Stage.{Stage}
 use Rattle.march_core.specs.March.{MarchElement}
 use Rattle.memory_desc.specs.Descriptions.{Description}
@@ -11,7 +11,8 @@ use Rattle.microcode.specs.Running.{digits}
 use Rattle.controller.specs.Running.{IsAt}
 
 -- the place and whether the run goes on, a cycle later
-pub record IsTurned (march : List MarchElement) (code : List Instr) (d : Description) (p : CodePlace) (run : Bool) (q : CodePlace) (goes_on : Bool) : Type 0 where
+pub record IsTurned (march : List MarchElement) (code : List Instr) (d : Description) (p : CodePlace) (run : Bool)
+    (q : CodePlace) (goes_on : Bool) : Type 0 where
   pub there : IsAt march code d q
   pub place : digits q ≡ (if run then next_place march d (digits p) else digits p)
   pub run_is : goes_on ≡ (run && not (is_last march d (digits p)))

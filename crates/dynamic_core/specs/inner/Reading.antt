@@ -4,7 +4,7 @@ use Rattle.std.specs.List.{flat_map}
 use Rattle.fault_core.specs.declared.primitive.PrimFault.{PrimFault}
 use Rattle.fault_core.specs.Primitive.{Primitive}
 use Rattle.fault_syntax.specs.declared.fault.FaultFault.{FaultFault}
-use Rattle.fault_syntax.specs.declared.words.NameSet.{NameSet}
+use Rattle.fault_syntax.specs.declared.words.AllowedNames.{AllowedNames}
 use Rattle.fault_syntax.specs.inner.LineByLine.{AddsBy, NotAddedBy}
 use Rattle.fault_syntax.specs.ListText.{Item as ListedItem, Primitive as OnePrimitive}
 use Rattle.fault_syntax.specs.PrimText.{PrimParts}
@@ -17,20 +17,20 @@ abbrev pub JudgesItem : PrimParts → Result Item PrimFault → Type 0
 JudgesItem text (Ok item) = IsItem text item
 JudgesItem text (Err fault) = RefusesItem text fault
 
-abbrev pub JudgesItemIn : NameSet → PrimParts → Result Item PrimFault → Type 0
+abbrev pub JudgesItemIn : AllowedNames → PrimParts → Result Item PrimFault → Type 0
 JudgesItemIn set text (Ok item) = IsItemIn set text item
 JudgesItemIn set text (Err fault) = RefusesIn set text fault
 
-abbrev pub JudgesItemOn : NameSet → ℕ → PrimParts → Result Item FaultFault → Type 0
+abbrev pub JudgesItemOn : AllowedNames → ℕ → PrimParts → Result Item FaultFault → Type 0
 JudgesItemOn set line text (Ok item) = IsItemIn set text item
 JudgesItemOn set line text (Err fault) = RefusesOn set line text fault
 
 -- what a line brings is added
-abbrev pub AddsItems : NameSet → Option ListedItem → List Item → List Item → Type 0
+abbrev pub AddsItems : AllowedNames → Option ListedItem → List Item → List Item → Type 0
 AddsItems set v old new = AddsBy (BringsIn set) v old new
 
 -- or isn't
-abbrev pub NotAdded : NameSet → Option ListedItem → ℕ → List Item → FaultFault → Type 0
+abbrev pub NotAdded : AllowedNames → Option ListedItem → ℕ → List Item → FaultFault → Type 0
 NotAdded set v line old fault = NotAddedBy (BringsIn set) OnePrimitive (RefusesOn set) v line old fault
 
 -- the static primitives of a list

@@ -10,4 +10,5 @@ use Rattle.dynamic_prover.specs.inner.Ways.{any_end}
 use Rattle.dynamic_prover.specs.inner.Legs.{own_number, leg_end}
 
 abbrev pub AreDeadEnds : Shape → List Leg → DeadEnds → Type 0
-AreDeadEnds shape legs dead = (i : ℕ) (q : OwnCells) → is_dead dead i (own_number q) ≡ true → word_by any_end (leg_end shape) i (drop i legs) q ≡ None
+AreDeadEnds shape legs dead = (i : ℕ) (q : OwnCells) → is_dead dead i (own_number q) ≡ true
+    → word_by any_end (leg_end shape) i (drop i legs) q ≡ None

@@ -38,7 +38,8 @@ second_end leg (Some s) q = end_from (ends_on leg s) q
 
 abbrev pub sweep_end : SweepLeg → Shape → OwnCells → Option OwnCells
 sweep_end leg shape q =
-    option_and_then (λ r. option_map (passed_where shape.above) (second_end leg shape.second r)) (end_from (ends_on leg shape.first) (passed_where shape.below q))
+    option_and_then (λ r. option_map (passed_where shape.above) (second_end leg shape.second r))
+    (end_from (ends_on leg shape.first) (passed_where shape.below q))
 
 -- where an element leads by its table
 abbrev pub leg_end : Shape → Leg → OwnCells → Direction → Option OwnCells

@@ -84,7 +84,8 @@ abbrev pub passes_by : {E : Type 0} → (Shape → Leading OwnCells E) → List 
 passes_by lead es c = can_pass (lead (shape_at c.spot)) es (own_as c.pair false)
 
 -- an escape that is a candidate, with its least direction word
-pub record IsMadeOf {E : Type 0} (lead : Shape → Leading OwnCells E) (es : List E) (p : DynamicPrimitive) (c : Candidate) (e : DynEscape) : Type 0 where
+pub record IsMadeOf {E : Type 0} (lead : Shape → Leading OwnCells E) (es : List E) (p : DynamicPrimitive)
+    (c : Candidate) (e : DynEscape) : Type 0 where
   pub prim : e.prim ≡ p
   pub size : e.size ≡ c.spot.size
   pub agg : e.agg ≡ c.spot.agg
@@ -97,7 +98,8 @@ abbrev pub NonePasses : {E : Type 0} → (Shape → Leading OwnCells E) → List
 NonePasses lead es cs = AllByRecursion (λ c. passes_by lead es c ≡ false) cs
 
 -- the first candidate that can pass
-pub record IsFirstOf {E : Type 0} (lead : Shape → Leading OwnCells E) (es : List E) (p : DynamicPrimitive) (cs : List Candidate) (e : DynEscape) : Type 0 where
+pub record IsFirstOf {E : Type 0} (lead : Shape → Leading OwnCells E) (es : List E) (p : DynamicPrimitive)
+    (cs : List Candidate) (e : DynEscape) : Type 0 where
   pub before : List Candidate
   pub found : Candidate
   pub behind : List Candidate

@@ -11,7 +11,8 @@ use Rattle.escape_array.specs.Escapes.{places_of_escape, content_number}
 -- no content before this one is let through
 abbrev pub NoneBefore : List MarchElement → Primitive → Placement → ℕ → Type 0
 NoneBefore march p placement number =
-    (content : List Bool) → length content ≡ 2 → content_number content < number → (word : ℕ) → LetsThrough march p placement content word → ⊥
+    (content : List Bool) → length content ≡ 2 → content_number content < number → (word : ℕ)
+    → LetsThrough march p placement content word → ⊥
 
 -- the array of the least content that is let through, with its least word
 pub record IsLeastIn (march : List MarchElement) (p : Primitive) (placement : Placement) (e : EscapeArray) : Type 0 where

@@ -16,7 +16,8 @@ module _ {V P : Type 0} (Brings : Option V → List P → Type 0) where
     pub joined : new ≡ old ++ more
     pub within : length new ≤ 1024
 
-module _ {V P : Type 0} (Brings : Option V → List P → Type 0) (written : PrimParts → V) (Refuses : ℕ → PrimParts → FaultFault → Type 0) where
+module _ {V P : Type 0} (Brings : Option V → List P → Type 0) (written : PrimParts → V)
+    (Refuses : ℕ → PrimParts → FaultFault → Type 0) where
   -- or isn't
   abbrev pub NotAddedBy : Option V → ℕ → List P → FaultFault → Type 0
   NotAddedBy v line old (TooManyPrimitives l) = (l ≡ line) × (more : List P) × Brings v more × (1024 < length old + length more)

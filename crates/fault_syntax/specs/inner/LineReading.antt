@@ -4,12 +4,12 @@ use Rattle.bist_text.specs.Grammar.{IsUnexpected, IsTruncated}
 use Rattle.fault_syntax.specs.declared.reader.ReadItem.{ReadItem}
 use Rattle.fault_syntax.specs.declared.reader.Refusal.{Refusal}
 use Rattle.fault_syntax.specs.declared.reader.Refusal.TheVariants.{Unexpected as UnexpectedAt, Truncated as EndedEarly}
-use Rattle.fault_syntax.specs.declared.words.NameSet.{NameSet}
+use Rattle.fault_syntax.specs.declared.words.AllowedNames.{AllowedNames}
 use Rattle.fault_syntax.specs.Brief.{read_item_of}
 use Rattle.fault_syntax.specs.ListText.{Item, LineOf}
 
 -- what is said of a line's bytes
-abbrev pub Says : NameSet → List ℕ → Result ReadItem Refusal → Type 0
+abbrev pub Says : AllowedNames → List ℕ → Result ReadItem Refusal → Type 0
 Says set b (Ok item) = (v : Option Item) × LineOf set b v × (item ≡ read_item_of v)
 Says set b (Err (UnexpectedAt k)) = IsUnexpected (LineOf set) b k
 Says set b (Err EndedEarly) = IsTruncated (LineOf set) b

@@ -12,7 +12,7 @@ use Rattle.fault_syntax.specs.declared.words.Operation.{Operation}
 use Rattle.fault_syntax.specs.declared.words.Operation.TheVariants.{Write, Read, Pause}
 use Rattle.fault_syntax.specs.declared.words.Form.{Form}
 use Rattle.fault_syntax.specs.declared.words.Form.TheVariants.{Single, Listed}
-use Rattle.fault_syntax.specs.declared.words.Name.{Name}
+use Rattle.fault_syntax.specs.declared.words.GroupName.{GroupName}
 use Rattle.fault_syntax.specs.inner.Names.{words_of}
 use Rattle.fault_syntax.specs.declared.place.Place.{Place}
 use Rattle.fault_syntax.specs.declared.place.Place.TheVariants.{Start, Spelling, Opened, Lead, Sensed, Digit, Effect, Left, Reply, Replied, Closed, Comment}
@@ -29,7 +29,7 @@ use Rattle.fault_syntax.specs.PrimText.{SenseText, PrimParts, ws, bit_text, answ
 abbrev pub to : Place → Event → Option Move
 to p e = Some (record { place = p; event = e })
 
-abbrev pub spelling : Option (Spelled Name) → Option Move
+abbrev pub spelling : Option (Spelled GroupName) → Option Move
 spelling None = None
 spelling (Some (More q)) = to (Spelling q) Quiet
 spelling (Some (Whole n)) = to Closed (Names n)
@@ -162,7 +162,7 @@ in_prim P None = ⊥
 in_prim P (Some (Primitive p)) = P p
 in_prim P (Some (Named n)) = ⊥
 
-abbrev pub in_name : (Name → Type 0) → Option Item → Type 0
+abbrev pub in_name : (GroupName → Type 0) → Option Item → Type 0
 in_name P None = ⊥
 in_name P (Some (Primitive p)) = ⊥
 in_name P (Some (Named n)) = P n
@@ -215,9 +215,11 @@ left_at l Lead s v b = in_prim (λ p. the_sense s.agg p (ws (ending l)) (λ t L.
 left_at l Sensed s v b = in_prim (λ p. the_sense s.agg p (ws (ending l)) (λ t L. begun s.sense t (λ os. more_ops os L b))) v
 left_at l (Digit a) s v b = in_prim (λ p. the_sense s.agg p (ws (ending l)) (λ t L. begun s.sense t (λ os. digit_left a os L b))) v
 left_at l Effect s v b = in_prim (λ p. (p.agg ≡ s.agg) × (p.vic ≡ s.sense) × effect_left p (ws (ending l)) b) v
-left_at l Left s v b = in_prim (λ p. (p.agg ≡ s.agg) × (p.vic ≡ s.sense) × (p.after ≡ s.after) × ws (word (codes "/") (answer_left p (ws (ending l)))) b) v
+left_at l Left s v b = in_prim (λ p. (p.agg ≡ s.agg) × (p.vic ≡ s.sense) × (p.after ≡ s.after)
+    × ws (word (codes "/") (answer_left p (ws (ending l)))) b) v
 left_at l Reply s v b = in_prim (λ p. (p.agg ≡ s.agg) × (p.vic ≡ s.sense) × (p.after ≡ s.after) × answer_left p (ws (ending l)) b) v
-left_at l Replied s v b = in_prim (λ p. (p.agg ≡ s.agg) × (p.vic ≡ s.sense) × (p.after ≡ s.after) × (p.answer ≡ s.answer) × ws (word (codes ">") (ws (ending l))) b) v
+left_at l Replied s v b = in_prim (λ p. (p.agg ≡ s.agg) × (p.vic ≡ s.sense) × (p.after ≡ s.after)
+    × (p.answer ≡ s.answer) × ws (word (codes ">") (ws (ending l))) b) v
 left_at l Closed s v b = (v ≡ item_of s.kind (parts_of s)) × ws (ending l) b
 left_at l Comment s v b = (v ≡ item_of s.kind (parts_of s)) × anything b
 

@@ -58,10 +58,13 @@ move_at Start t c = if is_white c then move Start t Quiet else if c == 123 then 
 move_at Open t c = if is_white c then move Open t Quiet else if c == 125 then move Closed t Quiet else spelling true (seek [] c 0 marks)
 move_at (Spelling q) t c = spelling t (spell marks q c)
 move_at Ordered t c = if is_white c then move Ordered t Quiet else if c == 40 then move Wanted t Quiet else None
-move_at Wanted t c = if is_white c then move Wanted t Quiet else if c == 119 then move (Digit Write) t Quiet else if c == 114 then move (Digit Read) t Quiet else None
-move_at (Digit a) t c = if c == 48 then move Operation t (Adds (op_of a false)) else if c == 49 then move Operation t (Adds (op_of a true)) else None
+move_at Wanted t c = if is_white c then move Wanted t Quiet else if c == 119 then move
+    (Digit Write) t Quiet else if c == 114 then move (Digit Read) t Quiet else None
+move_at (Digit a) t c = if c == 48 then move Operation t (Adds (op_of a false)) else if c == 49 then move Operation t
+    (Adds (op_of a true)) else None
 move_at Operation t c = if is_white c then move Operation t Quiet else if c == 44 then move Wanted t Quiet else if c == 41 then move Ended t Ends else None
-move_at Ended t c = if is_white c then move Ended t Quiet else if c == 59 then move Next t Quiet else if t && (c == 125) then move Closed t Quiet else None
+move_at Ended t c = if is_white c then move Ended t Quiet else if c == 59 then move Next t Quiet else if t
+    && (c == 125) then move Closed t Quiet else None
 move_at Next t c = if is_white c then move Next t Quiet else spelling t (seek [] c 0 marks)
 move_at Closed t c = if is_white c then move Closed t Quiet else None
 

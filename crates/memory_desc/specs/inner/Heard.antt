@@ -10,7 +10,7 @@ use Rattle.bist_text.specs.keyed.Parts.{spaced, byte_of, fits_of, word_of, numbe
 use Rattle.bist_text.specs.keyed.Lines.{line_of, answer}
 use Rattle.bist_text.specs.keyed.Texts.{said_in, all_stated, versions}
 use Rattle.bist_text.specs.declared.keyed_lines.LineFault.{LineFault}
-use Rattle.bist_text.specs.declared.keyed_lines.Class.TheVariants.{Name as NameWord}
+use Rattle.bist_text.specs.declared.keyed_lines.WordKind.TheVariants.{Name as NameWord}
 use Rattle.memory_desc.specs.LineText.{Term, index_bit, constant, Content, version, name, words, bits, latency, polarity, pause, scramble, log, backgrounds, is_hex, key_text}
 use Rattle.memory_desc.specs.Statements.{Statement, version_in}
 use Rattle.memory_desc.specs.declared.content.Key.{Key}
@@ -80,7 +80,8 @@ row_from_of i t b = onward (terms_of b) (λ ts x. took (Some (scramble i (t ∷ 
 
 abbrev pub row_of : List ℕ → Read (Option Content)
 row_of b =
-    onward (byte_of 97 b) (λ _ x. onward (number_of x) (λ i x. onward (byte_of 61 (spaced x)) (λ _ x. onward (term_of (spaced x)) (λ t x. row_from_of i t x))))
+    onward (byte_of 97 b) (λ _ x. onward (number_of x)
+    (λ i x. onward (byte_of 61 (spaced x)) (λ _ x. onward (term_of (spaced x)) (λ t x. row_from_of i t x))))
 
 -- behind the first letter of `log`
 abbrev pub log_end_of : List ℕ → Read (Option Content)

@@ -14,7 +14,8 @@ abbrev pub GivesScrambling : List Statement → ℕ → Result Scrambling Memory
 GivesScrambling ss width (Ok s) = (unrowed ss width ≡ None) × IsScrambling ss width s
 GivesScrambling ss width (Err fault) =
     (unrowed ss width ≡ Some fault)
-    ⊎ ((unrowed ss width ≡ None) × (rows : ℕ) × (is_scrambled ss ≡ true) × IsLeastDependence (matrix_said ss width) rows × (fault ≡ Singular rows))
+    ⊎ ((unrowed ss width ≡ None) × (rows : ℕ) × (is_scrambled ss ≡ true) × IsLeastDependence (matrix_said ss width) rows
+    × (fault ≡ Singular rows))
 
 -- the backgrounds where this is said of them
 abbrev pub GivesBackgrounds : Option Content → ℕ → Result (List ℕ) MemoryFault → Type 0

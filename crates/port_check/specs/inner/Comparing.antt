@@ -2,13 +2,13 @@
 use Rattle.std.specs.Prelude.{ℕ, Bool, false, cond, nat_eq, List, [], ◌∷◌, Option, Some, None, codes}
 use Rattle.word_march.specs.PortRule.{PortValues}
 use Rattle.verilog_open.specs.Open.{OpenEnv}
-use Rattle.port_check.specs.declared.compare.Port.{Port}
-use Rattle.port_check.specs.declared.compare.Port.TheVariants as P
+use Rattle.port_check.specs.declared.compare.ComparedPort.{ComparedPort}
+use Rattle.port_check.specs.declared.compare.ComparedPort.TheVariants as P
 use Rattle.port_check.specs.declared.compare.Wrong.{Wrong}
 use Rattle.port_check.specs.declared.compare.Wanted.{Wanted}
 use Rattle.port_check.specs.Compared.{PortValue}
 
-abbrev pub name_of : Port → List ℕ
+abbrev pub name_of : ComparedPort → List ℕ
 name_of P.En = codes "en"
 name_of P.We = codes "we"
 name_of P.Addr = codes "addr"
@@ -29,7 +29,8 @@ is_number (Some a) v = nat_eq a v
 -- the first of these ports that hasn't its number
 abbrev pub first_amiss : OpenEnv → List PortValue → Option Amiss
 first_amiss o [] = None
-first_amiss o (p ∷ ps) = cond (is_number (o p.name) p.value) (first_amiss o ps) (Some (record { name = p.name; wanted = p.value; got = o p.name }))
+first_amiss o (p ∷ ps) = cond (is_number (o p.name) p.value) (first_amiss o ps)
+    (Some (record { name = p.name; wanted = p.value; got = o p.name }))
 
 abbrev pub amiss : Option Wrong → Option Amiss
 amiss None = None

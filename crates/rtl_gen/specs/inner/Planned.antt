@@ -8,13 +8,13 @@ use Rattle.memory_desc.specs.Descriptions.{Description}
 use Rattle.march_core.specs.Runs.{is_write, data_value}
 use Rattle.microcode.specs.Code.{goes_down}
 use Rattle.self_test.specs.SelfTest.{module_name}
-use Rattle.rtl_layout.specs.declared.element.Operation.{Operation}
+use Rattle.rtl_layout.specs.declared.element.PlanOperation.{PlanOperation}
 use Rattle.rtl_layout.specs.declared.row.Row.{Row}
 use Rattle.rtl_layout.specs.Plan.{Element, Plan}
 use Rattle.rtl_layout.specs.Control.{idle}
 use Rattle.rtl_layout.specs.Control as C
 
-abbrev pub operation_of : Op → Operation
+abbrev pub operation_of : Op → PlanOperation
 operation_of o = record { write = is_write o; bit = data_value o }
 
 abbrev pub element_of : MarchElement → Element

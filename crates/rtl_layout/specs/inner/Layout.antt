@@ -28,9 +28,11 @@ end_age_sets i = SetTo (reads_at (suc i)) (gated (feed_reads i)) ∷ SetTo (over
 
 -- and what it takes where it has a value
 abbrev pub valued_sets : ℕ → List Statement
-valued_sets i = SetTo (reads_at (suc i)) (gated (feed_reads i)) ∷ SetTo (over_at (suc i)) (gated (feed_over i)) ∷ SetTo (value_at (suc i)) (gated (Net (value_at i))) ∷ []
+valued_sets i = SetTo (reads_at (suc i)) (gated (feed_reads i)) ∷ SetTo (over_at (suc i)) (gated (feed_over i)) ∷ SetTo
+    (value_at (suc i)) (gated (Net (value_at i))) ∷ []
 
 abbrev pub age_sets : Bool → ℕ → ℕ → List Statement
 age_sets many w i =
-    SetTo (reads_at (suc i)) (gated (feed_reads i)) ∷ SetTo (over_at (suc i)) (gated (feed_over i)) ∷ SetTo (value_at (suc i)) (gated (Net (value_at i)))
+    SetTo (reads_at (suc i)) (gated (feed_reads i)) ∷ SetTo (over_at (suc i)) (gated (feed_over i)) ∷ SetTo
+    (value_at (suc i)) (gated (Net (value_at i)))
     ∷ maybe many (back_set w i)

@@ -13,9 +13,12 @@ use Rattle.verilog_cycle.specs.OpenDoes.{OpenDoesBlocks}
 use Rattle.verilog_cycle.specs.Seen.{plain_names}
 
 pub record ArePartsOf (mo : ModuleTree) (p : Parts) : Type 0 where
-  pub built : IsBuilt mo (plain_names p.nets.items) (map declaration p.registers.items) (map declaration p.inputs.items) (map (λ s. s.code.value) p.program.steps.items) (map (λ b. map action_run b.items) p.program.blocks.items) p.program.outputs.items
+  pub built : IsBuilt mo (plain_names p.nets.items) (map declaration p.registers.items) (map declaration p.inputs.items)
+      (map (λ s. s.code.value) p.program.steps.items)
+      (map (λ b. map action_run b.items) p.program.blocks.items) p.program.outputs.items
   pub reading : AreReading p.program.steps.items
   pub holds : Holds mo (plain_names p.nets.items) p.cells.values.items p.cells.next.items p.cells.shown.items
-  pub opens : OpenDoesBlocks (names_widths mo) (places mo (plain_names p.nets.items)) mo.items (map (λ b. map open_action b.items) p.program.blocks.items)
+  pub opens : OpenDoesBlocks (names_widths mo) (places mo (plain_names p.nets.items)) mo.items
+      (map (λ b. map open_action b.items) p.program.blocks.items)
   pub loopless : NoLoop mo
   pub zero : take (length p.registers.items) p.cells.values.items ≡ map (λ _. 0) (registers_of mo)

@@ -11,4 +11,5 @@ else_text depth ss = unless_empty ss (line depth (codes "end else begin") ++ sta
 
 -- what stands behind the arms of a case
 abbrev pub default_text : ℕ → Statements → List ℕ
-default_text depth ss = unless_empty ss (line (depth + 1) (codes "default: begin") ++ statements_text (depth + 2) ss ++ line (depth + 1) (codes "end"))
+default_text depth ss = unless_empty ss (line (depth + 1) (codes "default: begin") ++ statements_text (depth + 2) ss
+    ++ line (depth + 1) (codes "end"))

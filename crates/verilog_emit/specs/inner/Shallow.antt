@@ -7,7 +7,8 @@ abbrev mutual
   pub statement_shallow : ℕ → Statement → Bool
   statement_shallow depth (SetTo n x) = nat_lt depth 100
   statement_shallow depth (IfElse c a b) = nat_lt depth 100 && statements_shallow (depth + 1) a && statements_shallow (depth + 1) b
-  statement_shallow depth (CaseOf x as' d) = nat_lt depth 100 && arms_shallow (depth + 1) as' && nat_lt (depth + 1) 100 && statements_shallow (depth + 2) d
+  statement_shallow depth (CaseOf x as' d) = nat_lt depth 100 && arms_shallow (depth + 1) as' && nat_lt (depth + 1) 100
+      && statements_shallow (depth + 2) d
 
   pub arms_shallow : ℕ → Arms → Bool
   arms_shallow depth NoArm = true

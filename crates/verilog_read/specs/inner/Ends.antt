@@ -4,8 +4,8 @@ use Rattle.verilog_tree.specs.declared.tokens.Mark.{Mark}
 use Rattle.verilog_tree.specs.declared.tokens.Mark.TheVariants.{Open, OpenBrace, Close, CloseBrace, Comma, Semicolon, Colon, Question}
 use Rattle.verilog_tree.specs.declared.tree.BinOp.{BinOp}
 use Rattle.verilog_tree.specs.Grammar.{is_sign}
-use Rattle.verilog_read.specs.declared.places.Base.TheVariants as B
-use Rattle.verilog_read.specs.declared.places.Base.{Base}
+use Rattle.verilog_read.specs.declared.places.Purpose.TheVariants as B
+use Rattle.verilog_read.specs.declared.places.Purpose.{Purpose}
 use Rattle.verilog_read.specs.declared.precedence.Nest as N
 use Rattle.verilog_read.specs.declared.precedence.Nest.TheVariants as M
 use Rattle.verilog_read.specs.declared.precedence.ExprSpot.{ExprSpot}
@@ -28,7 +28,7 @@ splits CloseBrace = true
 splits _ = false
 
 -- the mark that ends an expression that stands in no other
-abbrev pub end_of : Base → Mark
+abbrev pub end_of : Purpose → Mark
 end_of (B.Drive n) = Semicolon
 end_of (B.Test r q) = Close
 end_of (B.Pick r q) = Close

@@ -1,17 +1,15 @@
 -- Inner. What the code's holders are.
 use Rattle.std.specs.Prelude.{List, [], ◌∷◌, map}
-use Rattle.verilog_tree.specs.Grammar as G
 use Rattle.verilog_tree.specs.Plain as P
 use Rattle.verilog_tree.specs.inner.Plain as PInner
 use Rattle.verilog_text.specs.Places.{Head, Around, InAlways, InBlock, InThen, InElse, InArm, InDefault, Alone, AsDriver, AsCondition, AsSubject, AsValue}
-use Rattle.verilog_read.specs.declared.places.Base.TheVariants as B
-use Rattle.verilog_read.specs.declared.places.Base.{Base}
+use Rattle.verilog_read.specs.declared.places.Purpose.TheVariants as B
+use Rattle.verilog_read.specs.declared.places.Purpose.{Purpose}
 use Rattle.verilog_read.specs.declared.places.Case.{Case}
 use Rattle.verilog_read.specs.declared.places.Holder.TheVariants as H
 use Rattle.verilog_read.specs.declared.places.Holder.{Holder}
 use Rattle.verilog_read.specs.declared.places.Outer.{Outer}
-use Rattle.verilog_read.specs.declared.places.Style.TheVariants as S
-use Rattle.verilog_read.specs.declared.places.Style.{Style}
+use Rattle.verilog_read.specs.Style.{styled}
 
 abbrev pub arms_of : Case → P.Arms
 arms_of k = P.arms (map PInner.plain_arm k.arms.items)
@@ -27,10 +25,6 @@ abbrev pub holders : List Holder → Around → Around
 holders [] a = a
 holders (h ∷ hs) a = holders hs (holder h a)
 
-abbrev pub styled : Style → G.Style
-styled S.Parenthesised = G.Parenthesised
-styled S.ByPrecedence = G.ByPrecedence
-
 abbrev pub head_of : Outer → Head
 head_of w = record { style = styled w.style; name = w.tree.name.bytes; ports = map P.plain_port w.tree.ports.items; items = map P.plain_item w.tree.items.items }
 
@@ -38,7 +32,7 @@ head_of w = record { style = styled w.style; name = w.tree.name.bytes; ports = m
 abbrev pub around_of : Outer → Around
 around_of w = holders w.holders.items (InAlways (head_of w) w.clock.bytes)
 
-abbrev pub alone : Base → Head → Around → Alone
+abbrev pub alone : Purpose → Head → Around → Alone
 alone (B.Drive n) h a = AsDriver h n.bytes
 alone (B.Test r q) h a = AsCondition r q a
 alone (B.Pick r q) h a = AsSubject r q a

@@ -7,7 +7,7 @@ use Rattle.verilog_read.specs.declared.lexemes.Lexeme.{Lexeme}
 use Rattle.verilog_read.specs.inner.Holding.{token_of}
 use Rattle.verilog_read.specs.declared.lexer.LexFault.{LexFault}
 use Rattle.verilog_read.specs.declared.lexer.LexFault.TheVariants.{Unexpected, LongName, LargeNumber, WrongLiteral}
-use Rattle.verilog_read.specs.declared.lexer.Read.{Read}
+use Rattle.verilog_read.specs.declared.lexer.LexStep.{LexStep}
 use Rattle.verilog_read.specs.declared.lexer.Scanner.{Scanner}
 use Rattle.verilog_read.specs.declared.lexer.Scanner.TheVariants as S
 use Rattle.verilog_text.specs.Lexing.{Lexer, silent, with_token, InGap, InWord, InNumber, Quoted, Lettered, InDigits, Marked, Whole}
@@ -74,7 +74,7 @@ IsWrong _ = ⊥
 
 -- What the code answers, by what the lexer does: the same state and token, where numbers are at most `most`; a
 -- refusal where there is none; or the limit that the state exceeds, which for a number is `limit`.
-abbrev pub Scans : ℕ → ℕ → Option (Lexer × Option Token) → Result Read LexFault → Type 0
+abbrev pub Scans : ℕ → ℕ → Option (Lexer × Option Token) → Result LexStep LexFault → Type 0
 Scans most limit o (Ok r) = (o ≡ Some (lexer_of r.lexer, tokens_of r.token)) × Fits most (lexer_of r.lexer)
 Scans most limit o (Err Unexpected) = o ≡ None
 Scans most limit o (Err LongName) = Holds o (λ r. (r.1 ≡ None) × IsLong r.0)

@@ -1,6 +1,7 @@
 -- Inner. What the code's places are.
 use Rattle.verilog_tree.specs.Plain as P
-use Rattle.verilog_read.specs.inner.Frames.{styled, arms_of, head_of, around_of, alone_of}
+use Rattle.verilog_read.specs.Style.{styled}
+use Rattle.verilog_read.specs.inner.Frames.{arms_of, head_of, around_of, alone_of}
 use Rattle.verilog_read.specs.inner.Holding.{standing, nests_of}
 use Rattle.verilog_text.specs.Places as Q
 use Rattle.verilog_text.specs.Places.{Head, Around, StmtPlace, WantStmt, Target, IfRead, CaseRead, FirstLabel, Labels, NextLabel, DefaultRead, Block, HaveStmt, ItemPlace, Begin, HeadName, HeadOpen, WantPort, InputRead, OutputRead, WantRange, WantHigh, WantColon, WantZero, WantBracket, WantName, NameRead, PortsRead, WantItem, AssignRead, DriveRead, AlwaysRead, AtRead, ClockOpen, EdgeRead, ClockRead, Ended, AsWire, AsReg, AsPort, State, AtExpr, AtStmt, AtItem}

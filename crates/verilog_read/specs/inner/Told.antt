@@ -13,7 +13,7 @@ use Rattle.verilog_text.specs.declared.fault.ByteFault.{ByteFault}
 use Rattle.verilog_text.specs.declared.fault.ByteFault.TheVariants.{Unexpected, TooDeep, LongName, OutOfRange, NoMemory}
 use Rattle.verilog_read.specs.declared.lexer.LexFault.{LexFault}
 use Rattle.verilog_read.specs.declared.lexer.LexFault.TheVariants as L
-use Rattle.verilog_read.specs.declared.lexer.Read.{Read}
+use Rattle.verilog_read.specs.declared.lexer.LexStep.{LexStep}
 use Rattle.verilog_read.specs.declared.lexer.Scanner.{Scanner}
 use Rattle.verilog_text.specs.Answering.{Taking, Leads, Refused, OneTooMany, Move, Goes, Stops, Answer, Finished, Faulty, while_live, stuck}
 use Rattle.verilog_text.specs.inner.Answering.{read_within}
@@ -44,7 +44,7 @@ Moves m (Err LongName) p w = m ≡ Stops LongName
 Moves m (Err OutOfRange) p w = m ≡ Stops OutOfRange
 
 -- a byte of the lexer
-abbrev pub Scanned : Both State Lexer → Move → Result Read LexFault → Type 0
+abbrev pub Scanned : Both State Lexer → Move → Result LexStep LexFault → Type 0
 Scanned q m (Ok r) = m ≡ read_within q (lexer_of r.lexer) (tokens_of r.token)
 Scanned q m (Err L.Unexpected) = m ≡ stuck q.parser (last q.lexer)
 Scanned q m (Err L.LongName) = m ≡ while_live (takes_names q.parser) (Stops LongName)

@@ -96,7 +96,8 @@ break_behind w ds assigned set i =
 abbrev pub breaks_behind : (List ℕ → ℕ) → List Declaration → List (List ℕ) → List (List ℕ) → List ModuleItem → Option Break
 breaks_behind w ds assigned set [] = None
 breaks_behind w ds assigned set (i ∷ is) =
-    first_of (break_behind w ds (among assigned) set i ∷ breaks_behind w (declared_behind ds i) (assigned_behind assigned i) (set_behind set i) is ∷ [])
+    first_of (break_behind w ds (among assigned) set i ∷ breaks_behind w (declared_behind ds i)
+    (assigned_behind assigned i) (set_behind set i) is ∷ [])
 
 -- what these items assign added in order
 abbrev pub all_assigned : List (List ℕ) → List ModuleItem → List (List ℕ)

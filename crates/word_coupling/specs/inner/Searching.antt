@@ -44,7 +44,8 @@ pub record PassesBy (run : Pair → Pair → Option Pair) (p : Primitive) (bits 
   pub passes : passes_by run p backgrounds e.agg e.vic e.content ≡ true
 
 -- the least content that passes at two bits
-pub record IsLeastContent (run : Pair → Pair → Option Pair) (p : Primitive) (backgrounds : List ℕ) (agg vic : ℕ) (content : Pair) : Type 0 where
+pub record IsLeastContent (run : Pair → Pair → Option Pair) (p : Primitive) (backgrounds : List ℕ) (agg vic : ℕ)
+    (content : Pair) : Type 0 where
   pub passes : passes_by run p backgrounds agg vic content ≡ true
   pub least : (c : Pair) → passes_by run p backgrounds agg vic c ≡ true → content_number content ≤ content_number c
 
@@ -52,11 +53,13 @@ pub record IsLeastContent (run : Pair → Pair → Option Pair) (p : Primitive) 
 abbrev pub NoneAt : (Pair → Pair → Option Pair) → Primitive → ℕ → List ℕ → ℕ → ℕ → Type 0
 NoneAt run p bits backgrounds agg vic = (f : WordEscape) → PassesBy run p bits backgrounds f → f.vic ≡ vic → f.agg ≡ agg → ⊥
 
-pub record IsLeastAt (run : Pair → Pair → Option Pair) (p : Primitive) (bits : ℕ) (backgrounds : List ℕ) (agg vic : ℕ) (e : WordEscape) : Type 0 where
+pub record IsLeastAt (run : Pair → Pair → Option Pair) (p : Primitive) (bits : ℕ) (backgrounds : List ℕ) (agg vic : ℕ)
+    (e : WordEscape) : Type 0 where
   pub passes : PassesBy run p bits backgrounds e
   pub vic_is : e.vic ≡ vic
   pub agg_is : e.agg ≡ agg
-  pub least : (f : WordEscape) → PassesBy run p bits backgrounds f → f.vic ≡ vic → f.agg ≡ agg → content_number e.content ≤ content_number f.content
+  pub least : (f : WordEscape) → PassesBy run p bits backgrounds f → f.vic ≡ vic → f.agg ≡ agg
+      → content_number e.content ≤ content_number f.content
 
 -- what passes beside a victim's bit, and the least of it
 abbrev pub NoneBeside : (Pair → Pair → Option Pair) → Primitive → ℕ → List ℕ → ℕ → Type 0
@@ -65,7 +68,8 @@ NoneBeside run p bits backgrounds vic = (f : WordEscape) → PassesBy run p bits
 abbrev pub IsNoGreaterBeside : WordEscape → WordEscape → Type 0
 IsNoGreaterBeside e f = (e.agg < f.agg) ⊎ ((e.agg ≡ f.agg) × (content_number e.content ≤ content_number f.content))
 
-pub record IsLeastBeside (run : Pair → Pair → Option Pair) (p : Primitive) (bits : ℕ) (backgrounds : List ℕ) (vic : ℕ) (e : WordEscape) : Type 0 where
+pub record IsLeastBeside (run : Pair → Pair → Option Pair) (p : Primitive) (bits : ℕ) (backgrounds : List ℕ) (vic : ℕ)
+    (e : WordEscape) : Type 0 where
   pub passes : PassesBy run p bits backgrounds e
   pub vic_is : e.vic ≡ vic
   pub least : (f : WordEscape) → PassesBy run p bits backgrounds f → f.vic ≡ vic → IsNoGreaterBeside e f

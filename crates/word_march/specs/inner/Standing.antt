@@ -4,11 +4,11 @@ use Rattle.march_core.specs.declared.operation.Op.{Op}
 use Rattle.march_core.specs.March.{MarchElement, pause, sweep, ops_at, is_pause_at}
 use Rattle.march_core.specs.Visits.{Visit}
 use Rattle.memory_desc.specs.Descriptions.{Description}
-use Rattle.word_march.specs.declared.place.Place.{Place}
+use Rattle.word_march.specs.declared.place.MarchPlace.{MarchPlace}
 use Rattle.word_march.specs.Standing.{addresses_at}
 
 -- the visit at a place, of this operation
-abbrev pub visit_at : List MarchElement → ℕ → Place → Op → Visit
+abbrev pub visit_at : List MarchElement → ℕ → MarchPlace → Op → Visit
 visit_at march size p op =
     record { element = p.element; address = slice_index (addresses_at march p.element size) p.step; number = p.op; op = op }
 
@@ -24,17 +24,18 @@ pub record IsNextSweep (march : List MarchElement) (from n : ℕ) : Type 0 where
   pub pauses : ArePauses march from n
 
 -- the first place of a run, in this element
-abbrev pub first_of : ℕ → ℕ → Place
+abbrev pub first_of : ℕ → ℕ → MarchPlace
 first_of background element = record { background = background; element = element; step = 0; op = 0 }
 
 -- a place is the first of a run
-abbrev pub IsFirst : List MarchElement → ℕ → Place → Type 0
+abbrev pub IsFirst : List MarchElement → ℕ → MarchPlace → Type 0
 IsFirst march background p = (n : ℕ) × IsNextSweep march 0 n × (p ≡ first_of background n)
 
 -- the place behind a place, in the order of the visits
-pub data Follows (march : List MarchElement) (d : Description) (p q : Place) : Type 0 where
+pub data Follows (march : List MarchElement) (d : Description) (p q : MarchPlace) : Type 0 where
   next_op : p.op + 1 < length (ops_at march p.element) → q ≡ record p { op = p.op + 1 } → Follows march d p q
-  next_step : p.op + 1 ≡ length (ops_at march p.element) → p.step + 1 < d.words → q ≡ record p { step = p.step + 1; op = 0 } → Follows march d p q
+  next_step : p.op + 1 ≡ length (ops_at march p.element) → p.step + 1 < d.words
+      → q ≡ record p { step = p.step + 1; op = 0 } → Follows march d p q
   next_elem : p.op + 1 ≡ length (ops_at march p.element) → p.step + 1 ≡ d.words → IsNextSweep march (p.element + 1) q.element
       → q ≡ record p { element = q.element; step = 0; op = 0 } → Follows march d p q
   next_run : p.op + 1 ≡ length (ops_at march p.element) → p.step + 1 ≡ d.words → ArePauses march (p.element + 1) (length march)

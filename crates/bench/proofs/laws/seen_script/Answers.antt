@@ -6,4 +6,4 @@ pub returns : goal.returns
 returns c =
     let count = c.span.ensures.count in
     let most = c.span.ensures.at_most in
-    script c.args.march.now c.args.memory.now c.len.ensures.march c.words.ensures.memory (omega (arith, count, most))
+    script c.args.march.now c.args.memory.now c.known.ensures c.known-2.ensures (omega (arith, count, most))

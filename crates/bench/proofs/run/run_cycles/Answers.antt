@@ -10,7 +10,7 @@ loop-cycle-init g c = record {
   fitted = c.first_cycle-watch.ensures.device.1 ∙ c.requires.fitted;
   stage = stage_first c.args.design.now.tree c.args.march.now c.args.memory.now c.args.design.now.registers c.first_cycle-watch.new.design.registers _ _
       c.first_cycle-watch.result c.reset-control.result c.first_cycle-watch.ensures.watched
-      (λ returned. c.reset-control.ensures c.args.march.now returned c.len.ensures.march c.assemble-code.ensures);
+      (λ returned. c.reset-control.ensures c.args.march.now returned c.known.ensures c.assemble-code.ensures);
 }
 
 pub loop-cycle-preserved : goal.loop-cycle-preserved

@@ -2,7 +2,7 @@ use Rattle.std.proofs.Common.{◌≡◌, ◌⊎◌, Result, IfErr, subst}
 use Rattle.verilog_tree.specs.declared.fault.ReadFault.{ReadFault}
 use Rattle.verilog_tree.specs.declared.tree.Module.{Module}
 use Rattle.verilog_text.specs.Refusals.{IsFirstIn}
-use Rattle.bist_inputs.specs.Designs.{styled}
+use Rattle.verilog_read.specs.Style.{styled}
 use Rattle.bist_inputs.proofs.designs.give_tree.Goals as goal
 
 pub returns-in-Err-clause-answer : goal.returns-in-Err-clause-answer

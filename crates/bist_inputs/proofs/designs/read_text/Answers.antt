@@ -4,8 +4,8 @@ use Rattle.verilog_tree.specs.Grammar as G
 use Rattle.verilog_tree.specs.Spells.{Text, all_limits}
 use Rattle.verilog_tree.specs.declared.fault.ReadFault.{ReadFault}
 use Rattle.verilog_text.specs.Refusals.{IsFirstIn}
-use Rattle.bist_inputs.specs.declared.designs.Style.{Style}
-use Rattle.bist_inputs.specs.Designs.{styled}
+use Rattle.verilog_read.specs.declared.places.Style.{Style}
+use Rattle.verilog_read.specs.Style.{styled}
 use Rattle.bist_inputs.proofs.Designing.{first_fault}
 use Rattle.bist_inputs.proofs.designs.read_text.Goals as goal
 

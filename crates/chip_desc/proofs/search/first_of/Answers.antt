@@ -1,13 +1,13 @@
 use denote.Enum.Bare.{sameb}
-use Rattle.chip_desc.specs.contracts.content.Key.{the_type}
-use Rattle.chip_desc.specs.declared.content.Key.TheVariants.{Unit}
-use Rattle.chip_desc.proofs.Common.{Bool, Budget, Chip, Content, Key, List, Name, Option, Some, Statement, TextLine, ap, first_of, if◌then◌else◌, is_key, kind_of, refl, said, stated, statements, sym, ◌++◌, ◌∙◌, ◌∷◌, ◌≡◌}
+use Rattle.chip_desc.specs.contracts.content.ChipKey.{the_type}
+use Rattle.chip_desc.specs.declared.content.ChipKey.TheVariants.{Unit}
+use Rattle.chip_desc.proofs.Common.{Bool, Budget, Chip, Content, ChipKey, List, Name, Option, Some, Statement, TextLine, ap, first_of, if◌then◌else◌, is_key, kind_of, refl, said, stated, statements, sym, ◌++◌, ◌∙◌, ◌∷◌, ◌≡◌}
 use Rattle.chip_desc.proofs.search.first_of.Goals as goal
 
 line_said : (ls x : List TextLine) (l : TextLine) (o : Option Content) → ls ≡ l ∷ x → o ≡ said l.text → statements ls ≡ stated l.number o ++ statements x
 line_said ls x l o e h = ap statements e ∙ ap (λ (o : Option Content). stated l.number o ++ statements x) (sym h)
 
-same_key : (k l : Key) → sameb the_type k l ≡ is_key l k
+same_key : (k l : ChipKey) → sameb the_type k l ≡ is_key l k
 same_key Chip Chip = refl
 same_key Name Name = refl
 same_key Budget Budget = refl
@@ -15,7 +15,7 @@ same_key Unit Unit = refl
 same_key k l = refl
 
 -- the first of a kind, by the kind of the next
-first_on : (key k : Key) (ss : List Statement) (s : Statement) (t : Bool) → t ≡ sameb the_type k key → k ≡ kind_of s.content → first_of key (s ∷ ss) ≡ (if t then Some s else first_of key ss)
+first_on : (key k : ChipKey) (ss : List Statement) (s : Statement) (t : Bool) → t ≡ sameb the_type k key → k ≡ kind_of s.content → first_of key (s ∷ ss) ≡ (if t then Some s else first_of key ss)
 first_on key k ss s t e h = ap (λ (t : Bool). if t then Some s else first_of key ss) (sym (e ∙ same_key k key ∙ ap (is_key key) h))
 
 pub returns-then-eq : goal.returns-then-eq

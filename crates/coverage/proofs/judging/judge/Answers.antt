@@ -6,11 +6,11 @@ returns-in-Some c =
     let p = c.args.prim.now in
     let march = c.args.march.now in
     record {
-      verdict = escape_verdict p march c.in-Some.escape c.recall.ensures.primitive c.recall.ensures.march c.in-Some.ensures.0 c.in-Some.ensures.1;
-      each_size = λ size more. escape_never p march c.in-Some.escape c.recall.ensures.primitive c.recall.ensures.march c.in-Some.ensures.0 c.in-Some.ensures.1.escape size more;
+      verdict = escape_verdict p march c.in-Some.escape c.known-2.ensures c.known.ensures c.in-Some.ensures.0 c.in-Some.ensures.1;
+      each_size = λ size more. escape_never p march c.in-Some.escape c.known-2.ensures c.known.ensures c.in-Some.ensures.0 c.in-Some.ensures.1.escape size more;
     }
 
 pub returns-in-None : goal.returns-in-None
 returns-in-None c =
-    let all = none_covered c.args.prim.now c.args.march.now c.recall.ensures.primitive c.recall.ensures.march c.in-None.ensures in
+    let all = none_covered c.args.prim.now c.args.march.now c.known-2.ensures c.known.ensures c.in-None.ensures in
     record { verdict = all; each_size = λ size more. all size more }

@@ -1,5 +1,5 @@
 use Rattle.fault_syntax.proofs.LineByLine.{accepted, refuses}
-use Rattle.fault_syntax.specs.declared.words.NameSet.TheVariants.{Every}
+use Rattle.fault_syntax.specs.declared.words.AllowedNames.TheVariants.{Every}
 use Rattle.fault_syntax.specs.ListText.{Primitive as OnePrimitive, ItemLine}
 use Rattle.dynamic_core.specs.ItemParts.{RefusesOn, BringsIn}
 use Rattle.dynamic_core.proofs.ListExact.{settled, list_one}

@@ -1,5 +1,5 @@
 use Rattle.std.proofs.Common.{List, Ok, inl, inr, subst, sym}
-use Rattle.fault_syntax.specs.declared.words.NameSet.TheVariants.{Static}
+use Rattle.fault_syntax.specs.declared.words.AllowedNames.TheVariants.{Static}
 use Rattle.fault_syntax.proofs.PassedOn.{passed_on}
 use Rattle.dynamic_core.specs.declared.item.Item.{Item}
 use Rattle.dynamic_core.specs.Items.{ReadsIn}

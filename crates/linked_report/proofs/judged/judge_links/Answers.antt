@@ -11,12 +11,12 @@ loop-link-preserved c =
     let march = c.args.march.now in
     let taken : List Link = take c.loop-link.link-index c.args.links.now in
     let held : List JudgedLink = c.loop-link.judged.items in
-    let j : JudgedLink = record { link = c.link-item.result; escape = c.least_escape.result } in
+    let j : JudgedLink = record { link = c.link-item.result; escape = c.least_linked_escape.result } in
     let pushed : is_ok c.push.result ≡ true = c.is_err.ensures.negation ∙ ap not c.if-is_err.false in
     let grown : c.push.new.self.items ≡ held ++ j ∷ [] = c.push.ensures.items ∙ ap (λ b. cond b (held ++ j ∷ []) held) pushed in
     let more : take (c.loop-link.link-index + 1) c.args.links.now ≡ taken ++ j.link ∷ [] =
     take_more c.args.links.now c.loop-link.link-index c.link-item.result c.loop-link-test.true ∙ ap (λ i. taken ++ i ∷ []) (sym c.link-item.is) in
-    let right : IsJudgedLink march j = c.least_escape.ensures.verdict in
+    let right : IsJudgedLink march j = c.least_linked_escape.ensures.verdict in
     subst (λ links. AreJudgedLinks march links c.push.new.self.items) (sym more)
     (subst (AreJudgedLinks march (taken ++ j.link ∷ [])) (sym grown) (one_link_more march taken held j c.loop-link.invariant right))
 

@@ -29,7 +29,7 @@ overflow_add-result t c =
     omega (
       arith,
       word_room (is_wanted s.wanted) (end_of (machine_of s.prim.now) s.is_below) c.args.i rest c.end_of-down.result c.in-Some-word_from.word c.weight_of.result
-          (omega (arith, count, c.if-i-search.false, c.requires.within, c.len-elements.ensures.march.elements_within)) c.in-Some-word_from.ensures.word c.weight_of.ensures,
+          (omega (arith, count, c.if-i-search.false, c.requires.within, c.known.ensures.elements_within)) c.in-Some-word_from.ensures.word c.weight_of.ensures,
     )
 
 pub returns-in-Some-word_from-clause-word : goal.returns-in-Some-word_from-clause-word

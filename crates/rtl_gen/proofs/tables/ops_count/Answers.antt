@@ -3,4 +3,4 @@ use Rattle.rtl_gen.proofs.Listed.{ops_few}
 use Rattle.rtl_gen.proofs.tables.ops_count.Goals as goal
 
 pub returns-clause-few : goal.returns-clause-few
-returns-clause-few c = subst (λ l. length l ≤ 16) (sym c.ops.ensures.value) (ops_few c.args.march.now c.len-elements.ensures.march.each c.args.i)
+returns-clause-few c = subst (λ l. length l ≤ 16) (sym c.ops.ensures.value) (ops_few c.args.march.now c.known.ensures.each c.args.i)

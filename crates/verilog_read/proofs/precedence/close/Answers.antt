@@ -35,7 +35,7 @@ pub returns-then-not-is_mark-2 : goal.returns-then-not-is_mark-2
 returns-then-not-is_mark-2 c = off c.args.depth c.args.count (plain c.loop-around.last) (token_of c.args.token.now) c.loop-around.outer.nests.items c.pop.new.self.items c.in-Some.around _ (alone_of c.loop-around.outer) _ c.in-Some.ensures.items c.in-IfTrue.is c.loop-around.invariant ∙ expected Colon _ (token_of c.args.token.now) false (sym c.is_mark-in-IfTrue.ensures ∙ c.if-not-is_mark-2.true)
 
 pub returns-in-IfTrue : goal.returns-in-IfTrue
-returns-in-IfTrue c = subst (λ (s : Option State). Goes s c.begun.result c.begun.new.outer) (sym (off c.args.depth c.args.count (plain c.loop-around.last) (token_of c.args.token.now) c.loop-around.outer.nests.items c.pop.new.self.items c.in-Some.around _ (alone_of c.loop-around.outer) _ c.in-Some.ensures.items c.in-IfTrue.is c.loop-around.invariant ∙ expected Colon _ (token_of c.args.token.now) true (sym c.is_mark-in-IfTrue.ensures ∙ c.if-not-is_mark-2.false))) c.begun.ensures
+returns-in-IfTrue c = subst (λ (s : Option State). Goes s c.begin_nested.result c.begin_nested.new.outer) (sym (off c.args.depth c.args.count (plain c.loop-around.last) (token_of c.args.token.now) c.loop-around.outer.nests.items c.pop.new.self.items c.in-Some.around _ (alone_of c.loop-around.outer) _ c.in-Some.ensures.items c.in-IfTrue.is c.loop-around.invariant ∙ expected Colon _ (token_of c.args.token.now) true (sym c.is_mark-in-IfTrue.ensures ∙ c.if-not-is_mark-2.false))) c.begin_nested.ensures
 
 pub loop-around-preserved : goal.loop-around-preserved
 loop-around-preserved c =

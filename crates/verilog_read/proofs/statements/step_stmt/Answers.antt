@@ -47,7 +47,7 @@ pub returns-then-not-is_mark : goal.returns-then-not-is_mark
 returns-then-not-is_mark c = placed _ _ _ _ _ c.in-Target.is (expected LessEquals _ _ false (sym c.is_mark.ensures ∙ c.if-not-is_mark.true))
 
 pub returns-else-not-is_mark : goal.returns-else-not-is_mark
-returns-else-not-is_mark c = placed _ _ _ _ _ c.in-Target.is (began _ _ _ _ _ _ (sym c.is_mark.ensures ∙ c.if-not-is_mark.false) c.begin.ensures.same c.begin.ensures.begun)
+returns-else-not-is_mark c = placed _ _ _ _ _ c.in-Target.is (began _ _ _ _ _ _ (sym c.is_mark.ensures ∙ c.if-not-is_mark.false) c.begin_expr.ensures.same c.begin_expr.ensures.begun)
 
 pub returns-in-WantStmt : goal.returns-in-WantStmt
 returns-in-WantStmt c = stmt_stepped _ _ _ _ _ _ c.in-WantStmt.is c.want_stmt.ensures
@@ -65,7 +65,7 @@ pub returns-in-Block : goal.returns-in-Block
 returns-in-Block c = stmt_stepped _ _ _ _ _ _ c.in-Block.is c.in_block.ensures
 
 pub returns-in-HaveStmt : goal.returns-in-HaveStmt
-returns-in-HaveStmt c = stmt_stepped _ _ _ _ _ _ c.in-HaveStmt.is c.have_stmt.ensures
+returns-in-HaveStmt c = stmt_stepped _ _ _ _ _ _ c.in-HaveStmt.is c.after_stmt.ensures
 
 pub returns-in-FirstLabel : goal.returns-in-FirstLabel
 returns-in-FirstLabel c = stmt_stepped _ _ _ _ _ _ c.in-FirstLabel.is (first_stepped _ _ _ _ _ _ _ _ _ c.new.ensures.items (c.next_label.ensures c.args.outer.now))

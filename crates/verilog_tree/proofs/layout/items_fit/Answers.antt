@@ -1,8 +1,8 @@
 use Rattle.std.proofs.Common.{◌≡◌, ℕ, ◌+◌, ◌<◌, Bool, true, false, ◌&&◌, ◌⊎◌, inl, inr, List, map, length, drop, get_or, refl, ap, sym, ◌∙◌}
 use Rattle.std.proofs.lemmas.List.{at_drop_all}
 use Rattle.verilog_tree.specs.declared.tree.Decl.{Decl}
-use Rattle.verilog_tree.specs.declared.tree.Item.{Item}
-use Rattle.verilog_tree.specs.declared.tree.Item.TheVariants.{Wire, Reg}
+use Rattle.verilog_tree.specs.declared.tree.BodyItem.{BodyItem}
+use Rattle.verilog_tree.specs.declared.tree.BodyItem.TheVariants.{Wire, Reg}
 use Rattle.verilog_tree.specs.Plain.{plain_item, plain_stmts}
 use Rattle.verilog_tree.specs.Words.{is_name}
 use Rattle.verilog_tree.specs.Fits.{statements_fit, item_fits, items_fit}
@@ -10,15 +10,15 @@ use Rattle.verilog_tree.proofs.InOrder.{at_item, and_then, and_else}
 use Rattle.verilog_tree.proofs.layout.items_fit.Goals.{in-Assign+then-is_name, in-Assign+else-is_name, in-Always+then-is_name-2, in-Always+else-is_name-2, in-Wire2}
 use Rattle.verilog_tree.proofs.layout.items_fit.Goals as goal
 
-fits_as : (i j : Item) → i ≡ j → item_fits 64 (plain_item j) ≡ item_fits 64 (plain_item i)
+fits_as : (i j : BodyItem) → i ≡ j → item_fits 64 (plain_item j) ≡ item_fits 64 (plain_item i)
 fits_as i j e = sym (ap (λ k. item_fits 64 (plain_item k)) e)
 
-declared_fits : (i : Item) (d : Decl) → (i ≡ Wire d) ⊎ (i ≡ Reg d) → is_name d.name.bytes ≡ item_fits 64 (plain_item i)
+declared_fits : (i : BodyItem) (d : Decl) → (i ≡ Wire d) ⊎ (i ≡ Reg d) → is_name d.name.bytes ≡ item_fits 64 (plain_item i)
 declared_fits i d (inl e) = fits_as i (Wire d) e
 declared_fits i d (inr e) = fits_as i (Reg d) e
 
 -- the loop's test at an item
-at : (items : List Item) (k : ℕ) (i : Item) (b whole : Bool) → k < length items → i ≡ get_or items k i → b ≡ item_fits 64 (plain_item i) → items_fit 64 (map plain_item (drop k items)) ≡ whole → (b && items_fit 64 (map plain_item (drop (k + 1) items))) ≡ whole
+at : (items : List BodyItem) (k : ℕ) (i : BodyItem) (b whole : Bool) → k < length items → i ≡ get_or items k i → b ≡ item_fits 64 (plain_item i) → items_fit 64 (map plain_item (drop k items)) ≡ whole → (b && items_fit 64 (map plain_item (drop (k + 1) items))) ≡ whole
 at items k i b whole below is e so_far = ap (λ t. t && items_fit 64 (map plain_item (drop (k + 1) items))) e ∙ sym (at_item (λ is'. items_fit 64 (map plain_item is')) items k i below is) ∙ so_far
 
 pub loop-item-init : goal.loop-item-init

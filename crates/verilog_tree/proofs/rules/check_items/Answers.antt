@@ -2,7 +2,7 @@ use Rattle.std.proofs.Common.{◌≡◌, ℕ, ◌+◌, ◌<◌, List, [], ◌∷
 use Rattle.std.proofs.lemmas.List.{at_drop_all}
 use Rattle.verilog_tree.specs.declared.fault.TreeFault.{TreeFault}
 use Rattle.verilog_tree.specs.declared.fault.TreeFault.TheVariants as T
-use Rattle.verilog_tree.specs.declared.tree.Item.{Item}
+use Rattle.verilog_tree.specs.declared.tree.BodyItem.{BodyItem}
 use Rattle.verilog_tree.specs.Plain.{plain_item}
 use Rattle.verilog_tree.specs.Names.{Declaration, width_of}
 use Rattle.verilog_tree.specs.Rules.{first_of}
@@ -16,7 +16,7 @@ not_done (Ok x) P h = cc
 not_done (Err f) P h = tt
 
 -- at an item, the tables before and behind it
-at_tables : (w : List ℕ → ℕ) (ds ds' : List Declaration) (as' bs ss ts : List (List ℕ)) (items : List Item) (k : ℕ) (i : Item) → k < length items → i ≡ get_or items k i → ds' ≡ declared_behind ds (plain_item i) → bs ≡ assigned_behind as' (plain_item i) → ts ≡ set_behind ss (plain_item i) →
+at_tables : (w : List ℕ → ℕ) (ds ds' : List Declaration) (as' bs ss ts : List (List ℕ)) (items : List BodyItem) (k : ℕ) (i : BodyItem) → k < length items → i ≡ get_or items k i → ds' ≡ declared_behind ds (plain_item i) → bs ≡ assigned_behind as' (plain_item i) → ts ≡ set_behind ss (plain_item i) →
     breaks_behind w ds as' ss (map plain_item (drop k items)) ≡ first_of (break_behind w ds (among as') ss (plain_item i) ∷ breaks_behind w ds' bs ts (map plain_item (drop (k + 1) items)) ∷ [])
 at_tables w ds ds' as' bs ss ts items k i below at p q r = at_item (λ is'. breaks_behind w ds as' ss (map plain_item is')) items k i below at ∙ rw (p, q, r) refl
 

@@ -2,7 +2,7 @@ use Rattle.word_coupling.proofs.Failing.{fails_in_word, joint_fails_in_word}
 use Rattle.word_coupling.proofs.laws.planted_in_word_fails.Goals as goal
 
 pub returns-clause-alone : goal.returns-clause-alone
-returns-clause-alone c = fails_in_word c.args.march.now c.args.memory.now c.words.ensures.memory
+returns-clause-alone c = fails_in_word c.args.march.now c.args.memory.now c.known.ensures
 
 pub returns-clause-joint : goal.returns-clause-joint
-returns-clause-joint c = joint_fails_in_word c.args.march.now c.args.memory.now c.words.ensures.memory
+returns-clause-joint c = joint_fails_in_word c.args.march.now c.args.memory.now c.known.ensures

@@ -5,7 +5,7 @@ use Rattle.word_march.proofs.counts.length.Goals.{After-backgrounds}
 
 run_within : (c : After-backgrounds) → c.total_ops-operations.result * c.from-words.result ≤ 16777216
 run_within c =
-    let operations = c.len-operations.ensures.march.ops_within in
+    let operations = c.known.ensures.ops_within in
     let words = c.words.ensures.memory.words_high in
     run_small c.total_ops-operations.result c.from-words.result (omega (arith, c.total_ops-operations.ensures)) (omega (arith, c.from-words.ensures, c.words.ensures.value))
 

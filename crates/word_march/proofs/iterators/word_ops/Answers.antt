@@ -4,5 +4,5 @@ use Rattle.word_march.proofs.iterators.word_ops.Goals as goal
 
 pub invariant_of-result : goal.invariant_of-result
 invariant_of-result c =
-    let words = c.words.ensures.memory.words_low in
-    first_place c.args.march.now c.args.memory.now 0 c.run_start.result c.len.ensures.march zero-le (omega arith) c.run_start.ensures
+    let words = c.known-2.ensures.words_low in
+    first_place c.args.march.now c.args.memory.now 0 c.run_start.result c.known.ensures zero-le (omega arith) c.run_start.ensures

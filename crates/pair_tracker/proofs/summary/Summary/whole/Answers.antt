@@ -16,4 +16,4 @@ returns c =
     } in
     subst (λ n. SumsUp c.args.march.now c.args.prim.now c.args.placement 0 n whole) c.len.ensures.value
     (sums_up c.args.march.now c.args.prim.now c.args.placement 0 c.len.result
-    (record { is_march = c.recall.ensures.march; primitive = c.recall.ensures.primitive; fits = c.requires; ordered = omega arith; within = omega (arith, c.len.ensures.value) }))
+    (record { is_march = c.known.ensures; primitive = c.known-2.ensures; fits = c.requires; ordered = omega arith; within = omega (arith, c.len.ensures.value) }))

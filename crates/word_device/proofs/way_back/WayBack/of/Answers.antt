@@ -11,6 +11,6 @@ returns c =
     let some = pow_pos w in
     let least = c.min.ensures in
     let next : last + 1 ≡ 2 ^ w = omega arith in
-    leads c.args.scramble.now (record { low = c.low_indexes-low.result; high = c.high_indexes-high.result }) last c.min.result _ c.rows-rows.ensures.full
+    leads c.args.scramble.now (record { low = c.low_indexes-low.result; high = c.high_indexes-high.result }) last c.min.result _ c.known.ensures.full
     c.width.ensures.invertible (next ∙ ap (λ (n : ℕ). 2 ^ n) c.width.ensures.width) (omega arith) refl (λ x low byte. omega arith) c.low_indexes-low.ensures
     c.high_indexes-high.ensures

@@ -2,7 +2,7 @@ use Rattle.std.proofs.Common.{Result, Ok, Err, OnErr, refl, ◌∙◌}
 use Rattle.std.proofs.lemmas.Result.{IfOk-from_err}
 use Rattle.chip_rtl.specs.TopSeen.{plain_top}
 use Rattle.chip_rtl.proofs.EndedFiles.{few_memories, grouped_memories, planned_top, file_ended, where_ok}
-use Rattle.chip_rtl.proofs.file.end_chip.Goals as goal
+use Rattle.chip_rtl.proofs.file.append_top.Goals as goal
 
 -- what holds anyway
 anyway : {A E P : Type 0} (r : Result A E) → P → OnErr r P

@@ -8,7 +8,7 @@ use Rattle.verilog_read.specs.inner.Frames.{alone_of}
 use Rattle.verilog_read.specs.inner.Holding.{token_of, nests_of}
 use Rattle.verilog_read.specs.inner.Waiting.{lefts_of}
 use Rattle.verilog_read.proofs.HoldingLemmas.{linked_is}
-use Rattle.verilog_read.proofs.precedence.have.Goals as goal
+use Rattle.verilog_read.proofs.precedence.after_operand.Goals as goal
 
 pub returns-in-Some : goal.returns-in-Some
 returns-in-Some c =
