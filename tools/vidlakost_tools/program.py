@@ -1,4 +1,4 @@
-"""The program: which one answers, its commands as docs/FORMATS.md tells them, and calls of it."""
+"""The program: which one answers, its commands as tools/commands.txt and docs/FORMATS.md tell them, and calls of it."""
 from __future__ import annotations
 
 import dataclasses
@@ -25,6 +25,7 @@ def as_file(name: str) -> str:
 
 PROGRAM = as_file(os.environ.get("VIDLAKOST") or str(ROOT / "vidlakost"))
 FORMATS = ROOT / "docs" / "FORMATS.md"
+COMMANDS = ROOT / "tools" / "commands.txt"
 Answer = TypeVar("Answer")
 # how long a call may take; without a bound where nothing is said
 SECONDS: float | None = None
@@ -32,39 +33,57 @@ SECONDS: float | None = None
 
 @dataclasses.dataclass
 class Command:
-    """A command of the program as FORMATS tells it: its words, an example, and what it does."""
+    """A command of the program: its words, which of them name files and which of these it writes, and what it is for.
+
+    The example and what it does come from FORMATS.
+    """
 
     form: list[str]
-    example: str
-    does: str
+    files: list[int]
+    written: list[int]
+    purpose: str
+    example: str = ""
+    does: str = ""
 
     @property
     def name(self) -> str:
         return self.form[0]
 
 
+def command_of(line: str) -> Command:
+    """The command of a line of the table: `NAME <READ >WRITTEN SAID | PURPOSE`."""
+    words, purpose = line.split(" | ", 1)
+    form = words.split()
+    files = [place for place, word in enumerate(form) if word[0] in "<>"]
+    written = [place for place in files if form[place][0] == ">"]
+    return Command([word.lstrip("<>") for word in form], files, written, purpose)
+
+
+def command_table() -> list[Command]:
+    """The commands, in the order of the table."""
+    return [command_of(line) for line in lines_of(read_text(COMMANDS)) if not line.startswith("#")]
+
+
 def commands() -> list[Command]:
-    """The commands, from docs/FORMATS.md."""
+    """The commands, each with its example and its text in FORMATS."""
     sections = re.findall(
-        r"^## The command `\w+`\n\n```\n([^\n]*)\n([^\n]*)\n```\n\n(.*?)(?=^## )", read_text(FORMATS), re.MULTILINE | re.DOTALL
+        r"^## The command `(\w+)`\n\n```\n[^\n]*\n([^\n]*)\n```\n\n(.*?)(?=^## )", read_text(FORMATS), re.MULTILINE | re.DOTALL
     )
-    return [Command(form.split(), example, does.strip()) for form, example, does in sections]
+    told = {name: (example, does.strip()) for name, example, does in sections}
+    known = command_table()
+    for command in known:
+        command.example, command.does = told.get(command.name, ("", ""))
+    return known
 
 
 def form_of(name: str) -> list[str]:
     """The words of a command; none where there is no such command."""
-    return next((command.form for command in commands() if command.name == name), [])
+    return next((command.form for command in command_table() if command.name == name), [])
 
 
 def written(name: str) -> list[int]:
-    """The places of the words that a command writes, as FORMATS tells it; `make` writes all but its number."""
-    command = next((command for command in commands() if command.name == name), None)
-    if command is None:
-        return []
-    if name == "make":
-        return list(range(2, len(command.form)))
-    told = [word in ("REPORT", "OUT") or f"to the file {word}" in command.does for word in command.form]
-    return [place for place, is_told in enumerate(told) if is_told]
+    """The places of the words that a command writes."""
+    return next((command.written for command in command_table() if command.name == name), [])
 
 
 def version() -> tuple[str, str, str]:

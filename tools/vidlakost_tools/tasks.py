@@ -4,40 +4,23 @@ from __future__ import annotations
 import os
 import re
 
-from vidlakost_tools.program import ROOT, commands
+from vidlakost_tools.program import ROOT, command_table
 from vidlakost_tools.text import read_text
 
 TOOLS = ROOT / "tools"
 # what the repository itself uses
 INNER = ["selftest", "guide", "gallery", "pictures", "interop", "manual", "trusted", "unproved"]
 TASKS = {
-    "To begin with": ["judge", "compile", "bench", "explain"],
+    "To begin with": ["judge", "compile", "bench", "show", "explain"],
     "Marches and their escapes": ["explore", "design", "decoder", "linked", "inword", "sim", "replay", "trace", "report", "compare"],
     "A module beside its memory": [
         "vectors", "benchfault", "benchall", "testbench", "locate", "turn", "liberty", "collar", "hold", "summary",
     ],
     "Modules of others": ["audit", "check", "benchfile", "plain", "formal", "foreign"],
     "Chips": ["chip", "schedule", "top", "flow"],
-    "Start, watch, diagnose": ["access", "sdc", "bitmap", "share", "vhdl"],
+    "Start, watch, diagnose": ["access", "sdc", "bitmap", "diagnosis", "share", "vhdl"],
     "Handing it on": ["release", "make"],
     "What the repository itself uses": INNER,
-}
-# the commands in a line; of a tool its own first sentence says it
-SHORT = {
-    "judge": "which primitives of a list a march covers, with an escape for each that it doesn't",
-    "decoder": "which faults of the address decoder a march covers, with an escape for each that it doesn't",
-    "linked": "which linked faults a march covers, with an escape for each that it doesn't",
-    "compile": "the self-test module of a march and a memory, and that verdict",
-    "inword": "which primitives a test detects between two bits of one word, with an escape for each that it doesn't",
-    "bench": "that module, clocked beside a sound memory",
-    "sim": "a march on one array with one instance of a primitive",
-    "vectors": "what a self-test does at the memory's port, command by command",
-    "benchfault": "the module beside a memory with one planted fault",
-    "benchall": "the module beside each memory that the program has",
-    "check": "whether a module issues the march on the memory, in every run at once",
-    "benchfile": "a module of yours, clocked beside a memory",
-    "chip": "one test of several memories, under a budget of power",
-    "make": "a large input, written and compiled",
 }
 
 
@@ -54,16 +37,17 @@ def doc_of(tool: str) -> str:
 
 
 def line_of(name: str) -> str:
-    """What a command or a tool is for, in a line."""
-    if name in SHORT:
-        return SHORT[name]
+    """What a command or a tool is for, in a line. Of a tool its own first sentence says it."""
+    purpose = next((command.purpose for command in command_table() if command.name == name), None)
+    if purpose is not None:
+        return purpose
     first = " ".join(doc_of(name).split("\n\n")[0].split()) if name in tools() else ""
     return first[:1].lower() + first[1:].rstrip(".") if first[1:2].islower() or first[1:2] == " " else first.rstrip(".")
 
 
 def by_task() -> list[tuple[str, list[str]]]:
     """The names of all commands and tools that are here; what no task names comes last."""
-    known = [*(command.name for command in commands()), *tools()]
+    known = [*(command.name for command in command_table()), *tools()]
     listed = [(title, [name for name in names if name in known]) for title, names in TASKS.items()]
     named = {name for _, names in listed for name in names}
     rest = [name for name in known if name not in named]
