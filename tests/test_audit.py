@@ -6,11 +6,15 @@ import pathlib
 import tempfile
 import unittest
 from typing import Any
+from unittest import mock
 
-from vidlakost_tools import audit_pins, clock_tree, lanes, yosys
+from vidlakost_tools import audit_pins, clock_tree, fail_search, lanes, model_checker, splits, yosys
 from vidlakost_tools.audit_pins import Pin, Pins
 from vidlakost_tools.audit_random import agree
 from vidlakost_tools.audit_wave import code_of, shown, write_save
+from vidlakost_tools.cuts import least_cut
+from vidlakost_tools.front_end import Plain
+from vidlakost_tools.gates import Machine
 from vidlakost_tools.tool import ToolError
 from vidlakost_tools.vhdl import literal_of, placed, with_defaults
 from vidlakost_tools.words import NotWords, Writer
@@ -161,8 +165,8 @@ class Lanes(unittest.TestCase):
         self.assertEqual(lanes.lay(0b11010, 3, 0b11, True), 0b11010)
 
     def test_lane_of_a_bit_is_wrong(self) -> None:
-        self.assertEqual(lanes.given(1, 0b100), (1, 0b100))
-        self.assertEqual(lanes.given(0, 0b100), (0b100, 1))
+        self.assertEqual(lanes.given(1, 1, 0b100), (1, 0b100))
+        self.assertEqual(lanes.given(0, 1, 0b100), (0b100, 1))
 
     def test_fail_that_rises_behind_right_answers_is_found_apart(self) -> None:
         class Late:
@@ -181,6 +185,76 @@ class Lanes(unittest.TestCase):
         start: tuple[int, list[Any]] = (0, [])
         found = lanes.run_slice(Late(), plan, [2], start, lanes.Clock(60))  # type: ignore[arg-type]
         self.assertEqual((found.kind, found.cycle, found.got, found.answer), ("differs", 5, "1", None))
+
+
+class Toggles:
+    """A machine that notes wrong words, those with a bit at 1, in `twice`, which turns with each, and in `once`, which stays: its
+    `fail` is `twice | ~twice & once`, so that three values lose what two tell; or by a wrong gate `twice` alone."""
+
+    def __init__(self, is_wrong: bool = False):
+        rdata, reset, going, hit, twice, once, turned, kept, held, next_twice, next_once, other, fail = range(2, 15)
+        gates = {
+            "going": cell("$_NOT_", A=[reset], Y=[going]),
+            "hit": cell("$_AND_", A=[rdata], B=[going], Y=[hit]),
+            "turned": cell("$_XOR_", A=[twice], B=[hit], Y=[turned]),
+            "kept": cell("$_OR_", A=[once], B=[hit], Y=[kept]),
+            "next_twice": cell("$_AND_", A=[turned], B=[going], Y=[next_twice]),
+            "next_once": cell("$_AND_", A=[kept], B=[going], Y=[next_once]),
+            "twice": cell("$_DFF_P_", D=[next_twice], C=[99], Q=[twice]),
+            "once": cell("$_DFF_P_", D=[next_once], C=[99], Q=[once]),
+            "held": cell("$_AND_", A=[once], B=[twice if is_wrong else other], Y=[held]),
+            "other": cell("$_NOT_", A=[twice], Y=[other]),
+            "fail": cell("$_OR_", A=[twice], B=[held], Y=[fail]),
+        }
+        ports = {"rdata": port("input", rdata), "reset": port("input", reset), "fail": port("output", fail)}
+        self.machine = Machine({**module(gates, **ports), "netnames": {"twice": net(twice), "once": net(once)}}, ("fail",))
+        self.hit = hit
+        self.plain = Plain("m", [], [], [], [], [], {}, None)
+        # a word comes in every cycle that is looked at
+        self.plan = lanes.Plan({cycle: 0 for cycle in range(1, 80)}, 4, 1, first=1)
+
+
+class Splits(unittest.TestCase):
+    def test_what_three_values_lose_is_split(self) -> None:
+        case = Toggles()
+        self.assertEqual(lanes.look_at(case.machine, case.plan, lanes.Clock(60)).got, "open")
+        split = splits.look_at(case.machine, case.plan, case.plain, lanes.Clock(60))
+        assert split is not None
+        self.assertEqual((split.found.kind, split.found.cycle, split.states), ("exact", -1, 3))
+
+    def test_a_history_in_which_it_is_wrong(self) -> None:
+        case = Toggles(is_wrong=True)
+        told = fail_search.look_at(case.machine, case.plan, case.plain, lanes.Clock(60))
+        self.assertEqual(told.found.line(), "fail is 0 in cycle 3 though bit 0 of the answer of cycle 1 is wrong")
+        self.assertEqual(told.history, "  so with rdata 1 in cycle 1, 1 in cycle 2, 0 in cycle 3, and 0 where nothing was read")
+
+    def test_words_of_the_model_checker(self) -> None:
+        rows = ["  Time Signal Name  Dec  Hex  Bin"]
+        for step, word in ((1, 0), (2, 0xFFFFFFFF)):
+            number = word - (1 << 32) if word >> 31 else word
+            rows += [f"  {step} \\ok   {2 - step}   {2 - step}    {2 - step}", f"  {step} \\rdata   {number}   {word:x}   {word:032b}"]
+        with tempfile.TemporaryDirectory() as name, mock.patch.object(yosys, "run", return_value=rows):
+            found = model_checker.differs_within(3, "", pathlib.Path(name))
+        assert found is not None
+        self.assertEqual((found.cycle, found.words), (1, [0, 0xFFFFFFFF]))
+        told = model_checker.wrong_at(lanes.Plan({0: 0, 1: 3}, 4, 32), found)
+        self.assertEqual((told.wanted, told.answer, told.bit), (0, 1, 2))
+
+    def test_cut_is_as_near_as_can_be(self) -> None:
+        case = Toggles()
+        self.assertEqual(least_cut(case.machine, case.machine.words, case.machine.results[0]), [case.hit])
+        self.assertEqual(least_cut(case.machine, [77], case.machine.results[0]), [])
+
+    def test_cases_side_by_side(self) -> None:
+        cases = splits.Cases([0, 1, 2], [5, 6, 7], [(0b011, 0b100), (0b110, 0b000)])
+        some = cases.picked(0b101)
+        self.assertEqual((some.ages, some.origins, some.columns), ([0, 2], [5, 7], [(0b01, 0b10), (0b10, 0b00)]))
+        both = some.with_more(some)
+        self.assertEqual((both.columns, both.distinct().columns), ([(0b0101, 0b1010), (0b1010, 0)], some.columns))
+
+    def test_lowest_and_highest_wrong_bit(self) -> None:
+        self.assertEqual([lanes.Side.LOWEST.lanes(bit, 3) for bit in range(3)], [0b110, 0b100, 0])
+        self.assertEqual([lanes.Side.HIGHEST.lanes(bit, 3) for bit in range(3)], [0, 0b001, 0b011])
 
 
 class Texts(unittest.TestCase):
@@ -210,7 +284,7 @@ class Texts(unittest.TestCase):
         typed = "typedef struct packed { logic [1:0] a; } t; t s;"
         with tempfile.TemporaryDirectory() as name:
             source = pathlib.Path(name) / "a.v"
-            for text in ("(* \\wand *) wire a;", "(* a = (1), wor *) wire a;", "(* hierconn *) wire \\u.x ;", f"{typed} assign b = s.a[i];", f"{typed} x = |s.a [i +: 2];", f"{typed} x = s.a[2];", f"{typed} x = |s.a[2:1];", "struct packed { logic [W-1:0] w; } s; x = s.w[1];", "struct packed { logic [3:1] w; } s; x = s.w[0];", f"{typed} logic [W:0] a; x = s.a[1]; // [9:0] a"):
+            for text in ("(* \\wand *) wire a;", "(* a = (1), wor *) wire a;", "(* hierconn *) wire \\u.x ;", f"{typed} x = s.a[2];", f"{typed} x = |s.a[2:1];", "struct packed { logic [W-1:0] w; } s; x = s.w[1];", "struct packed { logic [3:1] w; } s; x = s.w[0];", f"{typed} logic [W:0] a; x = s.a[1]; // [9:0] a"):
                 source.write_text(text)
                 with self.assertRaises(ToolError, msg=text):
                     yosys.asked([str(source)])

@@ -1,10 +1,14 @@
 """Sources that can mean two things, by themselves: `PYTHONPATH=tools python3 -m unittest discover tests`."""
 from __future__ import annotations
 
+import pathlib
+import shutil
+import tempfile
 import unittest
 from typing import Any
+from unittest import mock
 
-from vidlakost_tools import simulation, two_meanings, yosys
+from vidlakost_tools import known_cells, members, simulation, two_meanings, yosys
 from vidlakost_tools.tool import ToolError
 
 CASE = """module \\m
@@ -88,6 +92,24 @@ class Writers(unittest.TestCase):
         self.assertIn("two blocks", self.told(writer(0, "", "0", 5), writer(1, "0", 8, 9), lane=lane))
 
 
+class Words(unittest.TestCase):
+    def told(self, address: list[Any]) -> list[str]:
+        read = {
+            "type": "$memrd",
+            "parameters": {"MEMID": "\\m"},
+            "attributes": {"src": "m.v:4"},
+            "connections": {"ADDR": address},
+        }
+        memories = {"m": {"size": 5, "start_offset": 2}}
+        return list(two_meanings.beyond_words({"cells": {"one": read}, "memories": memories}))
+
+    def test_address_with_more_bits_than_the_last_word(self) -> None:
+        self.assertEqual(self.told([2, 3, 4]), [])
+        self.assertEqual(self.told([2, 3, 4, "0", "0"]), [])
+        why = "'m' (m.v:4): an address beyond its 5 words is cut to 3 bits; a simulator reads an x there, and writes nothing"
+        self.assertEqual(self.told([2, 3, 4, 5]), [why])
+
+
 class Drivers(unittest.TestCase):
     def test_cells_that_can_be_off(self) -> None:
         pin = 'pin(Y) { function : "!A"; three_state : "E"; }'
@@ -100,6 +122,89 @@ class Drivers(unittest.TestCase):
         for module in ("\\b", "$paramod\\b\\W=s32'1", "$paramod$0f\\b"):
             with self.assertRaisesRegex(ToolError, "'f':4: notif0"):
                 two_meanings.refuse_off_gates("f", text, f"module {module}\nend\n")
+
+
+class KnownCells(unittest.TestCase):
+    MODELS = """`define INIT initial Q = 0;
+`ifndef NONE
+`define ONE = 1'b1
+`define V(v) = v
+`else
+`define ONE
+`endif
+(* whitebox *)
+module SB_DFFE (output reg Q, input C, input E `ONE, input D `V(1'b0));
+  `INIT
+  always @(posedge C) if (E) Q <= D;
+`ifdef TIMES
+`ifndef YOSYS
+  specify endspecify
+`else
+  wrong
+`endif
+`elsif OTHER
+  wrong
+`endif
+endmodule
+"""
+
+    def test_models_without_times_and_initial_values(self) -> None:
+        found = known_cells.models(self.MODELS)["SB_DFFE"].splitlines()
+        head = "module SB_DFFE (output reg Q, input C, input E = 1'b1, input D = 1'b0);"
+        self.assertEqual(found, [head, "  ", "  always @(posedge C) if (E) Q <= D;", "endmodule"])
+
+    def test_other_family(self) -> None:
+        self.assertEqual(known_cells.cells_of({}, ["SB_LUT4"]), "")
+        with self.assertRaisesRegex(ToolError, "--cells knows ice40"):
+            known_cells.cells_of({"--cells": "ecp5"}, [])
+
+
+class Members(unittest.TestCase):
+    TYPE = "typedef struct packed { logic [2:0] a; logic [3:0] b, c; } pair;\n"
+
+    def told(self, body: str, before: str = TYPE) -> tuple[str, list[str]]:
+        text = f"{before}module m;\n{body}\nendmodule\n"
+        found, said = members.rewritten("m.sv", text, text, members.Sources(text))
+        return "\n".join(found.split("\n")[before.count("\n") + 1 : -1]), said
+
+    def test_part_that_is_read_is_one_of_a_word_of_its_own(self) -> None:
+        text, said = self.told("assign y = x.b[i + 3'd1];")
+        function = "function automatic vidlakost_part_0(input [3:0] word, input [63:0] at); vidlakost_part_0 = word[at]; endfunction"
+        self.assertEqual(text, f"assign y = vidlakost_part_0(x.b, $unsigned(i + 3'd1));\n{function} endmodule")
+        self.assertEqual(said, ["'m.sv':3: x.b[i + 3'd1] is read as a part of a word of its own, beyond which it is open"])
+        for right in ("always_comb if (x.c[i]) y = 1;", "always @* y = {x.a[j], x.c[i +: 2]};", "always_ff @(posedge c) y <= p.x.a[i[1:0]];"):
+            self.assertEqual(len(self.told(right)[1]), right.count("x."), right)
+        self.assertEqual(self.told("assign y = x.a[1] & x.b[3:2];")[1], [])
+
+    def test_what_is_written_or_unknown_is_refused(self) -> None:
+        for wrong in (
+            "always_ff @(posedge c) x.b[i] <= v;", "assign x.b[i] = v;", "assign {y, x.b[i]} = v;", "sub u(.o(x.b[i]));",
+            "always_comb if (a <= 1) x.b[i] = 1;", "always_comb for (int k = 0; k < 3; k = k + 1) x.b[k] = 1;", "sub u(x.b[i]);",
+            "always_comb begin if (a) y = 1; else x.b[i] = 1; end", "always_comb case (a) 1: y = 1; 2: x.b[i] = 1; endcase",
+            "assign y = x.b[i +: W];", "assign y = q[1].b[i];", "assign y = x.b[i:0];", "assign y = x.b[0][i];", "assign y = x.b[x.a[i]];",
+            "wire [9:0] b; assign y = u.b[i];", "wire signed [2:0] i; assign y = x.b[i];", "assign y = x.d[i];",
+        ):
+            with self.assertRaisesRegex(ToolError, "'m.sv':3: a part of a structure's member", msg=wrong):
+                self.told(wrong)
+
+
+class Bounds(unittest.TestCase):
+    ENDLESS = "module m(input clk);\n  genvar i;\n  generate for (i = 0; i < 1; i = i + 0) begin : g wire a; end endgenerate\nendmodule\n"
+
+    @unittest.skipUnless(shutil.which("yosys"), "Yosys is not installed")
+    def test_loop_without_end_ends(self) -> None:
+        with tempfile.TemporaryDirectory() as name, mock.patch.object(yosys, "SECONDS", 2.0):
+            source = pathlib.Path(name) / "endless.v"
+            source.write_text(self.ENDLESS)
+            with self.assertRaisesRegex(yosys.Slow, r"longer than 2 seconds \(.*\), and was ended; a loop without end"):
+                yosys.read([str(source)], {}, pathlib.Path(name))
+
+    def test_last_step_of_a_log(self) -> None:
+        with tempfile.TemporaryDirectory() as name:
+            log = pathlib.Path(name) / "log"
+            self.assertEqual(yosys.how_far(log), "")
+            log.write_text("1. Executing PROC pass.\n\nSolving problem with 3 variables and 4 clauses..\n x\n")
+            self.assertEqual(yosys.how_far(log), "Solving problem with 3 variables and 4 clauses")
 
 
 class Unclosed(unittest.TestCase):

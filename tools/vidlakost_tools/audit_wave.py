@@ -9,7 +9,7 @@ from vidlakost_tools.files import is_own, summed
 from vidlakost_tools.front_end import Plain
 from vidlakost_tools.gates import Machine, gates_of
 from vidlakost_tools.memory import Memory
-from vidlakost_tools.tool import write_whole
+from vidlakost_tools.tool import progress, write_whole
 
 PORTS = ("en", "we", "addr", "wdata", "done", "fail")
 # so many cycles before the one that was found, and behind it
@@ -58,7 +58,7 @@ def runs_of(plain: Plain, commands: list[Any], memory: Memory, last: int) -> Ite
     bits = [bit for found in names.values() for _, bit in sorted(found, key=lambda pair: pair[0])]
     step = machine.compiled([*machine.results, *bits])
     state, opens = [(0, 0)] * len(machine.registers), [(0, 0)] * len(machine.words)
-    for cycle in range(last + 1):
+    for cycle in progress(range(last + 1), "the waveform is written"):
         state, told = step(state, [*opens, (1, 0) if cycle == 0 else (0, 1)], 1)
         words, place = {}, 0
         sizes = [(f"ports.{port}", len(module["ports"][port]["bits"])) for port in PORTS]

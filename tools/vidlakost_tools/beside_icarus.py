@@ -18,7 +18,7 @@ from vidlakost_tools.text import shown
 from vidlakost_tools.tool import ToolError, telling
 from vidlakost_tools.verilog import ranged
 from vidlakost_tools.vhdl import is_vhdl
-from vidlakost_tools.yosys import blanked, with_included
+from vidlakost_tools.yosys import blanked, with_included, with_members
 
 CYCLES = 2000
 SECONDS = 120
@@ -63,6 +63,10 @@ BENCH = """module vidlakost_beside;
       answers[1] = made_en === 1 && made_we === 0 ? kept[made_addr] : {{$urandom, $urandom}};
       if (made_en === 1 && made_we === 1) kept[made_addr] = made_wdata;
       clk = 1;
+      if (cycle % 100 == 99) begin
+        $display("at %0d", cycle + 1);
+        $fflush;
+      end
       #1;
       #4 clk = 0;
       #1;
@@ -76,12 +80,14 @@ endmodule
 
 @dataclasses.dataclass
 class Beside:
-    """What is clocked: the files of the sources, the module made of them, its pins and the memory."""
+    """What is clocked: the files of the sources, the module made of them, its pins and the memory, and the models of known
+    cells."""
 
     files: list[str]
     plain: Plain
     pins: Pins | None
     memory: Memory
+    cells: str = ""
 
     def dut_pins(self) -> str:
         """The pins of the sources' top."""
@@ -151,14 +157,21 @@ def refuse_sources(files: list[str], libraries: list[str]) -> None:
             raise ToolError(f"{shown(file)}:{source.count(chr(10), 0, found.start()) + 1}: {found[0]} would reach beyond a simulation", 1)
 
 
+def how_far(out: pathlib.Path) -> str:
+    """The cycle at which a run is."""
+    found = re.findall(r"^at (\d+)$", out.read_text(encoding="utf-8", errors="replace"), re.MULTILINE)
+    return f"cycle {found[-1]} of {CYCLES}" if found else ""
+
+
 def call(words: list[str], folder: pathlib.Path) -> tuple[int, str]:
     """The status and the words of a program that may change this folder alone."""
-    with confined.holds(folder) as hold, telling("Icarus is at work"):
+    out = folder / "out"
+    with confined.holds(folder) as hold, open(out, "wb") as file, telling("Icarus is at work", lambda: how_far(out)):
         try:
             done = subprocess.run(
                 words,
                 stdin=subprocess.DEVNULL,
-                stdout=subprocess.PIPE,
+                stdout=file,
                 stderr=subprocess.STDOUT,
                 timeout=SECONDS,
                 env={**os.environ, "TMPDIR": str(folder)},
@@ -167,7 +180,8 @@ def call(words: list[str], folder: pathlib.Path) -> tuple[int, str]:
             )
         except subprocess.TimeoutExpired as error:
             raise ToolError(f"Icarus took longer than {SECONDS} seconds, and was ended", 1) from error
-    return done.returncode, done.stdout.decode("utf-8", "replace").replace(f"{folder}/", "")
+    said = out.read_bytes().decode("utf-8", "replace")
+    return done.returncode, re.sub(rf"{re.escape(str(folder))}/(?:given\d+/)?", "", said)
 
 
 def beside(asked: Beside) -> str:
@@ -176,14 +190,17 @@ def beside(asked: Beside) -> str:
         folder = pathlib.Path(name)
         made = dataclasses.replace(asked.plain, name="vidlakost_made")
         (folder / "made.v").write_text(made.text(), encoding="utf-8")
+        # Icarus reads no number that a port has where nothing is connected; x it is then
+        (folder / "cells.v").write_text(re.sub(r"(\binput \w+) = 1'b[01]", r"\1", asked.cells), encoding="utf-8")
         same = asked.same()
-        files = [os.path.abspath(file) for file in asked.files]
-        places = [f"-I{place}" for place in dict.fromkeys([os.getcwd(), *(os.path.dirname(file) for file in files)])]
+        copies, _ = with_members(asked.files, folder)
+        files = [os.path.abspath(file) for file in copies]
+        places = [f"-I{place}" for place in dict.fromkeys([os.getcwd(), *(os.path.dirname(os.path.abspath(file)) for file in asked.files)])]
         words = ["iverilog", "-g2012", "-s", "vidlakost_beside", *places, "-o", str(folder / "run")]
         for _ in range(20):
             text = asked.bench(same)
             (folder / "bench.v").write_text(text, encoding="utf-8")
-            status, said = call([*words, str(folder / "bench.v"), str(folder / "made.v"), *files], folder)
+            status, said = call([*words, *(str(folder / part) for part in ("bench.v", "made.v", "cells.v")), *files], folder)
             lines = {int(number) for number in re.findall(r"^bench\.v:(\d+): ", said, re.MULTILINE)}
             unknown = {line for number, line in enumerate(text.split("\n"), 1) if number in lines} & set(same)
             if status == 0 or not unknown:

@@ -4,7 +4,7 @@ from __future__ import annotations
 
 import pathlib
 import tempfile
-from typing import Any, Callable
+from typing import Any, Callable, Sequence
 
 from vidlakost_tools import yosys
 from vidlakost_tools.front_end import OPEN_X, SIMPLER, Plain
@@ -112,20 +112,36 @@ class Machine:
                 found.update({bit: (name, index, len(said["bits"])) for index, bit in enumerate(said["bits"])})
         return found
 
-    def compiled(self, results: list[Any]) -> Callable[..., Any]:
-        """A function of the registers, the inputs and all lanes to the registers behind the edge and the results."""
-        self.known = {*self.order, *self.registers, *self.inputs}
-        lines = ["def step(state, inputs, full):"]
+    def compiled(self, results: list[Any], split: Sequence[Any] = ()) -> Callable[..., Any]:
+        """A function of the registers, the inputs and all lanes to the registers behind the edge and the results. Of each bit that
+        is split it takes two more masks, the lanes in which it is 1 and those in which it is 0 where it is open, and answers the
+        lanes in which it is open even so."""
+        self.known = {*self.order, *self.registers, *self.inputs, *split}
+        lines = ["def step(state, inputs, full, force=()):"]
         for bits, name in ((self.registers, "state"), (self.inputs, "inputs")):
             if bits:
                 lines.append(f"  ({''.join(f'(a{bit}, b{bit}), ' for bit in bits)}) = {name}")
+        order = set(self.order)
+        free = [bit for bit in split if bit not in order]
+        lines += [f"  a{bit} = b{bit} = 0" for bit in free if bit not in {*self.registers, *self.inputs}]
+        lines += [line for bit in free for line in forced(bit, split.index(bit))]
         for bit in self.order:
             one, zero = self.gate(self.driver[bit])
             lines.append(f"  a{bit} = {one}; b{bit} = {zero}")
+            lines += forced(bit, split.index(bit)) if bit in split else []
         after = [self.pair(self.driver[bit]["connections"]["D"][0]) for bit in self.registers]
         told = ["[" + "".join(f"({one}, {zero}), " for one, zero in pairs) + "]" for pairs in (after, map(self.pair, results))]
-        lines.append(f"  return {told[0]}, {told[1]}")
+        opens = "[" + "".join(f"u{bit}, " for bit in split) + "]"
+        lines.append(f"  return {told[0]}, {told[1]}" + (f", {opens}" if split else ""))
         made: dict[str, Any] = {}
         exec("\n".join(lines), made)  # names and marks of this module alone, made from numbers of bits
         step: Callable[..., Any] = made["step"]
         return step
+
+
+def forced(bit: object, place: int) -> list[str]:
+    """The lines by which a bit that is open becomes what the masks at a place say."""
+    return [
+        f"  u{bit} = full & ~(a{bit} | b{bit}); a{bit} |= u{bit} & force[{place}][0]; b{bit} |= u{bit} & force[{place}][1]",
+        f"  u{bit} &= ~(a{bit} | b{bit})",
+    ]

@@ -211,6 +211,21 @@ def may_be_one(module: dict[str, Any], driver: dict[object, tuple[str, int]], bi
     return False
 
 
+def beyond_words(module: dict[str, Any]) -> Iterator[str]:
+    """What there is to warn of where an address has more bits than the number of a memory's last word: it is cut to these. With
+    fewer bits too it may lie beyond the words, and then it is open."""
+    memories = {f"\\{name}": said for name, said in module.get("memories", {}).items()}
+    for cell in module["cells"].values():
+        said = memories.get(cell["parameters"].get("MEMID", "")) if re.match(r"\$mem(rd|wr)", cell["type"]) else None
+        if said is None:
+            continue
+        bits = (said["start_offset"] + said["size"] - 1).bit_length()
+        if any(bit != "0" for bit in cell["connections"].get("ADDR", [])[bits:]):
+            name = shown(cell["parameters"]["MEMID"].lstrip(chr(92)))
+            why = f"an address beyond its {said['size']} words is cut to {bits} bits"
+            yield f"{name} ({where(cell)}): {why}; a simulator reads an x there, and writes nothing"
+
+
 # ---- drivers that can be off
 
 CAN_BE_OFF = "a driver that can be off is outside the subset; a multiplexer says which driver is taken"

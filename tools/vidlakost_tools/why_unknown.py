@@ -8,6 +8,7 @@ from typing import Any
 
 from vidlakost_tools.front_end import Plain
 from vidlakost_tools.gates import Machine
+from vidlakost_tools.tool import progress
 
 # so many values are kept at most of a run
 KEPT = 8_000_000
@@ -28,7 +29,7 @@ def values_of(machine: Machine, words: dict[int, list[tuple[int, int]]], last: i
     state = [(0, 0)] * len(machine.registers)
     nothing = [(0, 0)] * len(machine.words)
     kept: collections.deque[Any] = collections.deque(maxlen=max(256, KEPT // max(1, len(bits))))
-    for cycle in range(last + 1):
+    for cycle in progress(range(last + 1), "what it hangs on is looked for"):
         state, told = step(state, [*words.get(cycle, nothing), (1, 0) if cycle == 0 else (0, 1)], 1)
         pairs = list(zip(bits, told))
         opens = {bit for bit, (one, zero) in pairs if not one and not zero}
@@ -92,6 +93,23 @@ class Search:
             else:
                 todo += [(here, operand, way) for operand in self.operands(bit, here)]
         return [f"{end}{' by way of ' + ' <- '.join(way) if len(way) > 1 else ''}" for end, way in found.items()]
+
+    def ends(self, bit: object, cycle: int) -> set[Any]:
+        """The bits on which an open one hangs that hang on nothing before them."""
+        todo, seen, found = [(cycle, bit)], set(), set()
+        while todo:
+            here, bit = todo.pop()
+            if (here, bit) in seen:
+                continue
+            seen.add((here, bit))
+            cell = self.machine.driver.get(bit)
+            if self.end(here, bit, ""):
+                found.add(bit)
+            elif cell is not None and self.machine.is_register(cell):
+                todo.append((here - 1, cell["connections"]["D"][0]))
+            else:
+                todo += [(here, operand) for operand in self.operands(bit, here)]
+        return found
 
     def end(self, cycle: int, bit: object, name: str | None) -> str | None:
         """What is told of a bit that hangs on nothing before it."""

@@ -6,11 +6,12 @@ import json
 import os
 import pathlib
 import re
+import resource
 import shutil
 import subprocess
 from typing import Any, Mapping
 
-from vidlakost_tools import simulation, two_meanings, unread
+from vidlakost_tools import known_cells, members, simulation, two_meanings, unread
 from vidlakost_tools.text import LARGE_BYTES, SOURCE_BYTES, Path, lines_of, read_bytes, shown
 from vidlakost_tools.tool import ToolError, identifier, telling
 from vidlakost_tools.vhdl import is_vhdl
@@ -52,15 +53,59 @@ def libraries_of(options: Mapping[str, Any]) -> str:
     return "".join(f"read_liberty -ignore_miss_func {sources_of([file])}\n" for file in options.get("--liberty", []))
 
 
-def run(script: str, folder: pathlib.Path, *flags: str) -> list[str]:
-    """The lines that Yosys says of a script; where it fails its error is told, with the warnings before it."""
-    file = folder / "script.ys"
+class Slow(ToolError):
+    """Yosys took longer than it may."""
+
+
+# how long a script may take, and how many bytes of memory
+SECONDS = 300.0
+MEMORY = 4 << 30
+# what a log says of the step at which it is
+AT = re.compile(r"(Executing|Generating|Importing|Setting up|Solving|Parsing|Optimizing|Running|Finding|Mapping) [^\n]*")
+
+
+def how_far(log: pathlib.Path) -> str:
+    """The step at which a log is."""
+    try:
+        with open(log, "rb") as file:
+            file.seek(max(0, os.path.getsize(log) - 65536))
+            text = file.read().decode("utf-8", "replace")
+    except OSError:
+        return ""
+    last = [match[0] for match in AT.finditer(text)][-1:]
+    return last[0].rstrip(".:").replace(f"{log.parent}/", "")[:120] if last else ""
+
+
+def bounded() -> None:
+    """Bounds the memory of a program that begins."""
+    resource.setrlimit(resource.RLIMIT_AS, (MEMORY, resource.getrlimit(resource.RLIMIT_AS)[1]))
+
+
+def run(script: str, folder: pathlib.Path, *flags: str, seconds: float | None = None) -> list[str]:
+    """The lines that Yosys says of a script; where it fails its error is told, with the warnings before it. It is ended when it
+    takes too long."""
+    file, log = folder / "script.ys", folder / "log"
     file.write_text(script)
-    words = ["yosys", *flags, "-s", str(file)]
-    with telling("Yosys is at work"):
-        done = subprocess.run(words, stdin=subprocess.DEVNULL, stdout=subprocess.PIPE, stderr=subprocess.STDOUT, check=False)
+    bound = seconds or SECONDS
+    with telling("Yosys is at work", lambda: how_far(log)):
+        try:
+            done = subprocess.run(
+                ["yosys", *flags, "-L", str(log), "-s", str(file)],
+                stdin=subprocess.DEVNULL,
+                stdout=subprocess.PIPE,
+                stderr=subprocess.STDOUT,
+                timeout=bound,
+                preexec_fn=bounded,
+                check=False,
+            )
+        except subprocess.TimeoutExpired as error:
+            why = "a loop without end in the sources would look so"
+            raise Slow(f"Yosys took longer than {bound:g} seconds ({how_far(log)}), and was ended; {why}", 1) from error
     # what a reader can't find says nothing to him
-    lines = [line.replace(f"{folder}/", "") for line in lines_of(done.stdout.decode("utf-8", "replace"))]
+    lines = [re.sub(rf"{re.escape(str(folder))}/(?:given\d+/)?", "", line) for line in lines_of(done.stdout.decode("utf-8", "replace"))]
+    if done.returncode and any("bad_alloc" in line for line in lines[-9:]):
+        why = "a loop without end in the sources would look so"
+        raise Slow(f"Yosys took more than {MEMORY >> 30} GB of memory ({how_far(log)}), and was ended; {why}", 1)
     if done.returncode:
         errors = [line for line in lines if "ERROR" in line] or lines[-1:] or ["no reason is given"]
         raise ToolError("\n".join([f"yosys refuses it: {errors[0]}", *warnings_in(lines)]), 1)
@@ -296,6 +341,31 @@ module far(A, B, Y);
   assign Y = |(B >> 31) ? {Y_WIDTH{fill}} : near;
 endmodule
 """
+# What is divided by 0 is open. The cell itself stays, so that the pass goes over each once.
+BY_ZERO = """(* techmap_celltype = "$div $mod $divfloor $modfloor" *)
+module by_zero(A, B, Y);
+  parameter A_SIGNED = 0;
+  parameter B_SIGNED = 0;
+  parameter A_WIDTH = 1;
+  parameter B_WIDTH = 1;
+  parameter Y_WIDTH = 1;
+  parameter _TECHMAP_CELLTYPE_ = "";
+  input [A_WIDTH-1:0] A;
+  input [B_WIDTH-1:0] B;
+  output [Y_WIDTH-1:0] Y;
+  wire [B_WIDTH-1:0] one = |B ? B : 1;
+  wire [Y_WIDTH-1:0] word, open;
+  \\$anyseq #(.WIDTH(Y_WIDTH)) opens(.Y(open));
+  generate
+{cells}
+  endgenerate
+  assign Y = |B ? word : open;
+endmodule
+"""
+DIVIDED = """    if (_TECHMAP_CELLTYPE_ == "{kind}")
+      \\{kind} #(.A_SIGNED(A_SIGNED), .B_SIGNED(B_SIGNED), .A_WIDTH(A_WIDTH), .B_WIDTH(B_WIDTH), .Y_WIDTH(Y_WIDTH))
+        words(.A(A), .B(one), .Y(word));"""
+DIVISIONS = ("$div", "$mod", "$divfloor", "$modfloor")
 
 
 @dataclasses.dataclass
@@ -324,9 +394,6 @@ ASKED = re.compile(r"\b(YOSYS|SYNTHESIS)\b", re.ASCII)
 ATTRIBUTES = re.compile(r"\(\*(?!\s*\)).*?(?:\*\)|\Z)", re.DOTALL)
 ATTRIBUTE = re.compile(r"\b(defaultvalue|wand|wor|hierconn|via_celltype|wildcard_port_conns)\b")
 STRUCTURE = re.compile(r"\b(struct|union)\b")
-# a bit or a part of a member, whose place is no number
-MEMBER = re.compile(r"[\w\])]\s*\.\s*\w+\s*\[[^\]:]*[A-Za-z_]")
-BEYOND_MEMBER = "a part of a structure's member, beyond which Yosys takes another member's bit"
 SELECTED = re.compile(r"\.\s*(\w+)\s*\[([^\]]*)\]")
 # a name behind a backslash; and without one a name of the system or of something elsewhere
 ESCAPED = re.compile(r"\\([!-~]+)")
@@ -422,13 +489,6 @@ def opened(folder: pathlib.Path) -> list[str]:
     return [re.sub(r"\\ ", " ", name) for name in re.split(r"(?<!\\) ", listed.partition(": ")[2]) if name]
 
 
-def refuse_found(pattern: re.Pattern[str], sources: list[tuple[str, str]], why: str) -> None:
-    """Refuses sources in which this stands, with its place."""
-    for file, source in sources:
-        for match in (match for text in blanked(source) for match in pattern.finditer(text)):
-            raise ToolError(f"{shown(file)}:{source.count(chr(10), 0, match.end()) + 1}: {why}", 1)
-
-
 def refuse_attributes(file: str, source: str) -> None:
     """Refuses attributes that mean something to Yosys alone, with their place."""
     for text in blanked(source):
@@ -449,8 +509,7 @@ def asked(files: list[str]) -> list[str]:
             raise ToolError(f"{shown(file)}: it names {shown(str(endless))}, which is no plain file, and may never end", 1)
     for file, source in sources:
         refuse_attributes(file, source)
-    if any(STRUCTURE.search(text) for _, source in sources for text in blanked(source)):
-        refuse_found(MEMBER, sources, BEYOND_MEMBER)
+    if has_structures(sources):
         for file, source in sources:
             refuse_members(file, source, "\n".join(text for _, other in sources for text in blanked(other)))
     for file, source in sources:
@@ -463,9 +522,13 @@ def asked(files: list[str]) -> list[str]:
     return list(dict.fromkeys(warnings))
 
 
+def has_structures(sources: list[tuple[str, str]]) -> bool:
+    return any(STRUCTURE.search(text) for _, source in sources for text in blanked(source))
+
+
 def refuse_members(file: str, source: str, whole: str) -> None:
-    """Refuses a bit or a part of a member that does not lie in each range with which the sources declare the name; where one of
-    these is no numbers, all but bit 0."""
+    """Refuses a bit or a part of a member, by numbers, that does not lie in each range with which the sources declare the name;
+    where one of these is no numbers, all but bit 0."""
     for text in blanked(source):
         for match in SELECTED.finditer(text):
             ends = [int(number) for number in re.findall(r"[0-9]+", match[2])]
@@ -473,8 +536,30 @@ def refuse_members(file: str, source: str, whole: str) -> None:
             declared = [re.fullmatch(r"\s*([0-9]+)\s*:\s*([0-9]+)\s*", one) for one in ranges]
             is_beyond = any(one and not int(one[2]) <= end <= int(one[1]) for one in declared for end in ends)
             is_open = any(ends) and (not declared or None in declared)
-            if is_beyond or is_open or not re.fullmatch(r"\s*[0-9]+\s*(?::\s*[0-9]+\s*)?", match[2]):
-                raise ToolError(f"{shown(file)}:{source.count(chr(10), 0, match.start()) + 1}: {BEYOND_MEMBER}", 1)
+            if re.fullmatch(r"[0-9\s:]+", match[2]) and (is_beyond or is_open):
+                raise ToolError(f"{shown(file)}:{source.count(chr(10), 0, match.start()) + 1}: {members.WHY}{members.INSTEAD}", 1)
+
+
+def with_members(files: list[str], folder: pathlib.Path) -> tuple[list[str], list[str]]:
+    """The sources, those in which a member's part has no number for its place as copies that say so in a way that Yosys reads as
+    a simulator does; and what there is to say of these."""
+    sources = with_included([file for file in files if not is_vhdl(file)])
+    if not has_structures(sources):
+        return files, []
+    given = {file: file for file in files}
+    told: list[str] = []
+    texts = members.Sources("\n".join(text for _, source in sources for text in blanked(source)))
+    for count, (file, source) in enumerate(sources):
+        both = [members.rewritten(file, source, text, texts) for text in blanked(source)]
+        text, found = both[0]
+        if found and (file not in given or both[1] != both[0]):
+            raise ToolError(f"{found[0].partition(' ')[0]} {members.WHY}{members.INSTEAD}", 1)
+        if found:
+            (folder / f"given{count}").mkdir()
+            copy = folder / f"given{count}" / pathlib.Path(file).name
+            copy.write_text(text, encoding="utf-8")
+            given[file], told = str(copy), told + found
+    return list(given.values()), told
 
 
 def refuse_one_name(file: str, source: str) -> None:
@@ -492,9 +577,14 @@ def read(files: list[str], options: Mapping[str, Any], folder: pathlib.Path) -> 
     """The sources; a signal with two drivers is refused."""
     asks = asked(files)
     given, raw, plain, first, parts = (folder / name for name in ("given.il", "raw.il", "plain.il", "first.il", "first.json"))
+    cells = known_cells.cells_of(options, [blanked(source)[0] for _, source in with_included(files)])
+    (folder / "cells.v").write_text(cells)
     # without -nodpi Yosys would run a function of C that a source names, in its own process; and a module with the name of one
     # of its cells would take the place of each such cell
-    reading = f"read_verilog -sv -icells -nodpi {sources_of(files)}\nwrite_rtlil {quoted(given)}\n{libraries_of(options)}"
+    copies, rewritten = with_members(files, folder)
+    more = [str(folder / "cells.v")] if cells else []
+    folders = " ".join(f"-I{quoted(place)}" for place in dict.fromkeys(os.path.dirname(file) or "." for file in files) if rewritten)
+    reading = f"read_verilog -sv -icells -nodpi {folders} {sources_of([*copies, *more])}\nwrite_rtlil {quoted(given)}\n{libraries_of(options)}"
     reading += f"select -assert-none $*\nhierarchy -check {top_of(options)}\n"
     try:
         said = run(f"{reading}write_rtlil {quoted(raw)}\n", folder, "-q", "-E", str(folder / OPENED))
@@ -522,17 +612,20 @@ def read(files: list[str], options: Mapping[str, Any], folder: pathlib.Path) -> 
         raise ToolError(twice, 1)
     # what is made of VHDL is no source of anybody's
     own = [(file, source) for file, source in with_included(files) if not is_in(folder, file)]
-    warnings = [*asks, *warnings_in(said)]
+    warnings = [*asks, *rewritten, *warnings_in(said)]
     warnings += [one for file, source in own for one in simulation.warnings_of(file, source, blanked(source)[0])]
+    warnings += dict.fromkeys(two_meanings.beyond_words(module))
     dropped = written_contents(module)
     if had or dropped:
         places = [place for file, source in own for place in simulation.initial_places(file, blanked(source)[0])]
         warnings.append("initial values are left out" + (f" ({', '.join(places[:4])})" if places else ""))
-    beyond, far = folder / "beyond.v", folder / "far.v"
+    beyond, far, zero = folder / "beyond.v", folder / "far.v", folder / "zero.v"
     beyond.write_text(BEYOND)
     far.write_text(FAR)
+    zero.write_text(BY_ZERO.format(cells="\n".join(DIVIDED.format(kind=kind) for kind in DIVISIONS)))
     script = f"{begin}{dropped}setattr -unset init w:*\n{OPEN}techmap -map {quoted(beyond)} t:$shiftx t:$shift\n"
-    script += f"techmap -map {quoted(far)} t:$shl t:$shr t:$sshl t:$sshr\ncheck -assert\n"
+    script += f"techmap -map {quoted(far)} t:$shl t:$shr t:$sshl t:$sshr\n"
+    script += f"techmap -max_iter 1 -map {quoted(zero)} {' '.join(f't:{kind}' for kind in DIVISIONS)}\ncheck -assert\n"
     return Sources(script, name, module, warnings, opened(folder))
 
 
