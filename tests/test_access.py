@@ -1,12 +1,13 @@
 """What stands round a self-test, as texts: ports, the register of the TAP, and which read a cycle is."""
 from __future__ import annotations
 
+import dataclasses
 import pathlib
 import re
 import tempfile
 import unittest
 
-from vidlakost_tools import access_block, signoff, standards, tap, tester, vhdl_text
+from vidlakost_tools import access_block, apb, log_window, signoff, standards, stil, tap, tester, vhdl_text
 from vidlakost_tools.access_block import Target, Unit
 from vidlakost_tools.fail_log import Entry, read_log
 from vidlakost_tools.march import elements_of
@@ -84,6 +85,33 @@ class Waits(unittest.TestCase):
             self.assertGreaterEqual(int(1e6 * float(said[1])) * mhz, cycles)
 
 
+class Stil(unittest.TestCase):
+    def setUp(self) -> None:
+        self.target = access_block.of_memory(memory(), 41)
+        self.text = stil.stil(self.target)
+
+    def test_the_vectors_come_back(self) -> None:
+        self.assertEqual(stil.read_vectors(self.text), list(stil.vectors(self.target)))
+
+    def test_what_is_spoilt_is_refused_or_another(self) -> None:
+        for old, new in (("STIL 1.0", "STIL 9"), ("tck + tms", "tms + tck"), ("P1", "Q1"), ("Loop 5 {", "Loop 5 "), ("\n}\n", "\n")):
+            with self.assertRaises(ToolError, msg=old):
+                stil.read_vectors(self.text[::-1].replace(old[::-1], new[::-1], 1)[::-1])
+        self.assertNotEqual(stil.read_vectors(self.text.replace("Loop 57", "Loop 56")), list(stil.vectors(self.target)))
+
+
+class LogWindow(unittest.TestCase):
+    def test_what_a_bus_has_without_a_log_and_with_one(self) -> None:
+        target = access_block.of_memory(memory(), 41)
+        with_log = dataclasses.replace(target, depth=3)
+        self.assertNotIn("log_", apb.block(target) + tap.block(target) + apb.table(target))
+        self.assertIn("is_there <= paddr[10:5] < 6'd3;", apb.block(with_log))
+        self.assertIn("LOG_CYCLE[3] @ 0x800 += 0x20;", apb.system_rdl(with_log))
+        self.assertIn('"LOG (1001), "', standards.bsdl(with_log))
+        self.assertEqual(log_window.places(with_log), {"valid": "0", "last": "1", "more": "2", "cycle": "34:3",
+                                                       "expected": "38:35", "returned": "42:39"})
+
+
 class Bits(unittest.TestCase):
     def test_the_units_of_the_bits_of_fail(self) -> None:
         self.assertEqual(tester.failing_units("0110", 4), [1, 2])
@@ -102,6 +130,12 @@ class Logs(unittest.TestCase):
     def test_entries_and_more(self) -> None:
         entries, more = self.read("note\ncycle 7 expected 0 returned 4\nread cycle 9 expected 5 returned D\nmore\n")
         self.assertEqual((entries, more), ([Entry(7, 0, 4), Entry(9, 5, 13)], True))
+
+    def test_a_log_behind_a_bus(self) -> None:
+        first = "fail 1 cycle 7 expected 0 returned 4\n"
+        self.assertEqual(self.read(first + "cycle 7 expected 0 returned 4\ncycle 9 expected 5 returned d\n")[0][1:], [Entry(9, 5, 13)])
+        with self.assertRaises(ToolError):
+            self.read("cycle 7 expected 0 returned 4\n" + first)
 
     def test_the_last_word_of_a_log_is_whole(self) -> None:
         with tempfile.TemporaryDirectory() as folder:

@@ -13,10 +13,11 @@ from vidlakost_tools import collar_lanes, macro_pins
 from vidlakost_tools.collar_text import Names, collar
 from vidlakost_tools.files import COMMENTS, is_own, marked, refuse_twins, write_own
 from vidlakost_tools.hold_text import holds_of
-from vidlakost_tools.macro_pins import Macro, Word, alike, not_tested, read_macro
+from vidlakost_tools.macro_pins import Macro, Word, alike, read_macro
 from vidlakost_tools.march import elements_of
 from vidlakost_tools.memory import Memory
 from vidlakost_tools.tool import ToolError, permissions, write_all
+from vidlakost_tools.untested import told_pins, untested
 
 PINS = ["macro ram", "clk ck", "en ~ce", "we wen 2", "addr a", "wdata d", "rdata q"]
 PORT = ["port addr b", "port rdata p", "port wdata e", "port we v 4"]
@@ -101,11 +102,15 @@ class Lines(unittest.TestCase):
         self.assertIn(":8: big has other latency", self.refusal(lines, memory("big", 4, 2), memory("little", 4)))
 
     def test_what_is_not_tested(self) -> None:
-        word = Word([memory()])
+        def left(lines: list[str]) -> str:
+            word = Word([memory()])
+            return told_pins(untested(read(lines, word.first), word))
+
         more = ["tie t 3'd0", "tie u 1'b0", "open o", "pass s 1 0"]
-        self.assertEqual(not_tested(read([*PINS, *more]), word), "port t, o; pins u, s; lanes of wen")
-        self.assertEqual(not_tested(read([*PINS, *PORT, "masks"]), word), "")
-        self.assertEqual(not_tested(read([*PINS, *PORT]), word), "lanes of wen, v")
+        off, alone = "ce: whether it is ever off", "its lanes are never tried alone"
+        self.assertEqual(left([*PINS, *more]), f"{off}; wen: {alone}; t, u: tied; o: left open; s: fixed in test")
+        self.assertEqual(left([*PINS, *PORT, "masks"]), "")
+        self.assertEqual(left([*PINS, *PORT]), f"{off}; wen, v: {alone}")
 
 
     def test_bits_that_no_background_tells_apart(self) -> None:

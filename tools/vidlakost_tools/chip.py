@@ -8,9 +8,9 @@ import tempfile
 
 from vidlakost_tools.march import Element, march_of
 from vidlakost_tools.memory import Memory, read_memory
-from vidlakost_tools.program import run
-from vidlakost_tools.text import read_described, statements
-from vidlakost_tools.tool import Refused, ToolError, identifier, number_of
+from vidlakost_tools.program import ask, run
+from vidlakost_tools.text import statements
+from vidlakost_tools.tool import Refused, identifier, number_of
 
 
 @dataclasses.dataclass
@@ -89,25 +89,18 @@ def units_of(said: list[tuple[int, str, str]]) -> list[tuple[int, str, str, str]
 
 
 def read_chip(path: str | os.PathLike[str]) -> Chip:
-    """The chip of a file, its units in their groups."""
+    """The chip of a file, as the program reads it, its units in their groups."""
     check_with_program(path)
-    lines = statements(read_described(path))
-    said = {word: rest for _, word, rest in lines if word in ("chip", "name", "budget") and " " not in rest}
+    lines = statements(ask("show", "chip", path))
+    said = {word: rest for _, word, rest in lines}
     rows = units_of(lines)
-    known = {line for line, *_ in rows} | {line for line, word, rest in lines if said.get(word) == rest}
-    for line, _, _ in lines:
-        if line not in known:
-            raise ToolError(f"{path}:{line}: this is no line of a chip file")
+    # units often share a march, or a memory
+    marches = {march: march_of(march)[1] for march in dict.fromkeys(march for _, _, march, _ in rows)}
+    memories = {memory: read_memory(memory) for memory in dict.fromkeys(memory for *_, memory in rows)}
     units = [
-        Unit(number_of(weight, "a weight"), march, memory, march_of(march)[1], read_memory(memory))
+        Unit(number_of(weight, "a weight"), march, memory, marches[march], memories[memory])
         for _, weight, march, memory in rows
     ]
-    for word in ("name", "budget"):
-        if word not in said:
-            raise ToolError(f"{path}: the line '{word}' is missing")
     chip = Chip(identifier(said["name"], "the name of a chip"), number_of(said["budget"], "budget", 1), units)
-    heavy = next((number for number, unit in enumerate(units) if not 1 <= unit.weight <= chip.budget), None)
-    if not units or heavy is not None:
-        raise ToolError(f"{path}: there is no unit" if not units else f"{path}: unit {heavy} is above the budget")
     place(chip)
     return chip

@@ -7,6 +7,7 @@ import dataclasses
 from vidlakost_tools import collar_bus, collar_lanes, collar_planted
 from vidlakost_tools.access_block import Port, links, of_memory
 from vidlakost_tools.collar_planted import also
+from vidlakost_tools.collar_watch import CONTROLS, POWER, Watch
 from vidlakost_tools.macro_pins import Macro, Pin, Word, bit_of, literal, widths_of
 from vidlakost_tools.memory import Memory
 from vidlakost_tools.tool import ToolError
@@ -16,10 +17,8 @@ MARK = "// made by vidlakost"
 HEAD = "`timescale 1ns / 1ps\n`default_nettype none\n"
 FOOT = "`default_nettype wire\n"
 PLANTED = collar_planted.DEFINE
-POWER = "USE_POWER_PINS"
 ABOUT = f"""{MARK} collar: the macro {{macro}} with the self-test of {{name}}, which has the macro while test is 1.
 """
-CONTROLS = ("en", "we", "read", "write")
 
 
 class Names:
@@ -94,6 +93,8 @@ def refuse_names(macro: Macro, word: Word, own: list[Port]) -> None:
             raise macro.refuse(pin.line, f"what an input is tied to is {told}, and not '{pin.value}'")
     made = [f"{memory.name}_bist" for memory in word.memories]
     made += [f"{word.name}_{what}" for what in ("collar", "collar_tb", "lanes", "access", "apb", "tap", "cross")]
+    if macro.clock_cell and macro.clock_cell.cell.lower() in [name.lower() for name in [*made, macro.name]]:
+        raise macro.refuse(0, f"'{macro.clock_cell.cell}' is a module that stands beside the macro, so it is no cell")
     if macro.name.lower() in [name.lower() for name in made]:
         raise macro.refuse(macro.name_line, f"'{macro.name}' is a module that stands beside the macro")
 
@@ -196,16 +197,23 @@ class Collar:
         low, high = ({name: self.net(f"{half}_{name}") for name in ("en", "we", "addr")} for half in ("low", "high"))
         apart = self.names.of("apart_kept")
         high["we"] = self.planted("p_high_we", 1, high["we"], "^ (planted == 3'd6)")
-        command = f"{low['we']} != {high['we']} || {low['addr']} != {high['addr']}"
-        other = f"{low['en']} != {high['en']} || ({low['en']} && ({command}))"
+        # in a testbench what is unknown on one side alone is apart too
+        other = [self.apart(low, high, differs) for differs in ("!==", "!=")]
         self.lines += [
             f"  reg {apart};",
             "  always @(posedge clk)",
             f"    if (!test) {apart} <= 1'b0;",
-            f"    else if ({other}) {apart} <= 1'b1;",
+            *[f"`ifdef {PLANTED}", f"    else if ({other[0]}) {apart} <= 1'b1;"],
+            *["`else", f"    else if ({other[1]}) {apart} <= 1'b1;", "`endif"],
         ]
         if self.kind == "open":
             self.lines.append(f"  assign apart = {apart};")
+
+    @staticmethod
+    def apart(low: dict[str, str], high: dict[str, str], differs: str) -> str:
+        """Whether two self-tests command other things in a cycle."""
+        command = f"{low['we']} {differs} {high['we']} || {low['addr']} {differs} {high['addr']}"
+        return f"{low['en']} {differs} {high['en']} || ({low['en']} && ({command}))"
 
     def delayed(self, name: str, source: str, width: int, count: int, reset: bool) -> str:
         """Registers behind a net, and the net behind them."""
@@ -410,7 +418,7 @@ class Collar:
             found += macro.answers(second).links(self.net(f"{side}_word")) if macro.has("rdata", second=second) else []
         for pin in macro.pins:
             if pin.kind == "clock2" or pin.kind == "clk" and pin.is_second:
-                found.append(f".{pin.name}({test} ? clk : {pin.name})")
+                found.append(f".{pin.name}({self.clock(pin, test)})")
             elif pin.kind == "pass" and pin.value:
                 fixed = self.wire(f"f_{pin.name}", pin.width, f"{test} ? {pin.value} : {pin.joined()}")
                 found += pin.links(fixed)
@@ -419,6 +427,14 @@ class Collar:
             elif pin.kind in ("tie", "open"):
                 found.append(f".{pin.name}({pin.value})")
         return found
+
+    def clock(self, pin: Pin, test: str) -> str:
+        """What a further clock pin of the macro hangs on: the output of the user's cell, or a choice in the text."""
+        if self.macro.clock_cell is None:
+            return f"{test} ? clk : {pin.name}"
+        net = self.declared(f"k_{pin.name}", 1)
+        self.lines.append(self.macro.clock_cell.instance(self.names.of(f"choice_{pin.name}"), test, pin.name, net))
+        return net
 
     def ports(self) -> list[str]:
         """The lines of the ports, the last without a comma."""
@@ -458,64 +474,6 @@ class Collar:
                 lines.append(f'      $fatal(1, "{self.word.name}: {told}", $bits({memory}.{name}));')
         return [f"`ifdef {PLANTED}", "  initial begin", *lines, "  end", "`endif"]
 
-    # ---- what a testbench watches at the macro's pins
-
-    def watched(self) -> list[str]:
-        """In a testbench, whether each pin that enables something has what the self-test or the chip commands, and each clock
-        is the one that it has to be: an enable that is always on writes and reads rightly, and costs power all the same."""
-        before, self.lines = self.lines, []
-        nets = self.commanded()
-        memory, looks, clocks = self.names.of("memory"), [], []
-        told = f'"{self.word.name}: %b stands at {{}} of the macro, and it has to be %b; test is %b"'
-        for pin in self.macro.driven():
-            if pin.kind in (*CONTROLS, "mask"):
-                value = f"({self.net('test')} ? {pin.driven(self.commands_at(pin, nets))} : {pin.joined()})"
-                if self.macro.bypass and pin.kind in CONTROLS:
-                    value = f"(scan_mode ? {pin.idle()} : {value})"
-                looks += self.look(pin, memory, value, told)
-        for pin in self.macro.pins:
-            if pin.kind == "clock2" or pin.kind == "clk" and pin.is_second:
-                clocks += self.look(pin, memory, f"({self.net('test')} ? clk : {pin.name})", told)
-        head = ["  always @(posedge clk)", "    if (planted == 3'd0) begin"]
-        found = [*self.lines, *head, *looks, "    end"] if looks else []
-        found += ["  always @(clk) begin", "    #1;", *clocks, "  end"] if clocks else []
-        self.lines = before
-        return [f"`ifdef {PLANTED}", *found, "`endif"]
-
-    def look(self, pin: Pin, memory: str, value: str, told: str) -> list[str]:
-        """Whether a pin has a value."""
-        names = ", ".join(f"{memory}.{name}" for name in reversed(pin.names()))
-        there = f"{{{names}}}" if pin.bits else names
-        said = f"{told.format(pin.name)}, {there}, {value}, {self.net('test')}"
-        return [f"      if ({there} !== {value})", f"        $fatal(1, {said});"]
-
-    def commanded(self) -> dict[str, str]:
-        """Nets with what the self-test commands, worked out once more: `en` and `we`, and lanes of pins."""
-        macro, half = self.macro, halves(self.word)[0][0]
-        go, nets = self.net("lanes_go") if macro.masks else "", {}
-        for name in ("en", "we"):
-            source = self.net(f"{half}_{name}")
-            source = f"({go} ? {self.net(f'l_{name}')} : {source})" if go else source
-            nets[name] = self.delayed(f"w_{name}", source, 1, macro.before, name == "en")
-        for number, pin in enumerate(collar_lanes.lane_pins(macro) if go else []):
-            source = f"({go} ? {self.net(f'l_lanes_{number}')} : {{{pin.width}{{1'b1}}}})"
-            nets[f"lanes of {pin.name}"] = self.delayed(f"w_lanes_{number}", source, pin.width, macro.before, False)
-        return nets
-
-    def commands_at(self, pin: Pin, nets: dict[str, str]) -> str:
-        """What those nets command at a pin, before it is inverted."""
-        macro, en, we = self.macro, nets["en"], nets["we"]
-        on = en
-        if macro.has_second:
-            second, both = self.second(), macro.second_writes
-            on = f"({en} & {second}{'' if both else f' & ~{we}'})"
-            if not pin.is_second:
-                on = f"({en} & (~{second}{'' if both else f' | {we}'}))"
-        is_plain = macro.has("en", second=pin.is_second)
-        value = {"en": on, "we": we if is_plain else f"({on} & {we})", "read": f"({on} & ~{we})", "write": f"({on} & {we})"}
-        lanes = nets.get(f"lanes of {pin.name}", f"{{{pin.width}{{1'b1}}}}")
-        return lanes if pin.kind == "mask" else f"({{{pin.width}{{{value[pin.kind]}}}}} & {lanes})"
-
     def module(self) -> str:
         self.commands()
         self.turns()
@@ -525,7 +483,7 @@ class Collar:
         if self.kind == "bist" and (self.macro.masks or self.macro.has_second):
             self.lines += [f"  reg [2:0] {self.names.of('phase')};", f"  reg {self.names.of('kept')};"]
         self.controllers()
-        placed = [*self.instance(), *self.watched()]
+        placed = [*self.instance(), *Watch(self).text()]
         head = [f"module {self.word.name}_collar(", *self.ports(), ");"]
         return "\n".join([*head, *self.lines, *placed, "endmodule"]) + "\n"
 
@@ -533,6 +491,13 @@ class Collar:
 def has_other_lanes(macro: Macro) -> bool:
     """Whether the lanes of the other port are tried."""
     return macro.masks > 0 and macro.second_writes and bool(macro.lane_pins(True))
+
+
+def memory_name(macro: Macro, word: Word, kind: str) -> str:
+    """The name of the macro's instance in a collar."""
+    made = Collar(macro, word, kind)
+    made.module()
+    return made.names.of("memory")
 
 
 def collar(macro: Macro, word: Word, kind: str) -> str:

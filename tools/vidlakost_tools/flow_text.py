@@ -8,6 +8,8 @@ import pathlib
 import re
 
 from vidlakost_tools.memory import Memory
+from vidlakost_tools.clock_mux import chosen_clocks
+from vidlakost_tools.collar_watch import GATES as GATES_DEFINE
 from vidlakost_tools.soc import Part, Placed, System
 from vidlakost_tools.text import shown
 from vidlakost_tools.tool import ToolError
@@ -17,28 +19,36 @@ MARK = "# made by vidlakost flow"
 PLAIN = re.compile(r"[A-Za-z0-9_./+@][A-Za-z0-9_./+@-]*")
 
 HEAD = """{mark}: every step of {name}, from {chip}
-# make -j runs it, and its status is that of the whole; SIM is iverilog or verilator, LAUNCHER the command vidlakost, MORE
-# what a simulator is told besides, as a -D that a vendor's model wants; what is planted in the whole runs in PARTS at once.
+# make -j runs it, and its status is that of the whole; SIM is iverilog or verilator, LAUNCHER the command vidlakost. What is
+# planted in the whole runs in PARTS at once. MORE is what a simulator is told besides, as a -D that a vendor's model wants,
+# LINT_MORE what Verilator's lint is, and SYNTH_MORE what Yosys is as it reads. LIBERTY is the library to whose cells Yosys maps,
+# MACRO_LIBERTY are those of the macros, for OpenSTA, and MHZ is the clock of the test.
 ROOT := {root}
 OUT := {out}
 LAUNCHER ?= vidlakost
 SIM ?= $(if $(shell command -v iverilog),iverilog,verilator)
 MORE ?=
+LINT_MORE ?=
+SYNTH_MORE ?=
+LIBERTY ?=
+MACRO_LIBERTY ?=
+MHZ ?= 100
 PARTS ?= 1
 SHELL := /bin/bash
 .SHELLFLAGS := -o pipefail -c
 LINTED := $(shell command -v verilator)
 MADE := $(shell command -v yosys)
+TIMED := $(shell command -v sta)
 
-.PHONY: all reports collars top lint synthesis clean FORCE
+.PHONY: all reports collars gates top lint synthesis access sta clean FORCE
 .DELETE_ON_ERROR:
 
-all: reports collars top lint synthesis
+all: reports collars gates top lint synthesis access sta
 	@echo "{name}: every step is done"
 
 # A step is run again unless each file that it reads or writes is as it was when the step was done, whatever its date: beside
 # the step $(1) stand the sums of the files $(2), and of those that a simulator was seen to read.
-sums = {{ echo "$(SIM) $(MORE) $(LINTED) $(MADE)"; sha256sum -- $(2); \\
+sums = {{ echo "$(SIM) $(MORE) $(LINTED) $(LINT_MORE) $(MADE) $(SYNTH_MORE) $(LIBERTY) $(MACRO_LIBERTY) $(MHZ)"; sha256sum -- $(2); \\
   test ! -e $(1).read || (cd $(dir $(1)) && xargs sha256sum -- <$(notdir $(1)).read); }} 2>&1
 kept = $(call sums,$(1),$(2)) | cmp -s - $(1).sums
 again = rm -f -- $(1).sums $(1).read
@@ -68,10 +78,26 @@ shares = $$(seq 0 $$(($(PARTS) - 1)))
 sides = {{ rm -f run_*.log; for part in $(shares); do $(run) +planted +parts=$(PARTS) +part=$$part >run_$$part.log & done; wait; \\
   for part in $(shares); do cat run_$$part.log; $(call passed,$(1),run_$$part.log); done; }}
 
+# to the cells of a library, where one is named, whose models Yosys makes of their functions; else to gates of its own
+CELLS := $(if $(LIBERTY),$(abspath $(LIBERTY)))
+MACRO_CELLS := $(if $(MACRO_LIBERTY),$(abspath $(MACRO_LIBERTY)))
+# without a library of the macros what they answer has no time, and OpenSTA says so
+untimed = "^Error|port .* not found$(if $(MACRO_CELLS),|^Warning)"
+mapped = $(if $(CELLS),dfflibmap -liberty $(CELLS); abc -liberty $(CELLS); clean)
+counted = stat $(if $(CELLS),-liberty $(CELLS))
+modelled = $(if $(CELLS),read_liberty -ignore_miss_func $(CELLS); write_verilog -noattr cells.v)
+# the netlist of the module $(1), of the files $(2) beside the boxes $(3): simulated as the module was, but for what is planted
+netlist = yosys -q -p "read_verilog $(SYNTH_MORE) -lib $(3); read_verilog $(SYNTH_MORE) $(2); synth -flatten -top $(1); $(mapped); \
+  check -assert; write_verilog -noattr $(1)_gates.v" >gates.log 2>&1 && \
+  $(if $(CELLS),yosys -q -p "$(modelled)" >>gates.log 2>&1,true) || {{ tail -n 5 gates.log; exit 1; }}
+
 reports: {reports} reports.html{testers}
 collars: {collars}
+gates: {gates}
 top: chip/passed
 lint: chip/lint.txt
+access: chip/access
+sta: chip/sta.txt
 synthesis: chip/synthesis.txt
 
 clean:
@@ -88,39 +114,76 @@ COMPILE = """
 COLLAR = """
 {name}/passed: {needs} FORCE
 	@$(call kept,$@,{files}) || {{ $(call again,$@); \\
-	  (cd $(ROOT) && $(LAUNCHER) collar {memories} --macro {pins} $(OUT)/{name}{model} >/dev/null) && \\
+	  (cd $(ROOT) && $(LAUNCHER) collar {memories} --macro {pins} $(OUT)/{name}{model}{mux} >/dev/null) && \\
 	  (cd {name} && $(call simulate,{name}_collar_tb,passed)) && touch $@ && $(call done,$@,{files}); }}
+"""
+# the gates of a collar in its testbench, sound
+GATES = """
+{name}/gates: {name}/passed chip/made FORCE
+ifneq ($(MADE),)
+	@$(call kept,$@,{files} $(CELLS)) || {{ $(call again,$@); \\
+	  (cd {name} && $(call netlist,{name}_collar,{name}_collar.v {modules},../chip/{whole}_boxes.v) && \\
+	  iverilog -g2012 $(MORE) -D{define} -o gates_tb {name}_collar_tb.sv {name}_collar_gates.v {model} $(if $(CELLS),cells.v) && \\
+	  vvp -n gates_tb | tee gates_run.log && $(call passed,{name}_collar_tb,gates_run.log)) && touch $@ && $(call done,$@,{files} $(CELLS)); }}
+else
+	@echo "{whole}: yosys is not installed, so there are no gates of {name}"
+endif
 """
 TOP = """
 chip/made: FORCE
 	@mkdir -p chip
 	@$(call kept,$@,{read} {written}) || {{ $(call again,$@); \\
-	  (cd $(ROOT) && $(LAUNCHER) top {words} $(OUT)/chip{models} >/dev/null) && touch $@ && $(call done,$@,{read} {written}); }}
+	  (cd $(ROOT) && $(LAUNCHER) top {words} $(OUT)/chip --access{models}{mux} >/dev/null) && touch $@ && $(call done,$@,{read} {written}); }}
 
 chip/passed: chip/made FORCE
 	@$(call kept,$@,{written}) || {{ $(call again,$@); \\
 	  (cd chip && $(call build,{name}_system_tb,passed) && $(call sound,{name}_system_tb) && $(call sides,{name}_system_tb)) && \\
 	  touch $@ && $(call done,$@,{written}); }}
 
-# what is installed looks at the whole; a model of a vendor's is left out of it
+# what is installed looks at the whole; of a macro it sees the ports alone, whoever wrote its model
 chip/lint.txt: chip/made FORCE
 ifneq ($(LINTED),)
-	@$(call kept,$@,lint.vlt {written} $@) || {{ $(call again,$@); \\
-	  (cd chip && verilator --lint-only -Wall -Wno-DECLFILENAME $(MORE) --top-module {name}_system ../lint.vlt {files} \\
-	  >lint.txt 2>&1 || {{ cat lint.txt; exit 1; }}) && $(call done,$@,lint.vlt {written} $@); }}
+	@$(call kept,$@,{written} $@) || {{ $(call again,$@); \\
+	  (cd chip && verilator --lint-only -Wall -Wno-DECLFILENAME $(LINT_MORE) --top-module {name}_system {modules} {name}_boxes.v \\
+	  >lint.txt 2>&1 || {{ cat lint.txt; exit 1; }}) && $(call done,$@,{written} $@); }}
 else
 	@echo "{name}: verilator is not installed, so nothing is linted" | tee $@
 endif
 
 chip/synthesis.txt: chip/made FORCE
 ifneq ($(MADE),)
-	@$(call kept,$@,{written} $@) || {{ $(call again,$@); \\
-	  (cd chip && yosys -q -E synthesis.d -p "read_verilog -lib {macros}; read_verilog {modules}; synth -top {name}_system; check -assert; \\
-	  tee -q -o synthesis.txt stat" >synthesis.log 2>&1 || {{ tail -n 5 synthesis.log; exit 1; }}; \\
+	@$(call kept,$@,{written} $(CELLS) $@) || {{ $(call again,$@); \\
+	  (cd chip && yosys -q -E synthesis.d -p "read_verilog $(SYNTH_MORE) -lib {name}_boxes.v; read_verilog $(SYNTH_MORE) {modules}; \\
+	  synth -top {name}_system; $(mapped); check -assert; write_verilog -noattr {name}_system_gates.v; \\
+	  tee -q -o synthesis.txt $(counted)" >synthesis.log 2>&1 || {{ tail -n 5 synthesis.log; exit 1; }}; \\
 	  sed 's/^[^:]*: //' synthesis.d | xargs -n 1 >synthesis.txt.read) && \\
-	  $(call done,$@,{written} $@); }}
+	  $(call done,$@,{written} $(CELLS) $@); }}
 else
 	@echo "{name}: yosys is not installed, so nothing is synthesized" | tee $@
+endif
+"""
+# what a tester starts the whole by, in its testbenches; and the timing of that, where there are cells and OpenSTA
+ACCESS = """
+chip/access: chip/made FORCE
+	@$(call kept,$@,{read} {written}) || {{ $(call again,$@); \\
+	  (cd $(ROOT) && $(LAUNCHER) access {words} $(OUT)/chip --apb --jtag >/dev/null && \\
+	  $(LAUNCHER) sdc {words} $(OUT)/chip --mhz $(MHZ) >/dev/null) && \\
+	  (cd chip && for kind in access apb tap; do iverilog -g2012 $(MORE) -o $${{kind}}_tb -c {name}_$$kind.f && \\
+	  vvp -n $${{kind}}_tb | tee $${{kind}}_run.log && $(call passed,{name}_$${{kind}}_tb,$${{kind}}_run.log) || exit 1; done) && \\
+	  touch $@ && $(call done,$@,{read} {written}); }}
+
+chip/sta.txt: chip/access FORCE
+ifeq ($(and $(CELLS),$(TIMED),$(MADE)),)
+	@echo "{name}: the timing is looked at where LIBERTY names cells, and sta and yosys are installed" | tee $@
+else
+	@$(call kept,$@,{written} $(CELLS) $(MACRO_CELLS) $@) || {{ $(call again,$@); \\
+	  (cd chip && yosys -q -p "read_verilog $(SYNTH_MORE) -lib {name}_boxes.v; read_verilog $(SYNTH_MORE) {name}_access.v {modules}; \\
+	  synth -flatten -top {name}_access; $(mapped); splitnets -ports; clean; write_verilog -noattr {name}_access_gates.v" >sta.log 2>&1 && \\
+	  {{ for file in $(CELLS) $(MACRO_CELLS); do echo "read_liberty $$file"; done; \\
+	  printf '%s\\n' "read_verilog {name}_access_gates.v" "link_design {name}_access" "read_sdc {name}_test.sdc" \\
+	  "check_setup -verbose" "report_checks -format summary"; }} >sta.tcl && \\
+	  sta -no_splash -exit sta.tcl >sta.txt 2>&1 && ! grep -E $(untimed) sta.txt || {{ tail -n 5 sta.log sta.txt; exit 1; }}) && \\
+	  $(call done,$@,{written} $(CELLS) $(MACRO_CELLS) $@); }}
 endif
 """
 PAGES = """
@@ -152,6 +215,7 @@ class Flow:
     list_file: str
     folder: pathlib.Path
     vendors: dict[str, list[str]]
+    clock_mux: str = ""
 
     def __post_init__(self) -> None:
         if any(part.memory.name.lower() == "chip" for part in self.system.parts):
@@ -190,10 +254,6 @@ class Flow:
         """A file of --model, whose whole name was looked at, as a recipe names it from the folder that the tool runs in."""
         return plain(os.path.relpath(path, os.path.realpath(".")))
 
-    def from_chip(self, path: str) -> str:
-        """A file of --model as the tools that run in the folder of the whole are told it."""
-        return os.path.relpath(path, os.path.realpath(self.folder / "chip"))
-
     def controllers(self, memories: list[Memory]) -> list[str]:
         return [f"{self.folder_of(memory.name)}/{memory.name}_bist.v" for memory in memories]
 
@@ -213,8 +273,10 @@ class Flow:
             name, vendor = placed.word.name, self.vendor_of(placed)
             model = self.given(self.beside(vendor)) if vendor else f"{name}/{placed.macro.name}.v"
             own = [f"{name}/{file}" for file in (f"{name}_collar.v", f"{name}_collar_tb.sv", "files.f")]
+            own += self.cell_of(placed, f"{name}/")
             files = [*map(self.given, [*memories, placed.macro.path]), *own, model, *self.controllers(placed.word.memories)]
             values = {
+                "mux": self.mux(),
                 "memories": " ".join(memories),
                 "pins": placed.macro.path,
                 "needs": " ".join(f"{memory.name}.report" for memory in placed.word.memories),
@@ -222,7 +284,25 @@ class Flow:
                 "model": f" --model {self.beside(vendor)}" if vendor else "",
             }
             made.append(COLLAR.format(name=name, **values))
+            made.append(self.gated(placed, [*own, model, *self.controllers(placed.word.memories)]))
         return made
+
+    def mux(self) -> str:
+        """The words that name the cell of clocks."""
+        return f" --clock-mux {self.clock_mux}" if self.clock_mux else ""
+
+    def cell_of(self, placed: Placed, folder: str) -> list[str]:
+        """The model of that cell, where a collar has one."""
+        return [f"{folder}{self.clock_mux.split(':')[0]}.v"] if self.clock_mux and chosen_clocks(placed.macro) else []
+
+    def gated(self, placed: Placed, files: list[str]) -> str:
+        """The gates of a collar in its testbench."""
+        vendor = self.vendor_of(placed)
+        model = os.path.relpath(vendor, os.path.realpath(self.folder / placed.word.name)) if vendor else f"{placed.macro.name}.v"
+        modules = " ".join(f"{memory.name}_bist.v" for memory in placed.word.memories)
+        model = " ".join([model, *self.cell_of(placed, "")])
+        values = {"files": " ".join(files), "modules": modules, "model": model, "whole": self.system.name, "define": GATES_DEFINE}
+        return GATES.format(name=placed.word.name, **values)
 
     def inputs(self) -> list[str]:
         """What describes the chip, as the makefile names it."""
@@ -236,17 +316,15 @@ class Flow:
         own = [f"{name}.v" for name in dict.fromkeys(placed.macro.name for placed in system.collars) if name not in known]
         names = [system.name_of(number) for number in range(len(system.chips))]
         modules = [f"{system.name}_system.v", *(f"{placed.word.name}_collar.v" for placed in self.collars()), *(f"{name}.v" for name in names)]
-        written = [*modules, *own, f"{system.name}_system_tb.sv", "files.f", *(f"{name}.chip" for name in names if system.is_list)]
-        macros = [*own, *map(self.from_chip, self.vendors)]
-        return TOP.format(
+        written = [*modules, f"{system.name}_boxes.v", *own, f"{system.name}_system_tb.sv", "files.f", *(f"{name}.chip" for name in names if system.is_list)]
+        return (TOP + ACCESS).format(
             name=system.name,
             words=" ".join([self.chip_file, *self.pins]),
+            mux=self.mux(),
             read=" ".join([*self.inputs(), *vendors]),
             written=" ".join([*(f"chip/{name}" for name in written), *vendors]),
             models="".join(f" --model {self.beside(file)}" for file in self.vendors),
-            macros=" ".join(macros),
             modules=" ".join(modules),
-            files=" ".join([*modules, *macros]),
         )
 
     def chips(self) -> list[tuple[str, str]]:
@@ -274,7 +352,8 @@ class Flow:
         passed = " ".join(f"{placed.word.name}/passed" for placed in self.collars())
         reports = " ".join(f"{part.memory.name}.report" for part in self.bases())
         testers = "".join(f" {page}" for page, _ in self.chips())
-        steps = f"{reports} reports.html{testers} {passed} chip/made chip/passed chip/lint.txt chip/synthesis.txt"
+        gates = " ".join(f"{placed.word.name}/gates" for placed in self.collars())
+        steps = f"{reports} reports.html{testers} {passed} {gates} chip/made chip/passed chip/lint.txt chip/synthesis.txt chip/access chip/sta.txt"
         head = HEAD.format(
             mark=MARK,
             name=self.system.name,
@@ -285,13 +364,7 @@ class Flow:
             reports=reports,
             testers=testers,
             collars=passed,
+            gates=gates,
             steps=steps,
         )
         return "".join([head, *self.compiled(), *self.collared(), self.whole(), self.pages()])
-
-    def lint(self) -> str:
-        """What Verilator is told of files that somebody else wrote, each named as its call names it."""
-        # what is no matter of style has to be named
-        files = map(self.from_chip, self.vendors)
-        lines = [f'lint_off {rule}-file "{file}"' for file in files for rule in ("", "-rule MULTIDRIVEN ")]
-        return "\n".join(["// made by vidlakost flow", "`verilator_config", *lines, ""])

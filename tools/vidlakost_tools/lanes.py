@@ -2,13 +2,15 @@
 bit of a long number for each.
 
 In lane 0 every answer is right. For each answer and each of its bits one lane has right answers before it, that bit of it
-wrong, and everything later open. Each history is that of lane 0 or has a first answer that is wrong, with a wrong bit in it,
-so `fail` is as it has to be in every history where it is so in each lane. Every register is open at first, and so is `rdata`
-in each cycle without an answer. A lane whose answer lies some answers back is laid together with the earlier lanes of its
+the lowest that is wrong, and everything later open. Each history is that of lane 0 or has a first answer that is wrong, with
+a lowest wrong bit in it, so `fail` is as it has to be in every history where it is so in each lane; and so it is where each
+lane has the highest wrong bit, which tells what a comparison of sizes answers. Every register is open at first, and so is
+`rdata` in each cycle without an answer. A lane whose answer lies some answers back is laid together with the earlier lanes of its
 bit: what is not the same in both becomes open."""
 from __future__ import annotations
 
 import dataclasses
+import enum
 import time
 from typing import Any, Iterator
 
@@ -23,6 +25,21 @@ BEHIND = 64
 SLICE = 4096
 
 
+class Side(enum.Enum):
+    """Of which wrong bit of the first wrong answer a lane is: of the lowest, so that those below it are right, or of the highest."""
+
+    LOWEST = "lowest"
+    HIGHEST = "highest"
+
+    def is_right(self, bit: int, wrong: int) -> bool:
+        """Whether a bit is right in the lane of a wrong one."""
+        return bit < wrong if self is Side.LOWEST else bit > wrong
+
+    def lanes(self, bit: int, bits: int) -> int:
+        """The lanes of an answer in which a bit of it is right, each lane being that of a wrong bit."""
+        return sum(1 << wrong for wrong in range(bits) if self.is_right(bit, wrong))
+
+
 @dataclasses.dataclass
 class Plan:
     """The answers of a test, by their cycles; the cycles to the one that shows the last; the first cycle that is looked at; how
@@ -33,6 +50,7 @@ class Plan:
     bits: int
     first: int = 0
     late: int = 0
+    side: Side = Side.LOWEST
 
 
 @dataclasses.dataclass
@@ -54,14 +72,17 @@ class Found:
             return f"fail is exact: in every history of {self.lanes} first wrong bits and in that without one, {behind}"
         if self.kind == "limit":
             return f"fail is exact to cycle {self.cycle}; the limit of time ended the look at it there"
-        case = "all answers are right"
-        if self.answer is not None and self.wanted:
-            case = f"bit {self.bit} of the answer of cycle {self.answer} is wrong"
-        elif self.answer is not None:
-            case = f"no answer before that of cycle {self.answer} is wrong"
         if self.got == "open":
-            return f"fail is unknown in cycle {self.cycle} where {case}: it has to be {self.wanted}"
-        return f"fail is {self.got} in cycle {self.cycle} though {case}"
+            return f"fail is unknown in cycle {self.cycle} where {self.case()}: it has to be {self.wanted}"
+        return f"fail is {self.got} in cycle {self.cycle} though {self.case()}"
+
+    def case(self) -> str:
+        """The histories of its lane."""
+        if self.answer is None:
+            return "all answers are right"
+        if self.wanted:
+            return f"bit {self.bit} of the answer of cycle {self.answer} is wrong"
+        return f"no answer before that of cycle {self.answer} is wrong"
 
     def short(self) -> str:
         """The finding, as the last line has it."""
@@ -71,16 +92,20 @@ class Found:
 
 
 class Clock:
-    """The time that is left, and a line of progress now and then."""
+    """The time that is left, and each ten seconds a line of progress."""
 
     def __init__(self, limit: float):
-        self.end, self.next = time.monotonic() + limit, time.monotonic() + 5
+        self.begin = time.monotonic()
+        self.end, self.next = self.begin + limit, self.begin + 10
+
+    def left(self) -> float:
+        return self.end - time.monotonic()
 
     def is_over(self, cycle: int, cycles: int) -> bool:
         now = time.monotonic()
         if now > self.next:
-            self.next = now + 5
-            tell(f"audit: fail: cycle {cycle} of {cycles}")
+            self.next = now + 10
+            tell(f"audit: fail is looked at (cycle {cycle} of {cycles}), for {now - self.begin:.0f} seconds by now")
         return now > self.end
 
 
@@ -99,9 +124,10 @@ def run_joined(machine: Machine, plan: Plan, clock: Clock) -> Found | None:
     state = [(0, 0)] * len(machine.registers)
     want, live, joined, count, cycle = 0, 1, False, 0, 0
     slots: dict[int, int] = {}
+    right = [plan.side.lanes(bit, bits) for bit in range(bits)]
     quiet, due = 0, [0] * plan.late
     while cycle < plan.cycles + BEHIND and quiet < 2:
-        known, wrong, values = 0, 0, 0
+        known, wrong, values, base = False, 0, 0, 0
         if cycle in plan.answers:
             slot, base = count % RECENT, 1 + bits + count % RECENT * bits
             if slot in slots:
@@ -110,8 +136,10 @@ def run_joined(machine: Machine, plan: Plan, clock: Clock) -> Found | None:
             state = [(spread(one, base, word), spread(zero, base, word)) for one, zero in state]
             slots[slot], count = cycle, count + 1
             live, want = live | word << base, want & ~(word << base)
-            known, wrong, values = 1, word << base, plan.answers[cycle]
-        rdata = [given(values >> bit & 1, wrong and 1 << base + bit) if known else (0, 0) for bit in range(bits)]
+            known, wrong, values = True, word << base, plan.answers[cycle]
+        rdata = [
+            given(values >> bit & 1, 1 | right[bit] << base, 1 << base + bit) if known else (0, 0) for bit in range(bits)
+        ]
         before = state
         state, (fail,) = machine.step(state, [*rdata, (full, 0) if cycle == 0 else (0, full)], full)
         bad = compare(fail, live, want) if cycle >= plan.first else 0
@@ -130,9 +158,9 @@ def run_joined(machine: Machine, plan: Plan, clock: Clock) -> Found | None:
     return Found("exact", -1 if quiet else cycle - 1, lanes=count * bits)
 
 
-def given(bit: int, lane: int) -> tuple[int, int]:
-    """A bit of an answer: right in lane 0, wrong in one lane, open in the others."""
-    return (1, lane) if bit else (lane, 1)
+def given(bit: int, right: int, wrong: int) -> tuple[int, int]:
+    """A bit of an answer: right in some lanes, wrong in others, open in the rest."""
+    return (right, wrong) if bit else (wrong, right)
 
 
 def spread(lanes: int, base: int, word: int) -> int:
@@ -160,8 +188,9 @@ def run_slice(machine: Machine, plan: Plan, answers: list[int], start: tuple[int
     the first of them."""
     bits = plan.bits
     place = {cycle: count * bits for count, cycle in enumerate(answers)}
-    right = len(answers) * bits
-    full = (2 << right) - 1
+    right = [plan.side.lanes(bit, bits) for bit in range(bits)]
+    last = len(answers) * bits
+    full = (2 << last) - 1
     cycle, single = start
     state = [(full if one & 1 else 0, full if zero & 1 else 0) for one, zero in single]
     want, word = 0, (1 << bits) - 1
@@ -177,14 +206,15 @@ def run_slice(machine: Machine, plan: Plan, answers: list[int], start: tuple[int
                 wrong = word << place[cycle]
                 later &= ~wrong
             for bit in range(bits):
-                lane = 1 << place[cycle] + bit if wrong else 0
-                rdata[bit] = (later, lane) if plan.answers[cycle] >> bit & 1 else (lane, later)
+                own = (1 << bit, right[bit]) if wrong else (0, 0)
+                base = place.get(cycle, 0)
+                rdata[bit] = given(plan.answers[cycle] >> bit & 1, later | own[1] << base, own[0] << base)
         state, (fail,) = machine.step(state, [*rdata, (full, 0) if cycle == 0 else (0, full)], full)
         bad = compare(fail, full, want) if cycle >= plan.first else 0
         if bad:
             lane = (bad & -bad).bit_length() - 1
             slot, bit = divmod(lane, bits)
-            return found_at(fail, cycle, want, lane, (answers[slot], bit) if lane < right else None)
+            return found_at(fail, cycle, want, lane, (answers[slot], bit) if lane < last else None)
         told |= wrong
         due.append(wrong)
         want |= due.pop(0)
@@ -220,11 +250,16 @@ def run_apart(machine: Machine, plan: Plan, clock: Clock) -> Found:
     return Found("exact", until, lanes=len(answers) * plan.bits)
 
 
-def look_at(machine: Machine, plan: Plan, limit: float) -> Found:
-    """What is found of `fail`."""
-    clock = Clock(limit)
-    found = run_joined(machine, plan, clock) or run_apart(machine, plan, clock)
-    return run_one(machine, plan, found) or found if found.got == "open" else found
+def look_at(machine: Machine, plan: Plan, clock: Clock) -> Found:
+    """What is found of `fail`; what is open on one side may be told on the other."""
+    opens: list[Found] = []
+    for side in Side:
+        sided = dataclasses.replace(plan, side=side)
+        found = run_joined(machine, sided, clock) or run_apart(machine, sided, clock)
+        if found.got != "open":
+            return found if found.kind != "limit" or not opens else opens[0]
+        opens.append(found)
+    return run_one(machine, plan, opens[0]) or opens[0]
 
 
 def run_one(machine: Machine, plan: Plan, found: Found) -> Found | None:
@@ -251,5 +286,8 @@ def words_of(plan: Plan, found: Found) -> dict[int, list[tuple[int, int]]]:
             words[cycle] = bits
         elif cycle == found.answer:
             one, zero = bits[found.bit]
-            words[cycle] = [(zero, one) if bit == found.bit else (0, 0) for bit in range(plan.bits)]
+            words[cycle] = [
+                (zero, one) if bit == found.bit else pair if plan.side.is_right(bit, found.bit) else (0, 0)
+                for bit, pair in enumerate(bits)
+            ]
     return words

@@ -8,6 +8,7 @@ import itertools
 from vidlakost_tools import open_run
 from vidlakost_tools.front_end import Plain
 from vidlakost_tools.program import with_text
+from vidlakost_tools.tool import progress
 from vidlakost_tools.words import Drive
 
 MOST = 7
@@ -16,8 +17,10 @@ WIDTH = 22
 
 def late(plain: Plain, end: int) -> int | None:
     """How many cycles behind the one in which it is due `done` comes, being 0 until then, and `en` too; None where it does not."""
-    run = with_text(plain.text(), open_run.read_module)
-    for count, found in enumerate(itertools.islice(open_run.cycles_of(run), end, end + MOST + 1)):
+    cycles = open_run.cycles_of(with_text(plain.text(), open_run.read_module))
+    for _ in progress(range(end), f"the module is clocked to the end in cycle {end}"):
+        next(cycles)
+    for count, found in enumerate(itertools.islice(cycles, MOST + 1)):
         if found["done"] == 1 or found["done"] is None or found["en"] != 0:
             return count if count and found["done"] == 1 and found["en"] == 0 else None
     return None

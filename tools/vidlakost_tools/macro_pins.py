@@ -4,6 +4,7 @@ from __future__ import annotations
 
 import dataclasses
 import re
+from typing import Protocol
 
 from vidlakost_tools.access_block import BUILT_IN
 from vidlakost_tools.memory import Memory
@@ -118,6 +119,23 @@ class Word:
         return sum(memory.bits for memory in self.memories)
 
 
+class ClockCell(Protocol):
+    """A cell between a clock of the chip's and that of the test."""
+
+    @property
+    def cell(self) -> str:
+        ...
+
+    def instance(self, name: str, select: str, chip: str, out: str) -> str:
+        ...
+
+    def model(self, mark: str) -> str:
+        ...
+
+    def box(self) -> str:
+        ...
+
+
 @dataclasses.dataclass
 class Macro:
     """What the file of the pins says."""
@@ -133,6 +151,8 @@ class Macro:
     masks: int = 0
     bypass: int = 0
     halves: dict[str, tuple[str, int]] = dataclasses.field(default_factory=dict)
+    # the cell that chooses between its further clocks and that of the test, where one is named
+    clock_cell: ClockCell | None = None
 
     def of(self, *kinds: str, second: bool = False) -> list[Pin]:
         return [pin for pin in self.pins if pin.kind in kinds and pin.is_second == second]
@@ -468,19 +488,6 @@ def refuse_shapes(macro: Macro, word: Word) -> None:
             raise macro.refuse(pin.line, f"{what} does not divide the word: {pin.width} parts of {word.bits} bits")
     if macro.masks and not macro.lane_pins():
         raise macro.refuse(macro.masks, "no pin has lanes that 'masks' could try")
-
-
-def not_tested(macro: Macro, word: Word) -> str:
-    """What of the macro the self-test leaves out."""
-    wide = [pin for pin in macro.pins if pin.kind in ("tie", "pass")]
-    ports = [pin.name for pin in wide if pin_width(pin) > 1]
-    ports += [pin.name for pin in macro.pins if pin.kind in ("open", "out")]
-    pins = [pin.name for pin in wide if pin_width(pin) == 1]
-    tried = [*macro.lane_pins(), *(macro.lane_pins(True) if macro.second_writes else [])] if macro.masks else []
-    lanes = [pin.name for second in (False, True) for pin in macro.lane_pins(second) if pin not in tried]
-    bits = [pin.name for pin in macro.driven() if pin.kind in ADDRESSES and pin.width > word.first.width]
-    parts = (("port", ports), ("pins", pins), ("lanes of", lanes), ("the other bits of", bits))
-    return "; ".join(f"{what} {', '.join(names)}" for what, names in parts if names)
 
 
 def alike(word: Word) -> str:

@@ -175,7 +175,13 @@ def tester_page(words: list[str], mhz: float) -> str:
         f"<p>{sound}. Anything else is a failure.</p>",
         "<h2>What is tested, and where the clock may be stopped</h2>",
         table(["unit", "memory", "words", "bits", "march", "start", "cycles of pauses"], rows),
+        "<h2>The instructions of the TAP</h2>",
+        f"<p>The instruction register has {tap.IR_BITS} bits, and the identity is {tap.IDCODE:08X}. Test-Logic-Reset ends a "
+        "test.</p>",
+        table(["opcode", "instruction", ""], [list(row) for row in tap.OPCODES]),
         "<h2>The register of the TAP, instruction BIST, lowest bit first</h2>",
+        "<p>Each scan writes what is marked as written, start and of a chip ignore too: shift the bits of ignore in again in "
+        "each scan, or those that were set are gone.</p>",
         table(["bits", "part", ""], parts),
         "<h2>The registers of the APB block</h2>",
         table(["address", "register", "field", "meaning"], registers),

@@ -59,6 +59,8 @@ class System:
     chips: list[Chip] = dataclasses.field(default_factory=list)
     collars: list[Placed] = dataclasses.field(default_factory=list)
     is_list: bool = False
+    # whether the module that joins all tells a tester what each test writes and reads
+    has_access: bool = False
 
     def name_of(self, chip: int) -> str:
         return f"{self.name}_{chip}" if self.is_list else self.name
@@ -242,24 +244,56 @@ def place_chip(system: System, path: str) -> None:
     raise ToolError(f"{path}: {apart}: write the units in the order {', '.join(part.name for part in found)}")
 
 
+def groups_of(system: System, collars: list[Placed]) -> list[list[Placed]]:
+    """These collars in groups that the budget has room for: the long tests first, each in the first group that has room."""
+    found: list[list[Placed]] = []
+
+    def length(placed: Placed) -> int:
+        return placed.parts[0].unit.length
+
+    def has_room(group: list[Placed], placed: Placed) -> bool:
+        parts = [part for one in [*group, placed] for part in one.parts]
+        return sum(part.unit.weight for part in parts) <= system.budget and len(parts) <= OF_CHIP
+
+    for placed in sorted(collars, key=length, reverse=True):
+        group = next((group for group in found if has_room(group, placed)), None)
+        if group is None:
+            group = []
+            found.append(group)
+        group.append(placed)
+    return found
+
+
 def place_list(system: System) -> list[list[Part]]:
-    """The memories in chips of at most sixteen, the parts of a word in one group: a chip ends where the next collar has no
-    room in it."""
-    batch: list[Placed] = []
-    chips: list[list[Part]] = [[]]
-    for placed in system.collars:
-        tried = [*batch, placed]
-        order = together(system, tried) if sum(len(one.parts) for one in tried) <= OF_CHIP else None
-        if order is None:
-            tried, order = [placed], together(system, [placed])
-            chips.append([])
-        if order is None:
-            raise ToolError(f"{' and '.join(part.name for part in placed.parts)} weigh more than the budget together")
-        batch, chips[-1:] = tried, [order]
-    for number, order in enumerate(chips):
-        for at, part in enumerate(order):
+    """The memories in chips of at most sixteen, the parts of a word in one group: a chip ends where the next group has no room in
+    it. Those with a second port have chips of their own, since these run twice."""
+    chips: list[list[Part]] = []
+    for second in (False, True):
+        batch: list[Placed] = []
+        for group in groups_of(system, [placed for placed in system.collars if placed.macro.has_second == second]):
+            tried = [*batch, *group]
+            order = together(system, tried) if batch and sum(len(one.parts) for one in tried) <= OF_CHIP else None
+            if order is None:
+                tried, order = group, together(system, group)
+                chips.append([])
+            if order is None:
+                raise ToolError(f"{' and '.join(part.name for one in group for part in one.parts)} weigh more than the budget together")
+            batch, chips[-1:] = tried, [order]
+    for number, parts in enumerate(chips):
+        for at, part in enumerate(parts):
             part.chip, part.place = number, at
     return chips
+
+
+def planned(system: System, path: str) -> None:
+    """Puts a list in chips, and looks at a chip file's groups."""
+    if not system.is_list:
+        place_chip(system, path)
+        return
+    for number, parts in enumerate(place_list(system)):
+        chip = Chip(system.name_of(number), system.budget, [part.unit for part in parts])
+        place(chip)
+        system.chips.append(chip)
 
 
 def description_of(part: Part) -> str:

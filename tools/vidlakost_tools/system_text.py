@@ -5,13 +5,16 @@ from __future__ import annotations
 import collections
 import dataclasses
 
-from vidlakost_tools import collar_lanes, collar_planted
+from vidlakost_tools import collar_planted
 from vidlakost_tools.access_block import Port
 from vidlakost_tools.bench_end import FINISH, over
 from vidlakost_tools.collar_bench import Bench, planted_inputs, shared
-from vidlakost_tools.collar_text import FOOT, HEAD, MARK, PLANTED, POWER, Names, halves, own_ports, planted_names
+from vidlakost_tools.collar_text import FOOT, HEAD, MARK, PLANTED, Names, halves, memory_name, own_ports, planted_names
+from vidlakost_tools.collar_watch import GATES, POWER
 from vidlakost_tools.macro_pins import RESERVED, Pin, bit_of
 from vidlakost_tools.soc import Part, Placed, System
+from vidlakost_tools.system_steps import cycles, steps_of
+from vidlakost_tools.system_watch import Watch
 from vidlakost_tools.tool import ToolError
 from vidlakost_tools.verilog import ranged
 
@@ -19,28 +22,6 @@ ABOUT = """{mark} top: the {count} memories of {name}, in collars, with the test
 // The test runs once while test is 1; it begins when test rises, after 0 for a few cycles. fail has a bit for each memory:
 {bits}
 """
-
-
-@dataclasses.dataclass
-class Step:
-    """A step of the test: a chip, the lanes of a collar, or a pause of a cycle; and whether it is of the second session."""
-
-    kind: str
-    number: int
-    is_second: bool
-
-
-def steps_of(system: System) -> list[Step]:
-    """The steps, one behind the other: all chips, the lanes of each collar, and both once more where a second port is told."""
-    found: list[Step] = []
-    for second in (False, True):
-        placed = [number for number, one in enumerate(system.collars) if one.macro.has_second or not second]
-        chips = sorted({part.chip for number in placed for part in system.collars[number].parts})
-        found += [Step("pause", 0, second)] if second and chips else []
-        found += [Step("chip", chip, second) for chip in chips]
-        masks = [number for number in placed if system.collars[number].macro.masks]
-        found += [Step("lanes", one, second) for one in masks if second in collar_lanes.counted(system.collars[one].macro)[1]]
-    return found
 
 
 def port_name(placed: Placed, name: str) -> str:
@@ -59,7 +40,15 @@ def chip_ports(system: System) -> list[tuple[str, int, str]]:
 
 def own_names(system: System) -> list[Port]:
     scan = [Port("input", "scan_mode")] if any(placed.macro.bypass for placed in system.collars) else []
-    return [Port("input", "clk"), Port("input", "test"), *scan, Port("output", "done"), Port("output", "fail", len(system.parts))]
+    found = [Port("input", "clk"), Port("input", "test"), *scan, Port("output", "done"), Port("output", "fail", len(system.parts))]
+    return found + [Port("output", name, part.memory.bits) for name, part in seen_by_tester(system)]
+
+
+def seen_by_tester(system: System) -> list[tuple[str, Part]]:
+    """The outputs that tell what the test of each memory writes and reads."""
+    if not system.has_access:
+        return []
+    return [(f"{what}_{number}", part) for number, part in enumerate(system.parts) for what in ("given", "taken")]
 
 
 def refuse_names(system: System) -> None:
@@ -93,6 +82,9 @@ class Text:
         self.system, self.steps = system, steps_of(system)
         ports = {port.name for port in own_names(system)} | {name for _, _, name in chip_ports(system)} | planted_names()
         self.names = Names(ports)
+        # of each collar its instance, and that of the macro inside
+        self.collar_names: list[str] = []
+        self.memory_names: list[str] = []
         self.bits = max(1, len(self.steps).bit_length())
         self.lines: list[str] = []
 
@@ -106,14 +98,14 @@ class Text:
 
     def active(self, kind: str, number: int) -> str:
         """Whether a chip or the lanes of a collar have their turn."""
-        turns = [self.at(at) for at, step in enumerate(self.steps) if (step.kind, step.number) == (kind, number)]
+        turns = [self.at(at) for at, step in enumerate(self.steps) if step.kind == kind and number in step.numbers]
         return f"test & ({' | '.join(f'({turn})' for turn in turns)})"
 
     def chips(self) -> None:
         """The chips, and the nets between them and the collars."""
         for number in range(len(self.system.chips)):
             links, parts = [".clk(clk)"], self.system.of_chip(number)
-            self.lines.append(f"  wire {self.names.of(f'chip_{number}_on')} = {self.active('chip', number)};")
+            self.lines.append(f"  wire {self.names.of(f'chip_{number}_on')} = {self.active('chips', number)};")
             for part in parts:
                 memory = part.memory
                 for name, width in (("en", 1), ("we", 1), ("addr", memory.width)):
@@ -146,7 +138,9 @@ class Text:
             for way, pin in placed.macro.chip_pins():
                 made = power if way == "inout" else links
                 made += [f".{name}({port_name(placed, name)})" for name in pin.names()]
-            head = [f"  {placed.word.name}_collar {self.names.fresh(placed.name)}("]
+            self.collar_names.append(self.names.fresh(placed.name))
+            self.memory_names.append(memory_name(placed.macro, placed.word, "open"))
+            head = [f"  {placed.word.name}_collar {self.collar_names[-1]}("]
             head += [f"`ifdef {POWER}", *(f"    {link}," for link in power), "`endif"] if power else []
             kind = f".planted(planted[{3 * number + 2}:{3 * number}])"
             head += [f"`ifdef {PLANTED}", f"    {kind}, .planted_bit(planted_bit), .numbered(numbered),", "`endif"]
@@ -183,14 +177,12 @@ class Text:
         """One step behind the other, and what was found until now."""
         step, kept, now, next_on = (self.names.of(name) for name in ("step", "kept", "now", "is_over"))
         count, last = len(self.system.parts), len(self.steps)
-        overs = {"pause": "1'b1"}
+        overs = {"chips": "chip_{}_done", "lanes": "lanes_over_{}"}
         self.lines.append(f"  reg {next_on};")
         self.lines += ["  always @*", f"    case ({step})"]
-        for number, one in enumerate(self.steps):
-            over = overs.get(one.kind) or self.names.of(
-                f"chip_{one.number}_done" if one.kind == "chip" else f"lanes_over_{one.number}"
-            )
-            self.lines.append(f"      {self.bits}'d{number}: {next_on} = {over};")
+        for at, one in enumerate(self.steps):
+            over = " & ".join(self.names.of(overs[one.kind].format(number)) for number in one.numbers) or "1'b1"
+            self.lines.append(f"      {self.bits}'d{at}: {next_on} = {over};")
         self.lines += [f"      default: {next_on} = 1'b0;", "    endcase"]
         bits = self.found()
         self.lines += [f"  wire {ranged(count)}{now};"]
@@ -222,6 +214,9 @@ class Text:
         self.chips()
         self.collars()
         self.sequence()
+        for name, part in seen_by_tester(system):
+            what = name.split("_")[0]
+            self.lines.append(f"  assign {name} = {self.names.of(f'n_{part.name}_{what}')};")
         ports = chip_ports(system)
         power = [f"  inout wire {name}," for way, _, name in ports if way == "inout"]
         told = [f"  {port.direction} wire {ranged(port.width)}{port.name}" for port in own_names(system)]
@@ -255,11 +250,13 @@ BENCH = """{mark} top: a testbench of {name}_system. It ends with a status: the 
   integer waited;
 {declared}
   {name}_system dut(
-{power}    .clk(clk), .test(test), .done(done), .fail(fail),
+`ifndef {gates}
     .planted(planted), .planted_bit(planted_bit), .numbered(numbered),
+`endif
+{power}    .clk(clk), .test(test), .done(done), .fail(fail),
     {links}
   );
-{tasks}
+{tasks}{watched}
   // a run; one that is short ends where something is found
   task run(input is_short, input [{planted_top}:0] what, input [6:0] which, input [2:0] words, input {fails}where);
     begin
@@ -282,23 +279,40 @@ BENCH = """{mark} top: a testbench of {name}_system. It ends with a status: the 
     end
   endtask
 
-  // which faults are planted: those at the memory asked, or all; and of these each one in so many
+  // which faults are planted: those at the memory asked, or all; and of these each one in so many, or those that a seed chooses
   string asked = "";
   integer parts;
   integer part;
-  function is_taken(input integer number, input is_there);
-    is_taken = is_there && number % parts == part;
-  endfunction
+  integer seed;
+  integer taken;
+  reg [31:0] drawn;
+  task take(input integer number, input is_there, output is_taken);
+    begin
+      drawn = number;
+      if (seed != 0) begin
+        drawn = (drawn + 32'd1) * 32'd2654435761 + seed * 32'd40503;
+        drawn = (drawn ^ (drawn >> 15)) * 32'd2246822519;
+        drawn = (drawn ^ (drawn >> 13)) * 32'd3266489917;
+        drawn = drawn ^ (drawn >> 16);
+      end
+      is_taken = is_there && drawn % parts == part;
+      if (is_taken) taken = taken + 1;
+    end
+  endtask
+  reg turn_taken;
 
   initial begin
     if ($value$plusargs("planted=%s", asked) == 0) asked = "";
     if ($value$plusargs("parts=%d", parts) == 0) parts = 1;
     if ($value$plusargs("part=%d", part) == 0) part = 0;
+    if ($value$plusargs("seed=%d", seed) == 0) seed = 0;
+    taken = 0;
     if (asked != ""{named}) $fatal(1, "{name}: no memory is named %s", asked);
     if (!(0 <= part && part < parts && parts <= {turns})) $fatal(1, "{name}: +parts is 1 to {turns}, and +part below it");
     repeat (4) @(negedge clk);
     if ($test$plusargs("planted") != 0) begin
 {faults}
+      if (seed != 0) $display("{name}: %0d of {turns} faults by the seed %0d", taken, seed);
     end else begin
 {uses}
       run(1'b0, {planted_width}'d0, 7'd0, 3'd0, {zero});
@@ -373,24 +387,17 @@ def runs(system: System) -> list[str]:
         where = sum(1 << system.parts.index(part) for part in fault.parts)
         what = f"1'b{int(fault.kind == 4)}, {width}'d{fault.kind} << {3 * fault.collar}"
         there = " || ".join(f'asked == "{name}"' for name in ["", *(part.name for part in fault.parts)])
-        lines = [f"      if (is_taken({number}, {there})) begin"]
+        lines = [f"      take({number}, {there}, turn_taken);", "      if (turn_taken) begin"]
         lines += [f"        run({what}, 7'd{place}, 3'd0, {count}'h{where:x});" for place in fault.places]
         lines += [f'        $display("{system.name}: {fault.what} at {fault.parts[0].name} is found");', "      end"]
         found.append("\n".join(lines))
     numbers = max(collar_planted.count(placed.word.bits) for placed in system.collars)
     for number in range(1, numbers + 1):
-        lines = [f'      if (is_taken({len(found)}, asked == "")) begin']
+        lines = [f'      take({len(found)}, asked == "", turn_taken);', "      if (turn_taken) begin"]
         lines.append(f"        run(1'b0, {width}'d0, 7'd0, 3'd{number}, {count}'d0);")
         told = f"of the words in which every two bits differ number {number} passes"
         found.append("\n".join([*lines, f'        $display("{system.name}: {told}");', "      end"]))
     return found
-
-
-def most(system: System) -> int:
-    """How many cycles the test may take."""
-    sessions = 2 if any(placed.macro.has_second for placed in system.collars) else 1
-    lanes = sum(pin.width + 1 for placed in system.collars for pin in placed.macro.driven() if pin.has_lanes)
-    return sessions * sum(chip.done + 10 for chip in system.chips) + 24 * lanes + 20 * len(system.collars) + 100
 
 
 def bench(system: System) -> str:
@@ -405,7 +412,9 @@ def bench(system: System) -> str:
         tasks += one.tasks() + USE.format(name=placed.name, uses=one.uses())
         links += chip_side(placed, one)
         again.append(one.again())
-    turns = runs(system)
+    links += [f".{name}()" for name, _ in seen_by_tester(system)]
+    turns, text = runs(system), Text(system)
+    text.text()
     return BENCH.format(
         mark=MARK,
         name=system.name,
@@ -421,9 +430,11 @@ def bench(system: System) -> str:
         power=power,
         links=",\n    ".join(links),
         tasks=tasks,
+        watched=Watch(system, text).lines(),
+        gates=GATES,
         uses="\n".join(f"      use_{placed.name};" for placed in system.collars),
         again="\n".join(again),
-        most=most(system),
+        most=cycles(system) + 20,
         zero=f"{count}'d0",
         turns=len(turns),
         named="".join(f' && asked != "{part.name}"' for part in system.parts),

@@ -1,0 +1,1 @@
+{any(w0);del;any(r0,w1);del;any(r1)}

@@ -1,0 +1,164 @@
+"""What a tester needs round a whole chip that `vidlakost top` joined: the same start, state and first failure as round
+one memory, with a bit for each memory, and the chip's pins of all collars on their way through."""
+from __future__ import annotations
+
+import dataclasses
+import pathlib
+import re
+
+from vidlakost_tools import collar_planted, system_text
+from vidlakost_tools.access_block import Port, Target, Unit, links
+from vidlakost_tools.collar_planted import DEFINE
+from vidlakost_tools.collar_watch import POWER
+from vidlakost_tools.macro_pins import RESERVED
+from vidlakost_tools.soc import System
+from vidlakost_tools.system_steps import cycles
+from vidlakost_tools.text import LARGE_BYTES, lines_of, read_described, read_text
+from vidlakost_tools.tool import ToolError
+
+# a net inside a module that is written
+INNER = re.compile(r"^ +(?:reg|wire) (?:\[\d+:0\] )?(\w+);", re.MULTILINE)
+ABOUT = """//   +planted +unit=U +bit=B   each word that memory U answers has bit B wrong"""
+
+
+@dataclasses.dataclass
+class SystemTarget(Target):
+    """The memories of a whole chip, and the module that joins them."""
+
+    system: System = dataclasses.field(default_factory=lambda: System("", 1, []))
+
+    def ports(self) -> list[Port]:
+        """The chip's pins of all collars."""
+        scan = [Port("input", "scan_mode")] if self.has_scan else []
+        told = system_text.chip_ports(self.system)
+        return scan + [Port(way, name, width) for way, width, name in told if way != "inout"]
+
+    def pins_by_clock(self) -> list[tuple[str, list[Port], list[Port]]]:
+        """Each clock of the chip's, `clk` first, with its inputs and its outputs."""
+        found: dict[str, tuple[list[Port], list[Port]]] = {"clk": ([], [])}
+        if self.has_scan:
+            found["clk"][0].append(Port("input", "scan_mode"))
+        for placed in self.system.collars:
+            second = next((pin for pin in placed.macro.of("clk", second=True)), None)
+            for way, pin in placed.macro.chip_pins():
+                names = [system_text.port_name(placed, name) for name in pin.names()]
+                if pin.kind in ("clk", "clock2"):
+                    found.setdefault(names[0], ([], []))
+                elif way != "inout":
+                    clock = system_text.port_name(placed, second.name) if second and pin.is_second else "clk"
+                    ports = [Port(way, name, 1 if pin.bits else pin.width) for name in names]
+                    found.setdefault(clock, ([], []))[way == "output"].extend(ports)
+        return [(clock, *ports) for clock, ports in found.items()]
+
+    @property
+    def has_scan(self) -> bool:
+        return any(placed.macro.bypass for placed in self.system.collars)
+
+    def supplies(self) -> list[str]:
+        return [name for way, _, name in system_text.chip_ports(self.system) if way == "inout"]
+
+    def conditional(self) -> list[str]:
+        power = [f"`ifdef {POWER}", *(f"  inout wire {name}," for name in self.supplies()), "`endif"]
+        return [*(power if self.supplies() else []), *collar_planted.ports(len(self.system.collars))]
+
+    def handed_on(self) -> list[str]:
+        names = [name for name, _ in collar_planted.INPUTS]
+        power = [f"`ifdef {POWER}", *(f"    .{name}({name})," for name in self.supplies()), "`endif"]
+        planted = [f"`ifdef {DEFINE}", f"    {', '.join(f'.{name}({name})' for name in names)},", "`endif"]
+        return [*(power if self.supplies() else []), *planted]
+
+    def nets(self) -> list[str]:
+        """What each memory's test writes and reads."""
+        found = []
+        for unit in self.units:
+            word = f"[{unit.memory.bits - 1}:0] " if unit.memory.bits > 1 else ""
+            found += [f"  wire {word}wdata{unit.suffix};", f"  wire {word}rdata{unit.suffix};"]
+        return found
+
+    def self_test(self) -> list[str]:
+        seen = []
+        for unit in self.units:
+            seen += [f".given{unit.suffix}(wdata{unit.suffix})", f".taken{unit.suffix}(rdata{unit.suffix})"]
+        return [
+            f"  {self.top} self_test(",
+            *self.handed_on(),
+            f"    .clk(clk), .test(test), {links(self.ports())},",
+            f"    {', '.join(seen)},",
+            "    .done(over), .fail(fail));",
+        ]
+
+    # ---- in a testbench
+
+    def bench_head(self) -> str:
+        return f"`define {DEFINE}\n`timescale 1ns / 1ps\n"
+
+    def bench_nets(self) -> str:
+        """The chip's pins, at rest."""
+        found = []
+        for port in self.ports():
+            rest = f" = {port.width}'d0" if port.direction == "input" else ""
+            found.append(f"  wire {f'[{port.width - 1}:0] ' if port.width > 1 else ''}{port.name}{rest};")
+        power = [f"`ifdef {POWER}", *(f"  wire {name} = 1'b1;" for name in self.supplies()), "`endif"]
+        return "\n".join([*found, *(power if self.supplies() else [])])
+
+    def bench_links(self) -> str:
+        power = [f"`ifdef {POWER}", *(f"    .{name}({name})," for name in self.supplies()), "`endif"]
+        planted = "    .planted(planted_at), .planted_bit(planted_bit), .numbered(3'd0),"
+        return "\n".join(["", *(power if self.supplies() else []), planted, "    "])
+
+    def beside(self) -> str:
+        """Where a bit is planted wrong: in which collar, and which bit of its word."""
+        width = 3 * len(self.system.collars)
+        at, bit = f"{width}'d0", "7'd0"
+        for number, placed in enumerate(self.system.collars):
+            first = 0
+            for part in placed.parts:
+                chosen = f"at_unit == 10'd{self.system.parts.index(part)}"
+                at = f"{chosen} ? {width}'d4 << {3 * number} :\n    {at}"
+                bit = f"{chosen} ? 7'd{first} + {{1'b0, at_bit}} :\n    {bit}"
+                first += part.memory.bits
+        return f"  assign planted_at = !planted ? {width}'d0 :\n    {at};\n  assign planted_bit =\n    {bit};\n"
+
+    def beside_nets(self) -> str:
+        return f"  wire [{3 * len(self.system.collars) - 1}:0] planted_at;\n  wire [6:0] planted_bit;\n"
+
+    def how_planted(self) -> str:
+        return ABOUT
+
+
+def of_system(system: System) -> SystemTarget:
+    """The target of a whole chip, whose chips are placed."""
+    if system.name in RESERVED:
+        raise ToolError(f"'{system.name}' is a word of SystemVerilog, so it names no module: give the chip another name")
+    memories = [dataclasses.replace(part.memory, name=part.name) for part in system.parts]
+    units = [Unit(memory, f"_{number}") for number, memory in enumerate(memories)]
+    return SystemTarget(system.name, f"{system.name}_system", units, True, cycles(system), system=system)
+
+
+def refuse_inner_names(target: SystemTarget, texts: dict[str, str]) -> None:
+    """No pin of the chip has the name of a net inside the modules that are written."""
+    pins = {port.name for port in target.ports()} | set(target.supplies())
+    for name, text in texts.items():
+        if not name.endswith(".v"):
+            continue
+        declared = pins & set(INNER.findall(text))
+        if declared:
+            net = sorted(declared)[0]
+            raise ToolError(f"{name} would have a net {net}, and the chip has a pin of that name: rename a memory")
+
+
+def files_of(folder: pathlib.Path, target: SystemTarget) -> list[str]:
+    """The files that `top` wrote to a folder, without its testbench."""
+    listed, module = folder / "files.f", folder / f"{target.top}.v"
+    if not listed.is_file() or not module.is_file():
+        raise ToolError(f"{folder} has no {target.top}.v and files.f: it is the folder that vidlakost top --access wrote")
+    if " given_0" not in read_text(str(module), LARGE_BYTES):
+        raise ToolError(f"{module} tells no tester what its memories answer: write it by vidlakost top --access")
+    names = [line for line in lines_of(read_described(str(listed))) if line and not line.startswith("//")]
+    return [name for name in names if name != f"{target.top}_tb.sv"]
+
+
+def left_out(target: SystemTarget) -> list[str]:
+    """What is written of a memory and not of a whole chip, whose models stand in its folder."""
+    name = target.name
+    return [f"{name}_model.v", f"{name}_board.v", f"{name}_socket.cpp", f"{name}.cfg"]
