@@ -2,12 +2,12 @@
 read."""
 from __future__ import annotations
 
-from vidlakost_tools.access_block import Port, Target, extended, links, model_links, zero
+from vidlakost_tools.access_block import Port, Target, extended, links, zero
 from vidlakost_tools.bench_end import FINISH, over, planted
 from vidlakost_tools.verilog import ranged
 
-TOP = """// Starts the self-test of {name} {how} and reads what it found, with two runs one after another.
-//   +planted +address=A +bit=B +value=V{unit}   a bit of a word is stuck at V (0 where nothing is said of a number)
+TOP = """{head}// Starts the self-test of {name} {how} and reads what it found, with two runs one after another.
+{how_planted}
 // It ends with a failure where the test does not end, where it finds anything but the stuck bit, or where the second run finds
 // something else; one that passes says so in its last line.
 module {name}_{kind}_tb;
@@ -15,14 +15,14 @@ module {name}_{kind}_tb;
   initial forever #{half} clk = ~clk;
 {declared}
   wire test;
-{planted}  integer waited;
+{beside_nets}{planted}  integer waited;
   integer round;
   reg [3:0] state;
   reg {fails}failing;
   reg [31:0] when_read;
   reg {word}wanted;
   reg {word}got;
-  reg [3:0] whose;
+  reg [9:0] whose;
   reg [{top}:0] first;
 {links}{body}
   task told(input integer number);
@@ -31,6 +31,8 @@ module {name}_{kind}_tb;
       if (state !== 4'h3 && state !== 4'hf) $fatal(1, "{name}: the state is %b", state);
       if (failing !== (planted ? {one} << at_unit : {none}))
         $fatal(1, "{name}: fail is %b, and %0d bits are stuck", failing, planted);
+      if (planted && ((wanted ^ got) !== {word_one} << at_bit || whose !== at_unit))
+        $fatal(1, "{name}: expected %h and returned %h of %0d, and bit %0d of %0d is wrong", wanted, got, whose, at_bit, at_unit);
       if (number == 0) first = {{whose, when_read, wanted, got}};
       else if (first !== {{whose, when_read, wanted, got}}) $fatal(1, "{name}: the second run found something else");
       if (number == 0)
@@ -50,17 +52,20 @@ def testbench(target: Target, kind: str, how: str, half: int, declared: str, lin
         kind=kind,
         how=how,
         half=half,
-        declared=declared + "\n".join(f"  wire {ranged(port.width)}{port.name};" for port in target.ports()),
+        declared=declared + target.bench_nets(),
+        head=target.bench_head(),
+        beside_nets=target.beside_nets(),
+        how_planted=target.how_planted(),
         fails=ranged(target.count),
         word=ranged(target.word),
-        top=35 + 2 * target.word,
+        top=41 + 2 * target.word,
         over=over(f"{target.name}_{kind}_tb"),
         planted=planted(f"{target.name}_{kind}_tb", sizes(target)),
         one=f"{target.count}'d1",
         none=zero(target.count),
-        links=link + model_links(target),
+        word_one=f"{target.word}'d1",
+        links=link + target.beside(),
         body=body,
-        unit=" +unit=U" if target.is_chip else "",
         unit_form=" unit %0d" if target.is_chip else "",
         unit_value=", whose" if target.is_chip else "",
     )
@@ -112,13 +117,13 @@ def access_bench(target: Target) -> str:
     state = [Port("", "done"), Port("", "fail", target.count), Port("", "seen"), *target.result()]
     declared = "  reg start = 1'b0;\n" + "".join(f"  wire {ranged(port.width)}{port.name};\n" for port in state)
     choice = f", .ignore({zero(target.count)})" if target.is_chip else ""
-    link = f"  {target.name}_access dut(.clk(clk), .start(start){choice}, {links(target.ports())},\n"
+    link = f"  {target.name}_access dut({target.bench_links()}.clk(clk), .start(start){choice}, {links(target.ports())},\n"
     link += f"    .test(test), {links(state)});\n"
     body = ACCESS_BODY.format(
         name=target.name,
         most=most(target) + 100,
         any=f"fail != {zero(target.count)}",
-        whose=extended("unit", target.unit_bits, 4) if target.is_chip else "4'd0",
+        whose=extended("unit", target.unit_bits, 10) if target.is_chip else "10'd0",
         none=zero(target.count),
     )
     return testbench(target, "access", "by a signal of another clock", 5, declared, link, body)

@@ -3,7 +3,7 @@ state, and the cycle and the words of the first failure."""
 from __future__ import annotations
 
 import dataclasses
-from typing import Callable
+from typing import Callable, Sequence
 
 from vidlakost_tools.chip import Chip
 from vidlakost_tools.memory import Memory
@@ -44,14 +44,15 @@ class Unit:
 
 @dataclasses.dataclass
 class Target:
-    """What is tested: one memory, or the memories of a chip, the module of the self-test, and the cycle of `done` where
-    the march is known."""
+    """What is tested: one memory, or the memories of a chip, the module of the self-test, the cycle of `done` where the march is
+    known, and how many wrong reads a log keeps that a bus reads, where one does."""
 
     name: str
     top: str
     units: list[Unit]
     is_chip: bool
     done: int | None = None
+    depth: int | None = None
 
     @property
     def word(self) -> int:
@@ -83,6 +84,52 @@ class Target:
         unit = [Port("output", "unit", self.unit_bits)] if self.is_chip else []
         return [Port("output", "cycle", 32), *words, *unit]
 
+    # ---- what a whole chip has in another way
+
+    def conditional(self) -> list[str]:
+        """The lines of ports that stand under a define."""
+        return []
+
+    def handed_on(self) -> list[str]:
+        """The lines of their links, from a module to the one inside."""
+        return []
+
+    def nets(self) -> list[str]:
+        """What is declared beside the ports, for what the self-test writes and reads."""
+        return []
+
+    def self_test(self) -> list[str]:
+        """The instance of the self-test."""
+        return [
+            f"  {self.top} self_test(.clk(clk), .reset(!test), {links(self.ports())},",
+            "    .done(over), .fail(fail));",
+        ]
+
+    def bench_head(self) -> str:
+        """What stands before the module of a testbench."""
+        return ""
+
+    def bench_nets(self) -> str:
+        """The nets of a testbench for the ports."""
+        return "\n".join(f"  wire {ranged(port.width)}{port.name};" for port in self.ports())
+
+    def bench_links(self) -> str:
+        """Further links of the module under test."""
+        return ""
+
+    def beside_nets(self) -> str:
+        """What is declared for what stands beside the module under test."""
+        return ""
+
+    def beside(self) -> str:
+        """What stands beside the module under test, and has faults planted in it."""
+        return model_links(self)
+
+    def how_planted(self) -> str:
+        """The words of a call that plants a fault."""
+        which = " +unit=U" if self.is_chip else ""
+        return f"//   +planted +address=A +bit=B +value=V{which}   a bit of a word is stuck at V (0 where nothing is said of a number)"
+
     def choice(self) -> list[Port]:
         """Of a chip the units whose failures are not kept."""
         return [Port("input", "ignore", self.count)] if self.is_chip else []
@@ -92,6 +139,12 @@ def is_chip_file(path: str) -> bool:
     """Whether a file begins as a chip file does."""
     said = statements(read_described(path))
     return bool(said) and said[0][1] == "chip"
+
+
+def is_list(path: str) -> bool:
+    """Whether a file begins as a list of memories above chip files does."""
+    said = statements(read_described(path))
+    return bool(said) and said[0][1] == "list"
 
 
 def of_memory(memory: Memory, done: int | None) -> Target:
@@ -110,13 +163,14 @@ def of_chip(chip: Chip) -> Target:
     return Target(chip.name, chip.name, units, True, chip.done)
 
 
-def header(about: str, name: str, ports: list[Port], registers: tuple[str, ...] = ()) -> str:
-    """The comment, the name and the ports of a module."""
+def header(about: str, name: str, ports: list[Port], registers: tuple[str, ...] = (), before: Sequence[str] = ()) -> str:
+    """The comment, the name and the ports of a module; `before` are lines of ports that stand under a define."""
     lines = []
     for port in ports:
         kept = port.name in registers
         lines.append(port.declared().replace("output ", "output reg ", 1) if kept else port.declared())
-    return f"{about}\nmodule {name}(\n  " + ",\n  ".join(lines) + "\n);\n"
+    first = "".join(f"{line}\n" for line in before)
+    return f"{about}\nmodule {name}(\n{first}  " + ",\n  ".join(lines) + "\n);\n"
 
 
 def links(ports: list[Port]) -> str:
@@ -224,19 +278,18 @@ def access(target: Target) -> str:
         more = pipeline(unit)
         declared += more[0]
         moved += more[1]
-    reset = "!test"
     lines = [
         "  // start comes of another clock",
         "  reg start_1;",
         "  reg start_2;",
         "  reg [31:0] count;",
         "  wire over;",
+        *target.nets(),
         *declared,
         *([f"  reg {ranged(target.count)}failed;", f"  wire {ranged(target.count)}rises;"] if target.is_chip else []),
         "  assign test = start_2;",
         *(["  assign rises = fail & ~failed & ~ignore;"] if target.is_chip else []),
-        f"  {target.top} self_test(.clk(clk), .reset({reset}), {links(target.ports())},",
-        "    .done(over), .fail(fail));",
+        *target.self_test(),
         "  always @(posedge clk) begin",
         "    start_1 <= start;",
         "    start_2 <= start_1;",
@@ -245,7 +298,7 @@ def access(target: Target) -> str:
         *capture(target),
         "endmodule",
     ]
-    return header(about, f"{target.name}_access", ports, kept) + "\n".join(lines) + "\n"
+    return header(about, f"{target.name}_access", ports, kept, target.conditional()) + "\n".join(lines) + "\n"
 
 
 # ---- from one clock to the other
@@ -323,7 +376,8 @@ def inside(target: Target, clock: str, reset_n: str) -> str:
     lines += [
         f"  {target.name}_cross crossing(.clock({clock}), .reset_n({reset_n}), .want(want),",
         f"    {links(names)});",
-        f"  {target.name}_access tested(.clk(clk), .start(start), {links(behind)});",
+        "\n".join([f"  {target.name}_access tested(", *target.handed_on(), "    "]).replace("(\n    ", "(")
+        + f".clk(clk), .start(start), {links(behind)});",
     ]
     return "\n".join(lines) + "\n"
 
@@ -336,7 +390,7 @@ module {name}_model(
   input clk,
   {ports},
   input planted,
-  input [3:0] at_unit,
+  input [9:0] at_unit,
   input [15:0] at_address,
   input [5:0] at_bit,
   input at_value
@@ -347,7 +401,7 @@ PART = """  reg {word}words{s} [0:{last}];
   reg {word}answers{s} [1:{latency}];
   wire {word}stuck{s};
   wire {word}read{s};
-  assign stuck{s} = (planted && at_unit == 4'd{number} && at_address == {address}) ? {one} << at_bit : {zero};
+  assign stuck{s} = (planted && at_unit == 10'd{number} && at_address == {address}) ? {one} << at_bit : {zero};
   assign read{s} = (words{s}[addr{s}] & ~stuck{s}) | (at_value ? stuck{s} : {zero});
   assign rdata{s} = answers{s}[{latency}];
   always @(posedge clk) begin : memory{s}

@@ -3,6 +3,7 @@ from __future__ import annotations
 
 import dataclasses
 
+from vidlakost_tools import log_window
 from vidlakost_tools.access_bench import most, testbench
 from vidlakost_tools.access_block import Port, Target, extended, header, inside, links, zero
 from vidlakost_tools.bench_end import FINISH
@@ -51,6 +52,21 @@ def parts_of(name: str, source: str, width: int, at: int, about: str) -> list[Re
     return [Register(f"{name}_LOW", at, [low]), Register(f"{name}_HIGH", at + 4, [high])]
 
 
+def in_words(name: str, at: int, further: int, source: str, count: int, about: str, writable: bool = False) -> list[Register]:
+    """A bit for each unit in one register, or in several of 32 bits; those behind the first stand at `further` and behind."""
+    field = source.split("_")[-1].replace("failed", "fail")
+    if count <= 32:
+        return [Register(name, at, [Field(field, 0, count, source, about)], writable)]
+    made = []
+    for number, low in enumerate(range(0, count, 32)):
+        width = min(32, count - low)
+        bits = f"{source}[{low + width - 1}:{low}]" if width > 1 else f"{source}[{low}]"
+        told = f"{about}: units {low} to {low + width - 1}"
+        place = further + 4 * (number - 1) if number else at
+        made.append(Register(f"{name}_{number}" if number else name, place, [Field(field, 0, width, bits, told)], writable))
+    return made
+
+
 def registers(target: Target) -> list[Register]:
     state = [
         Field("test", 0, 1, "has_test", "the start has arrived: the self-test has the memory"),
@@ -61,18 +77,29 @@ def registers(target: Target) -> list[Register]:
     bits = target.unit_bits
     whose = Field("unit", 0, bits, f"(is_seen ? unit : {zero(bits)})", "whose failure it is")
     loose = "a bit for each unit whose failures are not kept; it stays while START is 1"
-    ignore = Field("ignore", 0, target.count, "ignore", loose)
     begin = Field("start", 0, 1, "want", "1 starts a test and keeps what it found; 0 ends it")
-    failing = Field("fail", 0, target.count, "has_failed", "a bit for each unit, the first one's lowest")
     return [
         Register("CONTROL", 0x00, [begin], True),
         Register("STATUS", 0x04, state),
-        Register("FAIL", 0x08, [failing]),
+        *in_words("FAIL", 0x08, 0x100, "has_failed", target.count, "a bit for each unit, the first one's lowest"),
         *([Register("UNIT", 0x0C, [whose])] if target.is_chip else []),
         *parts_of("CYCLE", "cycle", 32, 0x10, "of the first failure the cycle, as vidlakost locate takes it"),
         *parts_of("EXPECTED", "expected", target.word, 0x14, "the word that the march expects"),
         *parts_of("RETURNED", "returned", target.word, 0x1C, "the word that returned"),
-        *([Register("IGNORE", 0x24, [ignore], True)] if target.is_chip else []),
+        *(in_words("IGNORE", 0x24, 0x200, "ignore", target.count, loose, True) if target.is_chip else []),
+        *(of_log(target) if target.depth else []),
+    ]
+
+
+def of_log(target: Target) -> list[Register]:
+    """The registers in front of the window of the log."""
+    count = Field("count", 0, 7, "log_count", "how many entries the log has; it stands when the test is done")
+    gap = Field("reserved", 7, 24, "24'd0", "0")
+    more = Field("more", 31, 1, "log_more", "wrong reads came when the log was full")
+    which = Field("log_unit", 0, target.unit_bits, "log_unit", "whose log stands in LOG and in the window")
+    return [
+        Register("LOG", 0x28, [count, gap, more]),
+        *([Register("LOG_UNIT", 0x2C, [which], True)] if target.is_chip else []),
     ]
 
 
@@ -96,15 +123,35 @@ def bus() -> list[Port]:
     ]
 
 
+def written(register: Register) -> str:
+    """What a write to a register of bits does."""
+    field = register.fields[0]
+    pick = f"pwdata[{field.width - 1}:0]" if field.width > 1 else "pwdata[0]"
+    return f"      if (paddr == 12'h{register.at:03x}) {field.source} <= {pick};"
+
+
 def block(target: Target) -> str:
     """The module NAME_apb."""
     ports = [*bus(), Port("input", "clk"), *target.ports(), Port("output", "test")]
     table = registers(target)
     held = [f"  reg {Port('', 'ignore', target.count).declared().strip()};"] if target.is_chip else []
     reset = [f"      ignore <= {zero(target.count)};"] if target.is_chip else []
-    pick = f"pwdata[{target.count - 1}:0]" if target.count > 1 else "pwdata[0]"
-    more = [f"      if (paddr == 12'h024) ignore <= {pick};"] if target.is_chip else []
-    used = max(1, target.count if target.is_chip else 1)
+    more = [written(it) for it in table if it.name.startswith("IGNORE")]
+    if target.is_chip and target.depth:
+        bits = target.unit_bits
+        held.append(f"  reg {Port('', 'log_unit', bits).declared().strip()};")
+        reset.append(f"      log_unit <= {zero(bits)};")
+        more.append(f"      if (paddr == 12'h02c) log_unit <= pwdata{f'[{bits - 1}:0]' if bits > 1 else '[0]'};")
+    answer = [
+        "      case (paddr)",
+        *(f"        12'h{it.at:03x}: value <= {it.value()};" for it in table),
+        "        default: begin",
+        "          value <= 32'd0;",
+        "          is_there <= 1'b0;",
+        "        end",
+        "      endcase",
+    ]
+    used = min(32, max(1, target.count if target.is_chip else 1))
     lines = [
         "  reg want;",
         *held,
@@ -112,8 +159,9 @@ def block(target: Target) -> str:
         "  reg is_there;",
         "  wire access_phase;",
         "  wire unused;",
-        inside(target, "pclk", "presetn").rstrip("\n"),
-        f"  assign unused = &{{1'b0, pwdata[31:{used}]}};",
+        (inside(target, "pclk", "presetn") + log_window.inside(target)).rstrip("\n"),
+        *(["  assign log_pick = paddr[10:5];"] if target.depth else []),
+        f"  assign unused = &{{1'b0, pwdata[31:{used}]}};" if used < 32 else "  assign unused = 1'b0;",
         "  assign access_phase = psel & penable;",
         "  assign pready = access_phase;",
         "  assign prdata = value;",
@@ -132,20 +180,14 @@ def block(target: Target) -> str:
         "  always @(posedge pclk)",
         "    if (psel & !penable) begin",
         "      is_there <= 1'b1;",
-        "      case (paddr)",
-        *(f"        12'h{it.at:03x}: value <= {it.value()};" for it in table),
-        "        default: begin",
-        "          value <= 32'd0;",
-        "          is_there <= 1'b0;",
-        "        end",
-        "      endcase",
+        *log_window.window(target, answer),
         "    end",
         "endmodule",
     ]
     # what is declared stands before what uses it
     lines.remove("  wire writable;")
     lines.insert(lines.index("  wire access_phase;"), "  wire writable;")
-    return header(APB.format(name=target.name), f"{target.name}_apb", ports) + "\n".join(lines) + "\n"
+    return header(APB.format(name=target.name), f"{target.name}_apb", ports, before=target.conditional()) + "\n".join(lines) + "\n"
 
 
 # ---- the registers in words
@@ -166,6 +208,7 @@ def table(target: Target) -> str:
             "| Address | Register | Bits | Field | | Meaning |",
             "|---|---|---|---|---|---|",
             *rows,
+            *log_window.table_rows(target),
             "",
             "All other bits are read as 0, and a write to them is without effect. Behind presetn all fields are 0.",
             "",
@@ -188,7 +231,7 @@ def system_rdl(target: Target) -> str:
             bits = f"[{field.low + field.width - 1}:{field.low}]"
             lines.append(f'    field {{ {access}; desc = "{field.about}"; }} {field.name}{bits};')
         lines.append(f"  }} {it.name} @ 0x{it.at:02x};")
-    return "\n".join([*lines, "};", ""])
+    return "\n".join([*lines, *log_window.rdl(target), "};", ""])
 
 
 BODY = """
@@ -242,7 +285,7 @@ BODY = """
     @(posedge pclk);
     #1 presetn = 1'b1;
     refused(12'h001, 1'b0);
-    refused(12'h028, 1'b0);
+    refused({beyond}, 1'b0);
     refused(12'hffc, 1'b1);
     refused(12'h004, 1'b1);
     refused(12'h010, 1'b1);
@@ -259,12 +302,10 @@ BODY = """
         if (waited > {most}) $fatal(1, "{name}: done did not come");
       end
       state = heard[3:0];
-      get(12'h008);
-      failing = heard[{last}:0];
-      get(12'h010);
+{fails}      get(12'h010);
       when_read = heard;
 {words}      told(round);
-      put(12'h000, 32'd0);
+{log}      put(12'h000, 32'd0);
     end
     """ + FINISH + """
   end
@@ -279,10 +320,21 @@ def read_word(target: Target, name: str, at: int) -> str:
     return f"      get(12'h{at:03x});\n      {name}[31:0] = heard;\n      get(12'h{at + 4:03x});\n      {high};\n"
 
 
+def read_fails(target: Target) -> str:
+    """The statements that read the bits of all units."""
+    lines, low = [], 0
+    for it in [it for it in registers(target) if it.name.startswith("FAIL")]:
+        width = it.fields[0].width
+        place = f"[{low + width - 1}:{low}]" if target.count > 32 else ""
+        lines += [f"      get(12'h{it.at:03x});", f"      failing{place} = heard[{width - 1}:0];"]
+        low += width
+    return "\n".join([*lines, ""])
+
+
 def bench(target: Target) -> str:
     """The testbench of NAME_apb: wrong addresses first, then two runs."""
     words = read_word(target, "wanted", 0x14) + read_word(target, "got", 0x1C)
-    words += "      get(12'h00c);\n      whose = heard[3:0];\n" if target.is_chip else "      whose = 4'd0;\n"
+    words += "      get(12'h00c);\n      whose = heard[9:0];\n" if target.is_chip else "      whose = 10'd0;\n"
     declared = """  reg pclk = 1'b0;
   initial forever #7 pclk = ~pclk;
   reg presetn = 1'b0;
@@ -295,6 +347,10 @@ def bench(target: Target) -> str:
   wire pready;
   wire pslverr;
 """
-    link = f"  {target.name}_apb dut({links(bus())},\n    .clk(clk), {links(target.ports())}, .test(test));\n"
-    body = BODY.format(name=target.name, most=most(target), last=target.count - 1, words=words)
+    link = f"  {target.name}_apb dut({target.bench_links()}{links(bus())},\n    .clk(clk), {links(target.ports())}, .test(test));\n"
+    # with a log the first address behind the window, or behind an entry of it
+    beyond = "12'h028" if target.depth is None else f"12'h{0x800 + 32 * target.depth:x}" if target.depth < 64 else "12'hff4"
+    log = log_window.apb_reads(target)
+    body = BODY.format(name=target.name, most=most(target), fails=read_fails(target), words=words, beyond=beyond, log=log)
+    declared += log_window.APB_DECLARED if target.depth else ""
     return testbench(target, "apb", "by an APB3 bus", 5, declared, link, body)

@@ -49,9 +49,17 @@ def values_of(code: str, rest: str) -> dict[str, str]:
     return {"name": rest} if rest else {}
 
 
+# what the file of `show` is called in the forms of the other commands
+SHOWN_AS = {"march": "MARCH", "memory": "MEMORY", "list": "FAULTS", "chip": "CHIPFILE"}
+
+
 def words_by_name(words: list[str]) -> dict[str, str]:
-    """The words of a call by their names in the command's form."""
-    return dict(zip(form_of(words[0])[1:], words[1:])) if words else {}
+    """The words of a call by their names in the command's form; the file of `show` by what it is read as."""
+    named = dict(zip(form_of(words[0])[1:], words[1:])) if words else {}
+    kind = named.get("KIND")
+    if kind in SHOWN_AS and "FILE" in named:
+        named[SHOWN_AS[kind]] = named.pop("FILE")
+    return named
 
 
 def is_there_still(word: str) -> bool:
@@ -137,6 +145,8 @@ def another_kind(subject: str, kind: str, text: bytes) -> Iterator[str]:
 
 def wrong_word(name: str, word: str, named: Mapping[str, str]) -> str | None:
     """What is wrong with one word of a command, by itself."""
+    if name == "KIND":
+        return None if word in SHOWN_AS else f"KIND is {listed([*SHOWN_AS], 'or')}, and not '{word}'"
     if not word:
         return f"{name} is empty"
     if word.startswith("-"):
@@ -202,7 +212,7 @@ def usage(words: list[str]) -> list[str]:
         wrong = wrong_word(name, word, named)
         if wrong:
             return [f"{CONSOLE}: error: {wrong}", *line]
-    files = [name for name in named if name not in ("PRIM", "SIZE", "CONTENT", "AGG", "VIC", "DIRS", "NUMBER")]
+    files = [name for name in named if name not in ("PRIM", "SIZE", "CONTENT", "AGG", "VIC", "DIRS", "NUMBER", "KIND")]
     for place, name in enumerate(files):
         same = next((other for other in files[:place] if named[other] == named[name]), None)
         if same:

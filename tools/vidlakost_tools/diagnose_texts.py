@@ -4,6 +4,7 @@ from __future__ import annotations
 import re
 from typing import Mapping
 
+from vidlakost_tools import old_names
 from vidlakost_tools.faults import Primitive, read_primitive
 from vidlakost_tools.finding import (
     CLASSES,
@@ -106,21 +107,6 @@ def early(kind: str, name: str, text: bytes, what: str, is_word: bool = False) -
 
 # ---- lists and primitives
 
-# what other names of the literature are here
-OLD_NAMES = {
-    "saf": "a cell that is stuck at 1 is <0/1/->, at 0 <1/0/->: both are SF",
-    "sa0": "a cell that is stuck at 0 is <1/0/->, of the class SF",
-    "sa1": "a cell that is stuck at 1 is <0/1/->, of the class SF",
-    "cfid": "an idempotent coupling fault is a primitive of CFds, as <0w1;0/1/->",
-    "cfin": "an inversion coupling fault is two primitives of CFds, as <0w1;0/1/-> and <0w1;1/0/->",
-    "af": "faults of the address decoder are no primitives, and no verdict speaks of them",
-    "sof": "a stuck-open cell is no primitive, and no verdict speaks of it",
-    "npsf": "neighbourhoods of cells are no primitives, and no verdict speaks of them",
-    "static": "the 48 static primitives without a pause are 'all'",
-    "dynamic": "the dynamic primitives are 'dyn1' and 'dyn2'",
-}
-
-
 def fault(name: str, text: bytes, code: str, values: Mapping[str, str], is_word: bool) -> Finding:
     """What is wrong with a list, or with a primitive among the words of a call."""
     line = int(values["line"])
@@ -143,8 +129,11 @@ def no_item(name: str, text: bytes, at: int, is_word: bool) -> Finding:
     word = word_at(text, at)
     if is_word and re.fullmatch(rb"[A-Za-z]\w*", text):
         return Finding(name, text, 0, "a primitive has to stand here, as <0w1/0/->, and no class")
-    if word.lower() in OLD_NAMES:
-        return Finding(name, text, found.at, f"'{word}' is no name of a class here", [OLD_NAMES[word.lower()]])
+    meaning, meant = old_names.meaning_of(word), old_names.class_of(word)
+    if meaning is not None:
+        return Finding(name, text, found.at, f"'{word}' is no name of a class here", [meaning])
+    if meant is not None and meant.lower() != word.lower():
+        return Finding(name, text, found.at, f"'{word}' is no name of a class here; '{meant}' is", found.notes)
     return found
 
 

@@ -151,6 +151,7 @@ def bench(target: Target, depth: int) -> str:
 MOST = 1 << 20
 LOG_BYTES = 1 << 26
 # the start of an entry is short, so that a long line is looked at once
+OF_UNIT = re.compile(r"\bunit ([0-9]{1,2}) cycle ")
 ENTRY = re.compile(r"\bcycle ([0-9]{1,10}) expected ([0-9a-fA-F]{1,16}) returned ([0-9a-fA-F]{1,16})\b")
 
 
@@ -163,13 +164,17 @@ class Entry:
     word: int
 
 
-def read_log(path: str, memory: Memory) -> tuple[list[Entry], bool]:
-    """The entries of a log, and whether more came. A line has `cycle C expected X returned W`; other lines are left. They come in
+def read_log(path: str, memory: Memory, unit: int | None = None) -> tuple[list[Entry], bool]:
+    """The entries of a log, of a chip those of a unit, and whether more came. A line has `cycle C expected X returned W`; other lines are left. They come in
     the order of their cycles, and the last one may be cut off where a run was ended."""
     entries: list[Entry] = []
     more = False
+    # a testbench of a bus says the first failure in front of the log
+    said_before: Entry | None = None
     for count, line in enumerate(stream(path, LOG_BYTES), 1):
-        match = ENTRY.search(line)
+        match, whose = ENTRY.search(line), OF_UNIT.search(line)
+        if whose and unit is not None and int(whose[1]) != unit:
+            continue
         if match:
             entry = Entry(int(match[1]), int(match[2], 16), int(match[3], 16))
             for word in match.group(2, 3):
@@ -177,6 +182,9 @@ def read_log(path: str, memory: Memory) -> tuple[list[Entry], bool]:
                     raise ToolError(f"{path}:{count}: {word} is no word of {memory.bits} bits")
             if entry.expected == entry.word:
                 raise ToolError(f"{path}:{count}: the word that was read is the one that was expected")
+            if len(entries) == 1 and entry == said_before:
+                continue
+            said_before = entry if line.startswith("fail ") and not entries else None
             if entries and entry.cycle <= entries[-1].cycle:
                 told = f"cycle {entry.cycle} stands behind cycle {entries[-1].cycle}: is this the log of two runs?"
                 raise ToolError(f"{path}:{count}: {told}")

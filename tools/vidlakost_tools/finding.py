@@ -160,7 +160,7 @@ class Trier:
         self.program = quick_program()
 
     def refusal(self, folder: pathlib.Path, text: bytes) -> str:
-        """The program's line for a text; `absent` where the text is accepted, since the next one is missing."""
+        """The program's line for a text; of one that is accepted its printed form, or `absent`, since the next one is missing."""
         file, march, missing = folder / "text", folder / "march", folder / "missing"
         file.write_bytes(text)
         march.write_text("any(w0)")
@@ -168,13 +168,7 @@ class Trier:
             # as the file of a list the primitive would be followed by the end of its line
             words = ["sim", march, text.decode("utf-8", "replace"), "2", "00", "none", "0", "u"]
         else:
-            words = {
-                "march": ["judge", file, missing, folder / "out"],
-                "list": ["judge", march, file, "/dev/null"],
-                "memory": ["benchfault", march, file, "<0/1/->", "none", "999999999.0"],
-                "verilog": [self.reader, file, missing, march],
-                "chip": ["chip", file, "/dev/null"],
-            }[self.kind]
+            words = [self.reader, file, missing, march] if self.kind == "verilog" else ["show", self.kind, file]
         done = subprocess.run(
             [str(self.program), *map(str, words)],
             stdin=subprocess.DEVNULL,

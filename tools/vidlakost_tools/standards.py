@@ -5,6 +5,7 @@ from __future__ import annotations
 import math
 import re
 
+from vidlakost_tools import log_window
 from vidlakost_tools.access_block import Target
 from vidlakost_tools.tap import IDCODE, Part, length, parts
 
@@ -78,10 +79,10 @@ entity {name}_tap is
     "PRELOAD (0001), " &
     "IDCODE (0010), " &
     "BIST (1000), " &
-    "BYPASS (1111)";
+{log}    "BYPASS (1111)";
   attribute INSTRUCTION_CAPTURE of {name}_tap : entity is "0001";
   attribute IDCODE_REGISTER of {name}_tap : entity is "{identity:032b}";
-  attribute REGISTER_ACCESS of {name}_tap : entity is "BISTREG[{length}] (BIST)";
+  attribute REGISTER_ACCESS of {name}_tap : entity is "BISTREG[{length}] (BIST){register}";
   attribute BOUNDARY_LENGTH of {name}_tap : entity is 1;
   attribute BOUNDARY_REGISTER of {name}_tap : entity is "0 (BC_1, *, internal, X)";
 end {name}_tap;
@@ -89,7 +90,10 @@ end {name}_tap;
 
 
 def bsdl(target: Target) -> str:
-    return BSDL.format(name=target.name, identity=IDCODE, length=length(target))
+    log, register = "", ""
+    if target.depth is not None:
+        log, register = '    "LOG (1001), " &\n', f", LOGREG[{log_window.length(target)}] (LOG)"
+    return BSDL.format(name=target.name, identity=IDCODE, length=length(target), log=log, register=register)
 
 
 # ---- IEEE 1687

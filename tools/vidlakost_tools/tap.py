@@ -4,11 +4,21 @@ from __future__ import annotations
 
 import dataclasses
 
+from vidlakost_tools import log_window
 from vidlakost_tools.access_bench import most, testbench
 from vidlakost_tools.access_block import Port, Target, extended, header, inside, links, model_links, zero
 from vidlakost_tools.bench_end import FINISH
 
 IDCODE = 0x10000A01
+IR_BITS = 4
+OPCODES = (
+    ("0000", "EXTEST", "a boundary register of one internal cell"),
+    ("0001", "SAMPLE, PRELOAD", "the same"),
+    ("0010", "IDCODE", "32 bits"),
+    ("1000", "BIST", "the register below"),
+    ("1001", "LOG", "with --log: an entry of the log in each scan"),
+    ("1111", "BYPASS", "one bit, as all others"),
+)
 
 
 @dataclasses.dataclass
@@ -57,11 +67,11 @@ TAP = """// A TAP of IEEE 1149.1 for the self-test of {name}. The instruction re
 //   0010 IDCODE, 1000 BIST, all others BYPASS
 // The register of BIST has {length} bits, the lowest first:
 {table}
-// A test runs while `start` is 1. trst_n is 0 at power-up; Test-Logic-Reset ends a test."""
+{log}// A test runs while `start` is 1. trst_n is 0 at power-up; Test-Logic-Reset ends a test."""
 BODY = """  localparam RESET = 4'd0, IDLE = 4'd1, SELECT_DR = 4'd2, CAPTURE_DR = 4'd3, SHIFT_DR = 4'd4, EXIT1_DR = 4'd5,
     PAUSE_DR = 4'd6, EXIT2_DR = 4'd7, UPDATE_DR = 4'd8, SELECT_IR = 4'd9, CAPTURE_IR = 4'd10, SHIFT_IR = 4'd11,
     EXIT1_IR = 4'd12, PAUSE_IR = 4'd13, EXIT2_IR = 4'd14, UPDATE_IR = 4'd15;
-  localparam EXTEST = 4'h0, SAMPLE = 4'h1, IDCODE = 4'h2, BIST = 4'h8;
+  localparam EXTEST = 4'h0, SAMPLE = 4'h1, IDCODE = 4'h2, BIST = 4'h8{log_name};
   reg [3:0] state;
   reg [3:0] instruction;
   reg [3:0] shifted;
@@ -72,7 +82,7 @@ BODY = """  localparam RESET = 4'd0, IDLE = 4'd1, SELECT_DR = 4'd2, CAPTURE_DR =
   reg want;
   reg out;
   reg drives;
-{held}{inside}  always @(posedge tck or negedge trst_n)
+{held}{log_held}{inside}{log_wires}  always @(posedge tck or negedge trst_n)
     if (!trst_n) state <= RESET;
     else
       case (state)
@@ -101,27 +111,29 @@ BODY = """  localparam RESET = 4'd0, IDLE = 4'd1, SELECT_DR = 4'd2, CAPTURE_DR =
       bypass <= 1'b0;
       boundary <= 1'b0;
       data <= {{{captured}}};
-    end
+{log_capture}    end
     if (state == SHIFT_DR)
       case (instruction)
         EXTEST, SAMPLE: boundary <= tdi;
         IDCODE: identity <= {{tdi, identity[31:1]}};
         BIST: data <= {{tdi, data[{last}:1]}};
-        default: bypass <= tdi;
+{log_shift}        default: bypass <= tdi;
       endcase
   end
   always @(negedge tck or negedge trst_n)
     if (!trst_n) begin
       instruction <= IDCODE;
       want <= 1'b0;
-{reset}    end else if (state == RESET) begin
+{reset}{log_reset}    end else if (state == RESET) begin
       instruction <= IDCODE;
       want <= 1'b0;
-{reset}    end else if (state == UPDATE_IR) instruction <= shifted;
+{reset}{log_reset}    end else if (state == UPDATE_IR) begin
+      instruction <= shifted;
+{log_reset}    end
     else if (state == UPDATE_DR && instruction == BIST) begin
       want <= data[0];
 {update}    end
-  always @(negedge tck) begin
+{log_update}  always @(negedge tck) begin
     drives <= state == SHIFT_IR || state == SHIFT_DR;
     if (state == SHIFT_IR) out <= shifted[0];
     else
@@ -129,7 +141,7 @@ BODY = """  localparam RESET = 4'd0, IDLE = 4'd1, SELECT_DR = 4'd2, CAPTURE_DR =
         EXTEST, SAMPLE: out <= boundary;
         IDCODE: out <= identity[0];
         BIST: out <= data[0];
-        default: out <= bypass;
+{log_out}        default: out <= bypass;
       endcase
   end
   assign tdo = out;
@@ -147,25 +159,27 @@ def block(target: Target) -> str:
     """The module NAME_tap."""
     ways = {True: ", written", False: ""}
     table = "\n".join(f"//   {part.bits:12} {part.name}{ways[part.writable]}" for part in parts(target))
-    about = TAP.format(name=target.name, length=length(target), table=table)
+    log = f"// With the instruction 1001, LOG, each scan of {log_window.length(target)} bits tells an entry of the log and goes on.\n" if target.depth else ""
+    about = TAP.format(name=target.name, length=length(target), table=table, log=log)
     ports = [*pins(), Port("input", "clk"), *target.ports(), Port("output", "test")]
     ignore = parts(target)[-1]
     body = BODY.format(
         last=length(target) - 1,
         held=f"  reg {Port('', 'ignore', target.count).declared().strip()};\n" if target.is_chip else "",
-        inside=inside(target, "tck", "trst_n"),
+        inside=inside(target, "tck", "trst_n") + log_window.inside(target),
+        **{"log_wires": "", **log_window.tap_parts(target)},
         identity=IDCODE,
         captured=", ".join(part.source for part in reversed(parts(target))),
         reset=f"      ignore <= {zero(target.count)};\n" if target.is_chip else "",
         update=f"      ignore <= data{ignore.bits};\n" if target.is_chip else "",
     )
-    return header(about, f"{target.name}_tap", ports) + body
+    return header(about, f"{target.name}_tap", ports, before=target.conditional()) + body
 
 
 # ---- the testbench
 
 BENCH = """
-  reg [{last}:0] heard;
+  reg [{top}:0] heard;
   task turn(input new_tms, input new_tdi);
     begin
       tms = new_tms;
@@ -235,8 +249,8 @@ BENCH = """
       got = heard{got};
       whose = {whose};
       told(round);
-      if (round == 0) $display("tdr {digits}", heard);
-      shift({length}, {length}'d0);
+      if (round == 0) $display("tdr {digits}", heard{whole});
+{log}      shift({length}, {length}'d0);
     end
     """ + FINISH + """
   end
@@ -248,17 +262,22 @@ def bench(target: Target) -> str:
     at = {part.name: part.bits for part in parts(target)}
     declared = "".join(f"  reg {name} = 1'b0;\n" for name in ("tck", "tms", "tdi"))
     declared += "  reg trst_n = 1'b1;\n  wire tdo;\n  wire tdo_en;\n"
-    link = f"  {target.name}_tap dut({links(pins())},\n    .clk(clk), {links(target.ports())}, .test(test));\n"
+    declared += "  reg more_came = 1'b0;\n" if target.depth else ""
+    top = max(length(target), log_window.length(target) if target.depth else 0) - 1
+    link = f"  {target.name}_tap dut({target.bench_links()}{links(pins())},\n    .clk(clk), {links(target.ports())}, .test(test));\n"
     body = BENCH.format(
         name=target.name,
         last=length(target) - 1,
+        top=top,
+        whole=f"[{length(target) - 1}:0]" if top > length(target) - 1 else "",
+        log=log_window.tap_reads(target),
         length=length(target),
         identity=IDCODE,
         most=most(target),
         failing=at["failing" if target.is_chip else "fail"],
         wanted=at["expected"],
         got=at["returned"],
-        whose=extended(f"heard{at['unit']}", target.unit_bits, 4) if target.is_chip else "4'd0",
+        whose=extended(f"heard{at['unit']}", target.unit_bits, 10) if target.is_chip else "10'd0",
         digits="%h",
     )
     return testbench(target, "tap", "by JTAG", 5, declared, link, body)
@@ -277,7 +296,7 @@ module {name}_board(
   output tdo_en,
   output test,
   input planted,
-  input [3:0] at_unit,
+  input [9:0] at_unit,
   input [15:0] at_address,
   input [5:0] at_bit,
   input at_value

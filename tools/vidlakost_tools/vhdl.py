@@ -11,7 +11,7 @@ from typing import Any
 
 from vidlakost_tools import confined
 from vidlakost_tools.text import SOURCE_BYTES, lines_of, read_described
-from vidlakost_tools.tool import ToolError, identifier
+from vidlakost_tools.tool import ToolError, identifier, telling
 from vidlakost_tools.vhdl_source import refuse_reaching
 
 # what names and the commas between them are of
@@ -56,15 +56,19 @@ def synthesized(form: str, names: list[str], top: str, folder: pathlib.Path) -> 
     """What GHDL makes of an entity, as a text of one of its forms. It may change nothing but what it leaves in a folder of its
     own, since it opens the files that sources name."""
     with tempfile.TemporaryDirectory(dir=folder) as own:
+        out = pathlib.Path(own) / "out"
+        out.touch()
         words = ["ghdl", "--synth", "--std=08", f"--workdir={own}", f"--out={form}", *names, "-e", top]
         try:
-            done = confined.run(words, pathlib.Path(own), SECONDS)
+            with telling(f"GHDL makes {form} of {top}", lambda: f"{out.stat().st_size:,} bytes by now"):
+                done = confined.run(words, pathlib.Path(own), SECONDS, out)
         except subprocess.TimeoutExpired as error:
             raise ToolError(f"ghdl took longer than {SECONDS} seconds, and was ended", 1) from error
+        text = out.read_bytes().decode("utf-8", "replace")
     if done.returncode:
         said = lines_of(done.stderr.decode("utf-8", "replace"))
         raise ToolError("\n".join([f"ghdl refuses it: {said[0] if said else 'no reason is given'}", *said[1:8]]), 1)
-    return done.stdout.decode("utf-8", "replace")
+    return text
 
 
 def declared_at(texts: dict[str, str]) -> dict[str, tuple[str, int]]:

@@ -2,6 +2,7 @@
 march."""
 from __future__ import annotations
 
+import functools
 import re
 from typing import Iterator
 
@@ -88,6 +89,14 @@ FUNCTIONS = """  -- what Verilog says of a bit that is not known: it stays so in
     end loop;
     return a;
   end choose;
+  -- in VHDL-87 the bounds of a concatenation may lie below 0
+  function join(left, right : unsigned) return unsigned is
+    variable made : unsigned(left'length + right'length - 1 downto 0);
+  begin
+    made(made'length - 1 downto right'length) := left;
+    made(right'length - 1 downto 0) := right;
+    return made;
+  end join;
   function equal(left, right : unsigned) return unsigned is
   begin
     return known(same(left, right), left, right);
@@ -116,15 +125,15 @@ FUNCTIONS = """  -- what Verilog says of a bit that is not known: it stays so in
     variable unknown : unsigned(value'length - 1 downto 0) := (others => 'X');
     variable made : unsigned(value'length - 1 downto 0) := value;
     variable p : unsigned(places'length - 1 downto 0) := places;
+    variable step : natural := 1;
   begin
     if not is_known(p) then return unknown; end if;
-    for i in p'range loop
+    for i in 0 to p'high loop
       if p(i) = '1' then
-        for k in 1 to 2 ** i loop
-          exit when k > made'length;
-          if is_left then made := shift_left(made, 1); else made := shift_right(made, 1); end if;
-        end loop;
+        if is_left then made := shift_left(made, step); else made := shift_right(made, step); end if;
       end if;
+      -- by as many places as it has a word is empty, and by more too
+      if step < made'length then step := step + step; end if;
     end loop;
     return made;
   end shifted;
@@ -189,7 +198,7 @@ def expression(it: Expression, names: Names) -> str:
     if it.kind == "choice":
         return f"choose({', '.join(parts)})"
     if it.kind == "join":
-        return f"({' & '.join(parts)})" if len(parts) > 1 else parts[0]
+        return functools.reduce("join({}, {})".format, parts)
     if it.kind == "prefix":
         return PREFIX[mark].format(*parts)
     if mark in (">", "<="):
@@ -343,6 +352,7 @@ architecture test of {bench} is
 {ports}
     );
   end component;
+  for dut : {entity} use entity work.{entity};
   signal clk, reset, en, we, done, fail : std_logic := '0';
   signal rdata : {word};
   signal addr : {address};
