@@ -7,16 +7,18 @@ import tempfile
 import unittest
 
 from vidlakost_tools import cycles_picture
-from vidlakost_tools.explorer import answers, kept, server
+from vidlakost_tools.explorer import answers, caught, kept, search, server
 from vidlakost_tools.faults import Array, read_primitive
 from vidlakost_tools.march import elements_of
 from vidlakost_tools.memory import parse_memory
+from vidlakost_tools.old_names import apart
 from vidlakost_tools.program import is_proved, sum_of_sources
+from vidlakost_tools.report import Verdict
 
 
 class Words(unittest.TestCase):
     def test_what_a_row_says_of_several_classes_is_said_of_each(self) -> None:
-        told = list(answers.apart("TF and WDF of the victim, while the aggressor is in a state"))
+        told = list(apart("TF and WDF of the victim, while the aggressor is in a state"))
         self.assertEqual(told, [f"{name} of the victim, while the aggressor is in a state" for name in ("TF", "WDF")])
         self.assertEqual(answers.in_words()["CFir"], "IRF of the victim, while the aggressor is in a state")
         self.assertEqual(answers.in_words()["DRF"], "data retention fault: the cell loses a state in a pause")
@@ -53,6 +55,37 @@ class Steps(unittest.TestCase):
         given = cycles_picture.first_cycles(elements_of("{any(w0)}"), memory, ["w 0 0", "w 1 0"])
         done = dict(cycles_picture.signals(given, memory.latency, memory.cycles(elements_of("{any(w0)}")) - 1))["done"]
         self.assertEqual(done, [0] * 4 + [1] * 8)
+
+
+class Caught(unittest.TestCase):
+    def reads(self, primitive: str, march: str) -> list[tuple[object, ...]]:
+        found = caught.catches(Verdict(primitive, "x"), elements_of(march))
+        return [(it.array.aggressor, it.array.victim, it.read.element, it.read.operation, it.read.cell) for it in found]
+
+    def test_the_first_read_on_each_side(self) -> None:
+        march = "{any(w0);up(r0,w1);up(r1,w0);down(r0,w1);down(r1,w0);any(r0)}"
+        self.assertEqual(self.reads("<0w1/0/->", march), [(None, 0, 2, "r1", 0)])
+        self.assertEqual(self.reads("<0w1;0/1/->", march), [(0, 1, 1, "r0", 1), (1, 0, 3, "r0", 0)])
+        self.assertEqual(self.reads("<0w1;1/0/->", march), [(0, 1, 4, "r1", 1), (1, 0, 2, "r1", 0)])
+
+    def test_nothing_is_told_of_an_array_that_passes(self) -> None:
+        self.assertEqual(self.reads("<0w0/1/->", "{any(w1);any(r1)}"), [])
+
+
+class Searched(unittest.TestCase):
+    def test_what_no_page_asks(self) -> None:
+        searches = search.Searches()
+        asked: list[dict[str, object]] = [{}, {"search": 0}, {"search": "1"}]
+        for question in asked:
+            for answer in (searches.heard, searches.stop):
+                with self.assertRaises(answers.Wrong):
+                    answer(question)
+        for wrong in (1, "true", None):
+            with self.assertRaises(answers.Wrong):
+                searches.begin({"list": "TF\n", "decoder": wrong, "linked": False})
+        for letter in ("", "AB", "/", "E"):
+            with self.assertRaises(answers.Wrong):
+                searches.begin({"list": "TF\n", "decoder": False, "linked": False, "march": "any(w0)", "letter": letter})
 
 
 class Bounds(unittest.TestCase):

@@ -5,14 +5,18 @@ import dataclasses
 from typing import List, Optional
 
 from vidlakost_tools.decoder import decoded
+from vidlakost_tools.design import backgrounds
 from vidlakost_tools.design.finder import Finder
 from vidlakost_tools.design.parts import Part, elements_from, text_of
 from vidlakost_tools.design.wishes import Clock, Words
 from vidlakost_tools.in_word import judged_in_word
 from vidlakost_tools.linked import linked
 from vidlakost_tools.march import Element
+from vidlakost_tools.memory import read_memory, with_backgrounds
 from vidlakost_tools.program import with_text
 from vidlakost_tools.report import judged
+from vidlakost_tools.text import read_described
+from vidlakost_tools.tool import telling
 
 
 @dataclasses.dataclass
@@ -22,11 +26,14 @@ class Said:
     command: str
     total: int
     escapes: List[str]
+    # the backgrounds that were found for the memory, where it has not its own
+    backgrounds: str = ""
 
     @property
     def line(self) -> str:
         """The line as the command says it."""
-        return f"total {self.total} covered {self.total - len(self.escapes)} escapes {len(self.escapes)}"
+        told = f"total {self.total} covered {self.total - len(self.escapes)} escapes {len(self.escapes)}"
+        return f"{told} with `backgrounds {self.backgrounds}`" if self.backgrounds else told
 
 
 @dataclasses.dataclass
@@ -55,7 +62,10 @@ class Answers:
         parts = finder.best or finder.nearest or finder.wish.behind or [Part("any", ("w0",))]
         march = text_of(parts)
         said = [with_text(march, lambda path: said_of(command, path, words)) for command in commands(words)]
-        return cls(march, elements_from(parts), words, finder, beyond, said)
+        elements = elements_from(parts)
+        if words.backgrounds:
+            said.append(with_text(march, lambda path: with_found(path, elements, words)))
+        return cls(march, elements, words, finder, beyond, said)
 
 
 def commands(words: Words) -> List[str]:
@@ -73,6 +83,22 @@ def said_of(command: str, march: object, words: Words) -> Said:
     elif command == "linked":
         verdicts = [(it.primitive, it.covered) for it in linked(path).verdicts]
     else:
-        inside = judged_in_word(path, str(words.in_word), words.faults)
-        verdicts = [(f"{it.primitive} {it.kind}", it.covered) for it in inside.verdicts]
+        return said_inside(path, str(words.in_word), words.faults)
     return Said(command, len(verdicts), [name for name, covered in verdicts if not covered])
+
+
+def said_inside(march: str, memory: str, faults: str, backgrounds: str = "") -> Said:
+    """What `inword` says of the march in a file."""
+    verdicts = judged_in_word(march, memory, faults).verdicts
+    return Said("inword", len(verdicts), [f"{it.primitive} {it.kind}" for it in verdicts if not it.covered], backgrounds)
+
+
+def with_found(march: object, elements: List[Element], words: Words) -> Said:
+    """What `inword` says of the march with the backgrounds that are found for it."""
+    path, memory = str(words.in_word), read_memory(str(words.in_word))
+    names = list(dict.fromkeys(it.primitive for it in judged_in_word(str(march), path, words.faults).verdicts))
+    with telling("looks for backgrounds"):
+        listed = backgrounds.found(elements, names, memory, words.backgrounds)
+    text = with_backgrounds(read_described(path), memory, listed)
+    digits = " ".join(map(memory.digits, listed))
+    return with_text(text, lambda other: said_inside(str(march), str(other), words.faults, digits))

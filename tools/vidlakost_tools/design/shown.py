@@ -73,6 +73,9 @@ def length_told(answers: Answers) -> str:
 
 def why(answers: Answers, said: Said, name: str) -> str:
     """Why the march does not cover something."""
+    if said.backgrounds:
+        most = answers.words.backgrounds
+        return f"no list of at most {most} background{'s' if most > 1 else ''} was found with which it is covered"
     if said.command == "inword":
         is_found = answers.finder.best is not None
         return "March SS does not cover it inside such a word" if is_found else "no march was found that covers it there too"
@@ -92,5 +95,7 @@ def told(answers: Answers) -> Iterator[str]:
         cycles = answers.clock.memory.cycles(answers.elements)
         yield f"time {time_of(answers.elements, answers.clock)}, {cycles:,} cycles of {answers.clock.memory.name}"
     for said in answers.said:
-        for name in said.escapes:
+        # where other backgrounds were looked for, what escapes with the memory's own is counted alone
+        is_counted = said.command == "inword" and answers.words.backgrounds and not said.backgrounds
+        for name in [] if is_counted else said.escapes:
             yield f"{'inside a word ' if said.command == 'inword' else ''}{name}: {why(answers, said, name)}"

@@ -22,7 +22,7 @@ from vidlakost_tools.tool import ToolError, number_of
 PLAIN = "any(w0)"
 # what covers as much inside a word as any march of the gallery
 INSIDE = ROOT / "examples" / "marches" / "march_ss.m"
-MOST_OPERATIONS, MOST_ELEMENTS = 16, 64
+MOST_OPERATIONS, MOST_ELEMENTS, MOST_BACKGROUNDS = 16, 64, 8
 
 
 @dataclasses.dataclass
@@ -44,6 +44,8 @@ class Words:
     decoder: bool = False
     linked: bool = False
     in_word: Optional[str] = None
+    # how many backgrounds a list may have that is looked for (0: none is)
+    backgrounds: int = 0
     timed: Optional[str] = None
     clock: Optional[Clock] = None
     width: int = 300
@@ -55,6 +57,10 @@ class Words:
         made.limits = Limits(operations, number(options, "--elements", MOST_ELEMENTS, MOST_ELEMENTS))
         made.decoder, made.linked = "--decoder" in options, "--linked" in options
         made.in_word, made.width = options.get("--inword"), number(options, "--width", 300, 100_000)
+        if "--backgrounds" in options:
+            if made.in_word is None:
+                raise ToolError("--backgrounds wants --inword, which names the memory")
+            made.backgrounds = number(options, "--backgrounds", 0, MOST_BACKGROUNDS)
         if "--time" in options:
             mhz, memory = options["--time"]
             if not re.fullmatch(r"\d{1,6}(\.\d{1,6})?", mhz) or float(mhz) <= 0:

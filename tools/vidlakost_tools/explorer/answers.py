@@ -11,15 +11,17 @@ import os
 import pathlib
 import re
 import tempfile
-from typing import Any, Callable, Dict, Iterable, Sequence
+from typing import Any, Callable, Dict, Sequence
 
 from vidlakost_tools import cycles_picture, decoder, diagnose, in_word, linked, reasons
 from vidlakost_tools.decoder import DecoderReport, DecoderVerdict, decoded
+from vidlakost_tools.explorer.caught import Catch, catches
 from vidlakost_tools.faults import Step
 from vidlakost_tools.finding import CLASSES, SHOWN, Trier, word_start
 from vidlakost_tools.linked import LinkedReport, LinkedStep, LinkVerdict
 from vidlakost_tools.march import Element, length_of, march_of
 from vidlakost_tools.memory import Memory, read_memory
+from vidlakost_tools.old_names import apart
 from vidlakost_tools.program import FORMATS, ROOT, ask, is_proved, run, settle, version, with_text
 from vidlakost_tools.report import Report, Verdict, judged, read_report
 from vidlakost_tools.text import lines_of, read_text
@@ -128,13 +130,6 @@ def in_words() -> Object:
         if row and row[1] != "Class":
             found.update(zip(row[1].split(", "), apart(row[2])))
     return found
-
-
-def apart(means: str) -> Iterable[str]:
-    """What a row says of each of its classes, in their order: as 'TF and WDF of the victim' of two."""
-    listed = re.fullmatch(r"((?:[A-Z]+, )*[A-Z]+) and ([A-Z]+) (.*)", means)
-    parts = [*listed[1].split(", "), listed[2]] if listed else []
-    return [f"{part} {listed[3]}" for part in parts] if listed else itertools.repeat(means)
 
 
 def gallery() -> list[Object]:
@@ -294,6 +289,22 @@ def replayed(verdict: Verdict, elements: list[Element], march: pathlib.Path) -> 
     return made
 
 
+def shown_catch(catch: Catch, march: pathlib.Path, keeps_steps: bool = True) -> Object:
+    """The read that catches a primitive in an array, the steps to it, and what `sim` says of that array."""
+    read = catch.read
+    made: Object = {
+        "array": catch.array.as_object()["escape"],
+        "element": read.element,
+        "operation": read.operation,
+        "cell": read.cell,
+        "steps": shown_steps(catch.steps) if keeps_steps else [],
+    }
+    if not catch.array.is_dynamic and keeps_steps:
+        words = catch.array.words(march)
+        made["sim"] = {"words": ["sim", "MARCH", *words[2:]], "said": ask(*words)}
+    return made
+
+
 def replayed_decoder(verdict: DecoderVerdict, elements: list[Element]) -> Object:
     """The same of an escape of the address decoder."""
     why, steps = decoder.reason(verdict, elements)
@@ -359,7 +370,10 @@ def trace(folder: Folder, question: Object) -> Object:
         raise Wrong("primitive is none of a report's")
     report = judged(march, folder.put("list", primitive + "\n"))
     found = {"report": shown_report(report)}
-    return {**found, **replayed(report.escapes[0], report.elements, march)} if report.escapes else found
+    if report.escapes:
+        return {**found, **replayed(report.escapes[0], report.elements, march)}
+    caught = [shown_catch(it, march) for it in catches(report.verdicts[0], report.elements)]
+    return {**found, "caught": caught}
 
 
 @refusable

@@ -11,6 +11,7 @@ import re
 from vidlakost_tools.decoder import DecoderReport, decoded
 from vidlakost_tools.explorer import answers
 from vidlakost_tools.explorer.answers import Object
+from vidlakost_tools.explorer.caught import catches
 from vidlakost_tools.explorer.server import Page
 from vidlakost_tools.in_word import InWordReport
 from vidlakost_tools.linked import LinkedReport, linked
@@ -21,7 +22,7 @@ from vidlakost_tools.tool import Refused
 
 PAGE = pathlib.Path(__file__).resolve().parent / "page"
 # the files of the page, in the order in which it names them
-STYLES, SCRIPTS = ["page.css"], ["dom.js", "coverage.js", "player.js", "memory.js", "page.js"]
+STYLES, SCRIPTS = ["page.css"], ["dom.js", "coverage.js", "player.js", "memory.js", "finder.js", "address.js", "page.js"]
 MOST_MARCHES = 4
 # how many steps are kept in all: what escapes beyond them is kept without its steps
 MOST_STEPS = 60000
@@ -57,10 +58,14 @@ def whole(kept: Object) -> str:
 def traces(
     report: Report, of_decoder: DecoderReport, links: LinkedReport, march: pathlib.Path, left: int
 ) -> tuple[Object, int]:
-    """The escapes of the reports by their primitives, faults and links, and how many steps may still be kept."""
+    """What the reports say of primitives, and the escapes of faults and links, by their names; and how many steps may still be
+    kept."""
     traced = {it.name: answers.replayed_decoder(it, report.elements) for it in of_decoder.escapes}
-    for verdict in report.escapes:
-        if verdict.primitive not in traced:
+    for verdict in report.verdicts:
+        if verdict.covered:
+            caught = [answers.shown_catch(it, march, False) for it in catches(verdict, report.elements)]
+            traced.setdefault(verdict.primitive, {"caught": caught, "steps": []})
+        elif verdict.primitive not in traced:
             traced[verdict.primitive] = answers.replayed(verdict, report.elements, march)
     traced.update({it.primitive: answers.replayed_link(it, report.elements) for it in links.escapes})
     found: Object = {}

@@ -22,18 +22,33 @@ function insideOf(card, verdict) {
   return card.inside === null ? undefined : card.inside[verdict.primitive];
 }
 
+/** The primitives in which marches differ. */
+function differingOf(judged) {
+  const covered = new Map();
+  const differing = new Set();
+  for (const { card } of judged) {
+    for (const { primitive, covered: is } of card.report.verdicts) {
+      if (covered.has(primitive) && covered.get(primitive) !== is) differing.add(primitive);
+      covered.set(primitive, is);
+    }
+  }
+  return differing;
+}
+
 /** A square, as a button that chooses it. */
-function squareOf(card, state, choose, isChosen) {
+function squareOf(card, state, differing, choose, isChosen) {
   const { verdict, mark } = state;
   const inside = insideOf(card, verdict);
   const within = inside === undefined ? "" : `, inside a word ${inside ? "covered" : "escapes"}`;
-  const told = `${verdict.primitive} ${verdict.covered ? "covered" : "escapes"}${within}`;
+  const apart = differing.has(verdict.primitive);
+  const name = verdict.primitive.startsWith(verdict.class) ? verdict.primitive : `${verdict.primitive} ${verdict.class}`;
+  const told = `${name} ${verdict.covered ? "covered" : "escapes"}${within}${apart ? ", marches differ" : ""}`;
   const dot = inside === undefined ? "" : inside ? "in-covered" : "in-escape";
   const changed = mark === "" ? "" : mark === "gained" ? ", newly covered" : ", no longer covered";
   return make("button", {
     type: "button",
-    class: ["square", verdict.covered ? "covered" : "", mark, dot].filter(Boolean).join(" "),
-    title: told + changed,
+    class: ["square", verdict.covered ? "covered" : "", mark, dot, apart ? "differs" : ""].filter(Boolean).join(" "),
+    "data-told": `${card.letter}: ${told}${changed}`,
     "aria-label": `${card.letter}: ${told}${changed}`,
     "aria-current": isChosen(card, verdict) ? "true" : undefined,
     tabindex: "-1",
@@ -44,8 +59,8 @@ function squareOf(card, state, choose, isChosen) {
 }
 
 /** The row of a march in a class; its letter and its count stand there where it is not alone. */
-function rowOf(card, states, isAlone, choose, isChosen) {
-  const squares = states.map((state) => squareOf(card, state, choose, isChosen));
+function rowOf(card, states, isAlone, differing, choose, isChosen) {
+  const squares = states.map((state) => squareOf(card, state, differing, choose, isChosen));
   const count = `${states.filter((state) => state.verdict.covered).length}/${states.length}`;
   const judged = states.filter((state) => insideOf(card, state.verdict) !== undefined);
   const within = `${judged.filter((state) => insideOf(card, state.verdict)).length}/${judged.length} in a word`;
@@ -61,11 +76,14 @@ function rowOf(card, states, isAlone, choose, isChosen) {
 function showCoverage(into, summary, cards, classes, choose, isChosen) {
   const focused = into.contains(document.activeElement) ? document.activeElement.dataset : null;
   const judged = cards.filter((card) => card.report !== null).map((card) => ({ card, ...statesOf(card) }));
+  const differing = differingOf(judged);
   into.replaceChildren();
+  hideTip();
   for (const { name, means } of classes) {
     const found = judged.filter((it) => it.classes.has(name));
     if (found.length === 0) continue;
-    const rows = found.map(({ card, classes: of }) => rowOf(card, of.get(name), judged.length === 1, choose, isChosen));
+    const rows = found.map(({ card, classes: of }) =>
+      rowOf(card, of.get(name), judged.length === 1, differing, choose, isChosen));
     into.append(make("div", { class: "class", role: "group", "aria-label": `${name}: ${means}` },
       make("h3", { title: means }, name), make("div", { class: "rows" }, ...rows)));
   }
@@ -105,8 +123,35 @@ function squareBy(key, square) {
   return other.children[Math.min(place, other.children.length - 1)];
 }
 
+/** Says beside a square what it stands for. */
+function showTip(square) {
+  const tip = byId("tip");
+  const { left, bottom } = square.getBoundingClientRect();
+  tip.textContent = square.dataset.told;
+  tip.hidden = false;
+  tip.style.left = `${Math.max(4, Math.min(left, document.documentElement.clientWidth - tip.offsetWidth - 4))}px`;
+  tip.style.top = `${bottom + 6}px`;
+}
+
+function hideTip() {
+  byId("tip").hidden = true;
+}
+
+/** Has the squares say what they stand for, where one has the focus or the pointer; Escape takes that away. */
+function tellSquares(into) {
+  const of = (act) => (event) => {
+    const square = event.target.closest("button.square");
+    if (square !== null) act(square);
+  };
+  for (const event of ["focusin", "pointerover"]) into.addEventListener(event, of(showTip));
+  for (const event of ["focusout", "pointerout"]) into.addEventListener(event, of(hideTip));
+  into.addEventListener("keydown", (event) => event.key === "Escape" && hideTip());
+  addEventListener("scroll", hideTip, { passive: true });
+}
+
 /** Leads from square to square of a part by keys. */
 function listenToSquares(into) {
+  tellSquares(into);
   into.addEventListener("keydown", (event) => {
     const square = event.target.closest("button.square");
     if (square === null || event.ctrlKey || event.altKey || event.metaKey) return;

@@ -15,11 +15,11 @@ function listText() {
 function buildClasses() {
   for (const { name, means, primitives } of state.begin.classes) {
     const tick = make("input", { type: "checkbox", id: `class-${name}`, change: judgeAll });
-    tick.checked = !name.startsWith("DYN");
+    tick.checked = isStatic(name);
     state.ticks.set(name, tick);
     byId("classes").append(make("label", { title: `${means} (${primitives.length})` }, tick, ` ${name}`));
   }
-  byId("static").addEventListener("click", () => tickAll((name) => !name.startsWith("DYN")));
+  byId("static").addEventListener("click", () => tickAll(isStatic));
   byId("everything").addEventListener("click", () => tickAll(() => true));
   for (const id of ["by-classes", "by-text"]) byId(id).addEventListener("change", () => showMode());
   byId("list").addEventListener("input", judgeAll);
@@ -27,10 +27,28 @@ function buildClasses() {
   byId("save-list").addEventListener("click", () => save("faults.list", listText()));
 }
 
+/** Whether a class is one of those that `all` stands for. */
+function isStatic(name) {
+  return !name.startsWith("DYN") && name !== "DRF";
+}
+
 function tickAll(isTicked) {
   byId("by-classes").checked = true;
   for (const [name, tick] of state.ticks) tick.checked = isTicked(name);
   showMode();
+}
+
+/** Takes a list: as ticks where it has classes alone, and else as text (null: the ticks stay as they are). */
+function takeList(text) {
+  if (text === null) return;
+  const lines = text.split("\n").filter((line) => line !== "");
+  const words = state.begin.classes.map(({ word }) => word);
+  if (lines.length > 0 && lines.every((line) => words.includes(line))) {
+    for (const { name, word } of state.begin.classes) state.ticks.get(name).checked = lines.includes(word);
+    return;
+  }
+  byId("list").value = text;
+  byId("by-text").checked = true;
 }
 
 /** Shows the ticks or the text; a text that was never written begins with what is ticked. */
@@ -68,7 +86,7 @@ function addCard(text) {
   card.node = make("div", { class: "card" },
     make("div", { class: "title" }, make("span", { class: "letter" }, letter), card.gallery,
       make("span", { class: "buttons" }, card.save, card.remove)),
-    card.field, card.figures, card.said, card.words);
+    card.field, card.figures, make("div", { class: "feedback" }, make("div", {}, card.said, card.words)));
   card.judge = settled(100, (signal) => judgeCard(card, signal));
   card.field.addEventListener("input", () => {
     card.gallery.value = "";
@@ -90,13 +108,21 @@ function galleryOf(card) {
     make("option", { value: "" }, "begin from the gallery"), ...options);
   select.addEventListener("change", () => {
     if (select.value === "") return;
-    // blanks behind the elements, so that a long march breaks there
-    card.field.value = state.begin.gallery[Number(select.value)].text.replace(/;\s*/g, "; ");
-    // another march is no change of the last one
-    [card.report, card.key] = [null, ""];
-    changed(card);
+    putMarch(card, state.begin.gallery[Number(select.value)].text);
   });
   return select;
+}
+
+/** Puts another march into a card: it is no change of the one before. */
+function putMarch(card, text) {
+  card.field.value = breakable(text);
+  [card.report, card.key] = [null, ""];
+  changed(card);
+}
+
+/** A march with blanks behind its elements, so that a long one breaks there. */
+function breakable(text) {
+  return text.replace(/;\s*/g, "; ");
 }
 
 function removeCard(card) {
@@ -106,6 +132,7 @@ function removeCard(card) {
   cardsChanged();
   show();
   showLinks();
+  carry();
   byId("add").focus();
 }
 
@@ -113,6 +140,7 @@ function removeCard(card) {
 function cardsChanged() {
   byId("add").disabled = state.cards.length === LETTERS.length || kept !== null;
   for (const card of state.cards) card.remove.disabled = state.cards.length === 1 || kept !== null;
+  byId("extend").textContent = `Extend ${state.cards[0].letter}`;
   const select = byId("memory-march");
   const chosen = select.value;
   select.replaceChildren(...state.cards.map(({ letter }) => make("option", { value: letter }, letter)));
@@ -149,9 +177,17 @@ async function judgeCard(card, signal) {
     take(card, told.report, list);
     if (isOther && state.chosen !== null && state.chosen.card === card) askWhy();
   }
+  card.node.classList.toggle("refused", card.isStale);
   showCardFigures(card);
   show();
+  showStale();
+  carry();
   askLinks();
+}
+
+/** Dims what is shown of texts that are refused by now: why, where it is of such a march. */
+function showStale() {
+  byId("why").classList.toggle("stale", state.chosen !== null && state.chosen.card.isStale === true);
 }
 
 /** Takes a report; what it changes is seen against the last one, unless nothing of march and list is new. */
@@ -228,6 +264,11 @@ function choose(card, verdict, square) {
   askWhy();
 }
 
+/** Whether a verdict is one on a primitive of a list. */
+function isPlain(verdict) {
+  return state.begin.classes.some(({ name }) => name === verdict.class);
+}
+
 const askWhy = settled(0, async (signal) => {
   const { card, primitive } = state.chosen;
   const verdict = card.report.verdicts.find((it) => it.primitive === primitive);
@@ -236,9 +277,12 @@ const askWhy = settled(0, async (signal) => {
     into.replaceChildren(make("p", { class: "soft" }, `${primitive} is not in the list any more.`));
     return;
   }
+  showStale();
   const { name, means } = allClasses().find((it) => it.name === verdict.class);
   const title = primitive.startsWith(name) ? primitive : `${primitive} ${name}`;
-  if (verdict.covered) showCovered(into, title, means, card);
+  if (verdict.covered && isPlain(verdict)) {
+    showCovered(into, title, means, card, await ask("trace", { march: card.report.march, primitive }, signal));
+  } else if (verdict.covered) showCovered(into, title, means, card, {});
   else {
     const told = await ask("trace", { march: card.report.march, primitive }, signal);
     showEscape(into, title, means, card, told.report.verdicts.find((it) => it.primitive === primitive), told);
@@ -267,6 +311,7 @@ const askMemory = settled(250, async (signal) => {
     const by = refused === null ? ", and this is the test by the one before the mistake" : "";
     byId("memory-said").append(make("div", { class: "soft" }, `March ${card.letter} is refused${by}.`));
   }
+  for (const id of ["figures", "cycles"]) byId(id).classList.toggle("stale", ofMarch || ofMemory);
   state.memoryTold = refused === null ? told : null;
   for (const id of ["save-module", "save-report"]) byId(id).disabled = refused !== null || ofMarch;
   if (refused !== null) {
@@ -310,9 +355,9 @@ function memoryChanged() {
   judgeAll();
 }
 
-function listenToMemory() {
+function listenToMemory(text) {
   buildMemoryForm(memoryChanged);
-  byId("memory-text").value = state.begin.memory;
+  byId("memory-text").value = text;
   byId("memory-text").addEventListener("input", memoryChanged);
   completion(byId("memory-text"), byId("memory-words-offered"), "memory");
   byId("memory-march").addEventListener("change", () => askMemory());
@@ -337,7 +382,7 @@ function showProgram({ proved, quick, path }) {
 /** A page that is a file shows what it keeps, and takes no other texts. */
 function freeze() {
   for (const field of document.querySelectorAll("textarea, #memory-form input")) field.readOnly = true;
-  const taken = "select, #classes input, [name=mode], #static, #everything, #save-page";
+  const taken = "select, #classes input, #finder button, #finder input, [name=mode], #static, #everything, #save-page";
   for (const field of document.querySelectorAll(taken)) field.disabled = true;
   byId("program").textContent += ", kept in this file";
 }
@@ -349,12 +394,12 @@ async function begin() {
   buildClasses();
   for (const id of ["coverage", "link-coverage"]) listenToSquares(byId(id));
   byId("links").addEventListener("toggle", () => askLinks());
-  listenToMemory();
-  if (state.begin.list !== null) {
-    byId("list").value = state.begin.list;
-    byId("by-text").checked = true;
-  }
-  for (const march of kept === null ? [state.begin.march] : kept.marches) addCard(march);
+  const carried = kept === null ? addressed() : null;
+  listenToMemory(carried?.memory ?? state.begin.memory);
+  listenToFinder();
+  listenToAddress();
+  takeList(carried?.list ?? state.begin.list);
+  for (const march of carried?.marches ?? kept?.marches ?? [state.begin.march]) addCard(march);
   if (kept !== null) byId("memory-march").value = LETTERS[kept.place];
   byId("add").addEventListener("click", () => addCard(state.cards[state.cards.length - 1].field.value).field.focus());
   byId("save-page").addEventListener("click", savePage);

@@ -1,14 +1,37 @@
 "use strict";
 // One primitive: covered, or an escape, which is played step by step.
 
-/** What is shown of a primitive that is covered. */
-function showCovered(into, title, means, card) {
+/** What is shown of a primitive that is covered: where it is caught first, if that is told, in an array for each side. */
+function showCovered(into, title, means, card, told) {
   into.replaceChildren(
     make("h3", { tabindex: "-1" }, title),
     make("p", { class: "soft small" }, means),
     make("p", { class: "verdict is-covered" }, `Covered by march ${card.letter}.`),
-    make("p", {}, "In every array, wherever the fault is, from every content and in every choice of directions, some read of ",
-      "this march differs."));
+    make("p", { class: "small" }, "In every array, wherever the fault is, from every content and in every choice of directions, ",
+      "some read of this march differs."));
+  const caught = told.caught || [];
+  const scene = make("div", {});
+  const buttons = caught.map((one) => make("button", { type: "button", click: () => play(one) }, caughtBy(one)));
+  function play(one) {
+    buttons.forEach((button, place) => button.setAttribute("aria-pressed", String(caught[place] === one)));
+    scene.replaceChildren(...(one.steps.length === 0 ? [] : [playerOf({ ...told, steps: one.steps }, { escape: one.array })]),
+      ...(one.sim ? [simSaid(one.sim)] : []));
+  }
+  if (caught.length === 0) return;
+  into.append(make("p", { class: "small" }, "The first read that differs, in two cells that hold 0 at first:"),
+    make("div", { class: "buttons catches" }, ...buttons), scene);
+  play(caught[0]);
+}
+
+/** The read that catches a primitive, in words. */
+function caughtBy({ array, element, operation, cell }) {
+  const side = array.aggressor === null ? "" : array.aggressor < array.victim ? "aggressor below: " : "aggressor above: ";
+  return `${side}${operation} of element ${element} on cell ${cell}`;
+}
+
+/** What the program says of an array. */
+function simSaid({ said, words }) {
+  return make("p", { class: "small" }, "The program says ", make("b", {}, said), " of ", make("code", {}, words.join(" ")));
 }
 
 const ORDERS = { u: "up", d: "down" };
@@ -28,6 +51,12 @@ function marchAt(elements, step) {
     parts.push(make("span", here ? { class: "here" } : {}, ...inside), count + 1 < elements.length ? "; " : "");
   });
   return make("div", { class: "march", "aria-hidden": "true" }, ...parts);
+}
+
+/** Has a long march show the operation that is marked. */
+function showMark(march) {
+  const now = march.querySelector(".now");
+  if (now !== null) march.scrollTop = now.offsetTop - march.offsetTop - march.clientHeight / 2;
 }
 
 /** The cells of an escape: of a fault of the address decoder, those of both addresses; of a link, those of both primitives. */
@@ -115,7 +144,9 @@ function playerOf(told, verdict) {
     at = Math.max(0, Math.min(end, place));
     const step = steps[at];
     const { done, acts } = wordsOf(step, verdict.escape);
-    scene.replaceChildren(marchAt(elements, step), cellsAt(verdict.escape, step));
+    const march = marchAt(elements, step);
+    scene.replaceChildren(march, cellsAt(verdict.escape, step));
+    showMark(march);
     words.replaceChildren(make("b", {}, `Step ${at} of ${end}. `), done, make("span", { class: "acts" }, acts));
     slider.value = String(at);
     slider.setAttribute("aria-valuetext", done + acts);
@@ -130,7 +161,7 @@ function playerOf(told, verdict) {
   const last = button("last step (End)", "\u00bb", () => end);
   const toActing = make("button", { type: "button", disabled: acting < 0, title: "where the fault first acts",
     click: () => show(acting) }, "acts here");
-  const label = "The escape, step by step: arrows, Home and End";
+  const label = "The array, step by step: arrows, Home and End";
   const player = make("div", { id: "player", tabindex: "0", role: "group", "aria-label": label },
     scene, words, make("div", { class: "player" }, first, back, slider, forward, last, toActing));
   player.addEventListener("keydown", (event) => {
@@ -169,21 +200,20 @@ function showInside(into, told) {
 /** What is shown of an escape. */
 function showEscape(into, title, means, card, verdict, told) {
   const { escape } = verdict;
-  const array = `${escape.cells} cells that hold ${[...escape.content].join(" ")} at first; directions ${escape.directions}`;
+  const array = `${escape.cells} cells that hold ${[...escape.content].join(" ")} at first; directions `;
   into.replaceChildren(
     make("h3", { tabindex: "-1" }, title),
     make("p", { class: "soft small" }, means),
     make("p", { class: "verdict is-escape" }, `Escapes from march ${card.letter}: ${told.why || ""}.`),
-    make("p", { class: "small" }, `The least array in which the march passes: ${array}.`));
+    make("p", { class: "small" }, `The least array in which the march passes: ${array}`,
+      make("span", { class: "directions" }, escape.directions), "."));
   if (told.steps.length === 0) {
     into.append(make("p", { class: "soft" }, "This file does not keep its steps."));
     return;
   }
   into.append(playerOf(told, verdict));
-  if (told.sim) {
-    into.append(make("p", { class: "small" }, "The program says ", make("b", {}, told.sim.said), " of ",
-      make("code", {}, told.sim.words.join(" "))));
-  } else {
+  if (told.sim) into.append(simSaid(told.sim));
+  else {
     const what = escape.x !== undefined ? "a wrong decoder" : escape.v !== undefined ? "linked faults" : "two operations";
     into.append(make("p", { class: "soft small" }, `Replayed by the definition: the program has no call for ${what}.`));
   }
