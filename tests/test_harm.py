@@ -1,6 +1,7 @@
 """What holds a program that may do harm, by itself: `PYTHONPATH=tools python3 -m unittest discover tests`."""
 from __future__ import annotations
 
+import os
 import pathlib
 import tempfile
 import time
@@ -20,7 +21,7 @@ def may_mount() -> bool:
         folder = pathlib.Path(name) / "own"
         folder.mkdir()
         with mock.patch.object(confined, "ruleset_of", return_value=None):
-            confined.run(["sh", "-c", "echo >../outside"], folder, 20)
+            confined.run(["sh", "-c", "echo >../outside"], folder, 20, pathlib.Path(os.devnull))
         return not (folder.parent / "outside").exists()
 
 
@@ -32,7 +33,7 @@ class Confined(unittest.TestCase):
             folder.mkdir()
             for kept in ("kept", "gone"):
                 (folder.parent / kept).write_text(kept)
-            confined.run(["sh", "-c", HARM], folder, 20)
+            confined.run(["sh", "-c", HARM], folder, 20, pathlib.Path(os.devnull))
             left = sorted(path.name for path in folder.parent.iterdir())
             return [*left, (folder.parent / "kept").read_text(), *(path.name for path in folder.iterdir())]
 

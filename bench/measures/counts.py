@@ -42,6 +42,11 @@ def linked(folder: pathlib.Path) -> list[Figure]:
     return counted("bench/linked")
 
 
+def diagnosis(folder: pathlib.Path) -> list[Figure]:
+    """Faults that Icarus plants in scrambled memories, and the candidates that the diagnosis of their logs has."""
+    return counted("bench/diagnosis")
+
+
 def design(folder: pathlib.Path) -> list[Figure]:
     """Short marches searched anew."""
     return counted("bench/design")
@@ -86,6 +91,16 @@ def formal(folder: pathlib.Path) -> list[Figure]:
 def audit(folder: pathlib.Path) -> list[Figure]:
     """`audit` beside Yosys' bounded model checker, on modules whose `fail` is damaged in a random place."""
     return counted("tools/audit", "--random", "300")
+
+
+def joins(folder: pathlib.Path) -> list[Figure]:
+    """Wrong connections in a chip of small memories and in its collars, and what their testbenches tell."""
+    return counted("bench/joins")
+
+
+def sources(folder: pathlib.Path) -> list[Figure]:
+    """What `plain` makes of random sources beside Icarus, which clocks the sources; as they are, and one place changed."""
+    return [*counted("bench/sources"), *counted("bench/sources", "--damaged", "1", "100")]
 
 
 def selftest(folder: pathlib.Path) -> list[Figure]:

@@ -12,7 +12,7 @@ OVER = """  // a run passes where its last line says so: a model, or anything el
 FINISH = "is_over = 1'b1;\n    $finish;"
 
 PLANTED = """  reg planted = 1'b0;
-  reg [3:0] at_unit = 4'd0;
+  reg [9:0] at_unit = 10'd0;
   reg [15:0] at_address = 16'd0;
   reg [5:0] at_bit = 6'd0;
   reg at_value = 1'b0;
@@ -30,7 +30,7 @@ PLANTED = """  reg planted = 1'b0;
     if (planted && (asked_value < 64'd2 && ({inside})) !== 1'b1)
       $fatal(1, "{module}: memory %0d has no bit %0d at address %0d that may be stuck at %0d", asked_unit, asked_bit, asked_address,
         asked_value);
-    at_unit = asked_unit[3:0];
+    at_unit = asked_unit[9:0];
     at_address = asked_address[15:0];
     at_bit = asked_bit[5:0];
     at_value = asked_value[0];

@@ -84,13 +84,13 @@ def holds(folder: pathlib.Path) -> Iterator[Callable[[], object]]:
             os.close(ruleset)
 
 
-def run(words: Sequence[str], folder: pathlib.Path, seconds: float) -> subprocess.CompletedProcess[bytes]:
-    """Runs a program in a folder, which is all that it may change, for at most so many seconds."""
-    with holds(folder) as hold:
+def run(words: Sequence[str], folder: pathlib.Path, seconds: float, out: pathlib.Path) -> subprocess.CompletedProcess[bytes]:
+    """Runs a program in a folder, which is all that it may change, for at most so many seconds; what it says goes to a file."""
+    with holds(folder) as hold, open(out, "wb") as file:
         return subprocess.run(
             words,
             stdin=subprocess.DEVNULL,
-            stdout=subprocess.PIPE,
+            stdout=file,
             stderr=subprocess.PIPE,
             cwd=folder,
             timeout=seconds,

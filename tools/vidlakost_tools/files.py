@@ -18,9 +18,9 @@ LISTED = re.compile(r"// ([A-Za-z0-9_.]+) \(([0-9a-f]{16})\)")
 LIST = "files.f"
 # how a comment stands in a file of each kind
 COMMENTS = {
-    **dict.fromkeys((".v", ".sv", ".hex", ".cpp", ".rdl", ".icl"), "// {}"),
+    **dict.fromkeys((".v", ".sv", ".hex", ".cpp", ".rdl", ".icl", ".f", ".stil"), "// {}"),
     **dict.fromkeys((".vhd", ".bsdl", ".txt"), "-- {}"),
-    **dict.fromkeys((".sdc", ".cfg", ".pdl"), "# {}"),
+    **dict.fromkeys((".sdc", ".cfg", ".pdl", ".tcl", ".wgl"), "# {}"),
     ".svf": "! {}",
     ".md": "<!-- {} -->",
 }
@@ -75,6 +75,21 @@ def refuse_strangers(folder: pathlib.Path, names: Iterable[str]) -> None:
             raise ToolError(f"{path} is there and was not written by vidlakost, or was changed since, so nothing is written")
 
 
+def refuse_no_folder(folder: pathlib.Path) -> None:
+    """Refuses a file where a folder has to be."""
+    if os.path.lexists(folder) and not folder.is_dir():
+        raise ToolError(f"{shown(str(folder))} is a file, and no folder")
+
+
+def look_first(folder: pathlib.Path, name: str, head: str) -> None:
+    """Refuses what `write_own` would of a file, before its text is made; a text that begins with this head may be one of an
+    older version."""
+    refuse_no_folder(folder)
+    path = folder / name
+    if not is_plain(path) or not read_described(path, LARGE_BYTES).startswith(head):
+        refuse_strangers(folder, [name])
+
+
 def begins(text: str) -> str:
     """The first file that a list names."""
     return next((line for line in lines_of(text) if line and not line.startswith("//")), "")
@@ -103,6 +118,7 @@ def write_own(folder: pathlib.Path, texts: dict[str, str], inputs: list[str], to
     """Writes files that may be written anew where nobody changed them, all of them or none, and no one over an input. Those
     without a line that says whose they are are told with their sums in the list beside them. Only then it says their names,
     or those in `told`: who closes the pipe behind the first line has them all."""
+    refuse_no_folder(folder)
     for name in texts:
         refuse_inputs(str(folder / name), [("what is read", given) for given in inputs])
     refuse_strangers(folder, [name for name, text in texts.items() if not is_unmarked(folder / name, text)])

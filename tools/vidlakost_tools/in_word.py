@@ -19,6 +19,8 @@ ESCAPE = re.compile(
     rf"escape {ITEM} aggressor (?P<aggressor>[0-9]{{1,2}}) victim (?P<victim>[0-9]{{1,2}}) content (?P<content>[01]{{2}})"
 )
 APART = re.compile(f"apart (?P<apart>{COUNT})")
+# what two bits can hold, the aggressor's digit first
+CONTENTS = ("00", "01", "10", "11")
 
 
 @dataclasses.dataclass

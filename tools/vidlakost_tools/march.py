@@ -2,12 +2,10 @@
 from __future__ import annotations
 
 import dataclasses
-import pathlib
 import re
-import tempfile
 
-from vidlakost_tools.program import ask, with_text
-from vidlakost_tools.text import BLANKS, Path, lines_of, read_text, shown
+from vidlakost_tools.program import ask
+from vidlakost_tools.text import BLANKS, Path, shown
 from vidlakost_tools.tool import ToolError
 
 
@@ -72,13 +70,6 @@ def length_of(elements: list[Element]) -> str:
 
 
 def march_of(path: Path) -> tuple[str, list[Element]]:
-    """The printed form and the elements of the march in a file, which the program has to accept."""
-
-    def first_line(empty: pathlib.Path) -> str:
-        with tempfile.TemporaryDirectory() as folder:
-            report = pathlib.Path(folder) / "report"
-            ask("judge", path, empty, report)
-            return lines_of(read_text(report))[0][len("march ") :]
-
-    printed = with_text("", first_line)
+    """The printed form and the elements of the march in a file, as the program reads it."""
+    printed = ask("show", "march", path)
     return printed, elements_of(printed)

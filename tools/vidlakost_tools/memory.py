@@ -2,13 +2,12 @@
 from __future__ import annotations
 
 import dataclasses
-import pathlib
-from typing import List, Tuple
+from typing import List, Sequence, Tuple
 
 from vidlakost_tools.march import Element
-from vidlakost_tools.program import run, with_text
-from vidlakost_tools.text import Path, read_described, statements
-from vidlakost_tools.tool import Refused, ToolError, identifier
+from vidlakost_tools.program import ask
+from vidlakost_tools.text import Path, statements
+from vidlakost_tools.tool import ToolError, identifier
 
 
 @dataclasses.dataclass
@@ -123,14 +122,12 @@ def parse_memory(text: str) -> Memory:
     )
 
 
+def with_backgrounds(text: str, memory: Memory, words: Sequence[int]) -> str:
+    """The description of a memory with other backgrounds."""
+    lines = [f"{word} {rest}\n" for _, word, rest in statements(text) if word != "backgrounds"]
+    return "".join([*lines, f"backgrounds {' '.join(map(memory.digits, words))}\n"])
+
+
 def read_memory(path: Path) -> Memory:
-    """The memory of a file, which the program has to accept: `benchfault` is asked to plant a fault outside of it, which
-    it refuses last, before it runs anything."""
-
-    def is_refused(march: pathlib.Path) -> None:
-        status, said = run("benchfault", march, path, "<0/1/->", "none", "999999999.0")
-        if status not in (11, 12):
-            raise Refused(["bench", "MARCH", str(path)], said, status)
-
-    with_text("any(w0)", is_refused)
-    return parse_memory(read_described(path))
+    """The memory of a file, as the program reads it."""
+    return parse_memory(ask("show", "memory", path))

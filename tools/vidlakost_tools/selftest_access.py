@@ -44,6 +44,9 @@ FILES.update(
 # the register of pair, whose state is the last digit
 TDR = "0" * 12 + "{}"
 READ_AT = ["tools/locate", "c.m", "s.mem", "6"]
+JOINS = "examples/joins/joins.chip"
+PINS = [f"examples/joins/{name}.pins" for name in ("masked", "left", "right", "both", "low", "kept", "late")]
+WHOLE = ["tools/locate", JOINS, *PINS, "--whole"]
 CALLS = [
     ("", [*READ_AT, "0", "1"], 0, "bits 0\n", ""),
     ("", [*READ_AT, "0", "0"], 2, "", "locate: 0 is expected and returned, so this read is not wrong"),
@@ -59,12 +62,35 @@ CALLS = [
     ("", ["tools/bitmap", "made.log", "access.m", "late.mem"], 0, "cell: 1 cell in 1 read", ""),
     ("", ["tools/bitmap", "made.log", "access.m", "turned.mem"], 2, "", "bitmap: in cycle 13 the expected word is 15"),
     ("", ["tools/bitmap", "old.log", "access.m", "late.mem"], 2, "", "bitmap: old.log:1: an entry is 'cycle C expected X"),
+    ("", ["tools/diagnosis", "made.log", "access.m", "late.mem"], 0, "CFds at index", ""),
+    ("", ["tools/diagnosis", "made.log", "access.m", "turned.mem"], 2, "", "diagnosis: in cycle 13 the expected word is 15"),
+    ("", ["tools/diagnosis", "none.log", "access.m", "late.mem"], 2, "", "diagnosis: none.log: no line has"),
+    ("", ["tools/diagnosis", "made.log", "access.m", "late.mem", "--mux", "3"], 2, "", "diagnosis: --mux 3 does not divide"),
+    ("", ["tools/diagnosis", "made.log", "pair.chip"], 2, "", "diagnosis: a log, a march and a memory are wanted"),
     ("", ["tools/access", "late.mem", "acc", "--apb", "--jtag", "--march", "access.m"], 0, "acc/late_tap.v", ""),
     ("", ["tools/access", "pair.chip", "acc2", "--apb", "--log", "4"], 0, "acc2/late_log.v", ""),
     ("", ["tools/access", "odd.mem", "acc3", "--jtag", "--march", "access.m"], 0, "acc3/odd$.svf", "access: odd$ is no name in BSDL"),
     ("", ["tools/access", "late.mem", "acc", "--jtag"], 2, "", "access: --jtag of one memory wants --march MARCH"),
     ("", ["tools/access", "pair.chip", "acc2", "--march", "access.m"], 2, "", "access: --march is of one memory"),
     ("", ["tools/access", "cross.chip", "acc4"], 2, "", "access: 'cross' is a word of SystemVerilog"),
+    ("", ["tools/access", JOINS, PINS[0], "acc5"], 2, "", "access: no file of pins is of"),
+    ("", ["tools/access", JOINS, *PINS, "acc5"], 2, "", "access: acc5 has no joins_system.v and files.f: it is the folder that"),
+    ("", ["tools/access", "examples/joins/many.list", "acc5"], 2, "", "access: of a list the files of pins are wanted"),
+    ("", ["tools/access", JOINS, *PINS, "acc5", "--log", "4"], 2, "", "access: --log is of a memory or a chip file alone"),
+    ("", ["tools/sdc", "examples/joins/many.list", "acc5", "--mhz", "50"], 2, "", "sdc: of a list the files of pins are wanted"),
+    ("", ["tools/sdc", JOINS, *PINS, "acc5", "--mhz", "50", "--jtag"], 0, "acc5/joins_test.sdc", ""),
+    ("", ["tools/schedule", JOINS, *PINS], 0, "cycles 430 to 492: the lanes of masked\n", ""),
+    ("", ["tools/schedule", "examples/joins/many.list", *PINS], 0, " by the second port\ndone ", ""),
+    ("", ["tools/schedule", JOINS, *PINS, "--svg", "x.svg"], 2, "", "schedule: --svg is of a chip file without pins"),
+    ("", [*WHOLE, "88", "00100000", "00", "02"], 0, "memory high, cycle 7 of its test\n", ""),
+    ("", [*WHOLE, "434", "00000001"], 0, "lanes of masked, command 2 of lane 0, address 0\n", ""),
+    ("", [*WHOLE, "964", "00001000"], 0, "lanes of both by the second port, command 2 of lane 0, address 0\n", ""),
+    ("", [*WHOLE, "557", "00000010", "f", "0"], 0, "memory left by the second port, cycle 26 of its test\n", ""),
+    ("", [*WHOLE, "434", "00000010"], 2, "", "locate: in cycle 434 the lanes of another memory than left are tried"),
+    ("", [*WHOLE, "1011", "00000010"], 2, "", "locate: cycle 1011 is in no step of the test, which has the cycles 1 to 1010"),
+    ("", [*WHOLE, "88", "00100001"], 2, "", "locate: masked, high fail: whose is the cycle? Give one bit alone"),
+    ("", [*WHOLE, "--tdr", "00105020000000058f"], 0, "cycle 88 expected 00 returned 02\nmemory high, cycle 7 of its test\n", ""),
+    ("", [*WHOLE, "--tdr", "0105020000000058f"], 2, "", "locate: the register is hexadecimal and has 18 digits"),
     ("", ["tools/access", "late.mem", "acc", "--log", "65"], 2, "", "access: --log is 1 to 64, and not 65"),
     ("", ["tools/access", "late.mem", "acc", "--log", "0"], 2, "", "access: --log is a number from 1 on"),
     ("", ["tools/access", "late.mem", "acc", "--jtag", "--march", "access.m", "--mhz", "0"], 2, "", "access: --mhz is a clock"),
@@ -92,7 +118,7 @@ CALLS = [
     ("", ["tools/bitmap", "right.log", "pair.chip", "--unit", "0", "--svg", "odd.mem"], 2, "", "bitmap: 'odd.mem' is what is read"),
     ("", ["tools/bitmap", "right.log", "pair.chip", "--unit", "0", "--svg", "a", "--csv", "./a"], 2, "", "bitmap: './a' is the picture"),
     ("", ["tools/collar", "eight.mem", "--macro", "ram.pins", "bus", "--through", "jtag"], 2, "", "collar: ram.pins: s has latency 1"),
-    ("", ["tools/collar", "latency.mem", "--macro", "ram.pins", "bus", "--through", "apb"], 0, "bus/s_collar.v", ""),
+    ("", ["tools/collar", "latency.mem", "--macro", "ram.pins", "bus", "--through", "apb"], 0, "bus/s_collar.v", "collar: not tested: ce: whether"),
     ("", ["tools/collar", "latency.mem", "--macro", "ram.pins", "bus", "--through", "usb"], 2, "", "collar: --through is one of"),
     ("", ["tools/access", "late_model.v", "."], 2, "", "access: 'late_model.v' is what is read"),
     ("", ["tools/vhdl", "a.vhd", "."], 2, "", "vhdl: 'a.vhd' is what is read"),
@@ -134,10 +160,22 @@ def compiled(bench: Bench, folder: str) -> None:
     bench.run(["tools/share", "late.mem", "2", folder])
 
 
+# the log of each planted fault by the comparator alone, or by the first bus that reads it
+LOGS: dict[str, list[str]] = {}
+
+
+def logged_alike(bench: Bench, kind: str, told: str) -> str:
+    """The log in what a testbench printed, which is the same behind each bus; the first line of a bus has the first read alone."""
+    lines = [line for line in told.splitlines() if line.startswith("cycle ") or line == "more"]
+    last = LOGS.setdefault(lines[0] if lines else "", lines)
+    bench.is_so(lines == last and len(lines) > 1, f"{kind}: the log is {lines}, and {last} by another bus")
+    return "\n".join([*lines, ""])
+
+
 def found(bench: Bench, folder: str, simulate: str) -> None:
     """Each testbench finds nothing in a sound memory, and of a planted fault the index and the bit."""
     for kind in ("access", "apb", "tap", "log"):
-        more = {"apb": "late_apb.v late_cross.v late_access.v", "tap": "late_tap.v late_cross.v late_access.v"}
+        more = {bus: f"late_{bus}.v late_cross.v late_access.v late_log.v" for bus in ("apb", "tap")}
         files = more.get(kind, f"late_{kind}.v")
         call = simulate.format(top=f"late_{kind}_tb", files=f"late_{kind}_tb.sv {files} late_model.v late_bist.v")
         done = bench.run(["bash", "-c", f"cd {folder} && {call}"])
@@ -145,10 +183,11 @@ def found(bench: Bench, folder: str, simulate: str) -> None:
         for address, bit, value, index in PLANTED:
             plus = f"+planted +address={address} +bit={bit} +value={value}"
             told = bench.run(["bash", "-c", f"cd {folder} && ./run {plus}"]).stdout
-            if kind == "log":
+            if kind in ("log", "apb", "tap"):
+                told = logged_alike(bench, kind, told)
                 (bench.folder / "late.log").write_text(told)
                 said = bench.run(["tools/bitmap", "late.log", "access.m", "late.mem"]).stdout
-            else:
+            if kind != "log":
                 match = re.search(r"cycle \d+ expected \w+ returned \w+", told)
                 said = bench.run(["tools/locate", "access.m", "late.mem", "--line", match[0] if match else ""]).stdout
             holds = f"index {index}" in said and re.search(rf"bits? {bit}\b", said) is not None
@@ -196,26 +235,37 @@ def in_openocd(bench: Bench) -> None:
         print("openocd or verilator is not installed, so no SVF is played")
         return
     compiled(bench, "board")
-    files = "late_board.v late_tap.v late_cross.v late_access.v late_model.v late_bist.v late_socket.cpp"
+    files = "late_board.v late_tap.v late_cross.v late_access.v late_log.v late_model.v late_bist.v late_socket.cpp"
     build = f"verilator --cc --exe --build -Wall --prefix Vboard --top-module late_board --Mdir built {files}"
     done = bench.run(["bash", "-c", f"cd board && {build}"])
     bench.is_so(not done.returncode and "Warning" not in done.stdout + done.stderr, f"board: {done.stdout}{done.stderr}")
-    trials: list[tuple[list[str], str]] = [([], "0 errors"), (["0", "3", "0", "1"], "READ = ")]
-    config = bench.folder / "board" / "late.cfg"
-    for planted, wanted in trials:
-        port = free_port()
-        config.write_text(re.sub(r"port \d+\n", f"port {port}\n", config.read_text(), count=1))
-        model = subprocess.Popen(["built/Vboard", str(port), *planted], cwd=bench.folder / "board")
-        time.sleep(0.5)
-        call = "timeout 60 openocd -f late.cfg -c 'svf late.svf' -c shutdown 2>&1"
-        said = bench.run(["bash", "-c", f"cd board && {call}"]).stdout
-        model.terminate()
-        model.wait()
+    sound: list[str] = []
+    stuck = ["0", "3", "0", "1"]
+    for planted, wanted in ((sound, "0 errors"), (stuck, "READ = ")):
+        said = played(bench, "svf late.svf", planted)
         bench.is_so(wanted in said, f"openocd: {said}")
         match = re.search("READ = (0x[0-9a-f]+)", said)
         if match:
             told = bench.run(["tools/locate", "access.m", "late.mem", "--tdr", match[1]]).stdout
             bench.is_so("index 6 " in told and "bits 0\n" in told, f"openocd: {told}")
+    for planted, wanted in ((sound, "fail 0\n"), (stuck, "\nmore\n")):
+        said = played(bench, "source late_log.tcl; run_and_read", planted)
+        bench.is_so(wanted in said, f"openocd, the log: {said}")
+    (bench.folder / "late.log").write_text(said)
+    told = bench.run(["tools/bitmap", "late.log", "access.m", "late.mem"]).stdout
+    bench.is_so("index 6 address 3 bit 0 wrong 3" in told, f"openocd, the log: {said}{told}")
+
+
+def played(bench: Bench, command: str, planted: list[str]) -> str:
+    """What OpenOCD says of a command, before a model with a planted fault."""
+    config, port = bench.folder / "board" / "late.cfg", free_port()
+    config.write_text(re.sub(r"port \d+\n", f"port {port}\n", config.read_text(), count=1))
+    model = subprocess.Popen(["built/Vboard", str(port), *planted], cwd=bench.folder / "board")
+    time.sleep(0.5)
+    said = bench.run(["bash", "-c", f"cd board && timeout 60 openocd -f late.cfg -c '{command}' -c shutdown 2>&1"]).stdout
+    model.terminate()
+    model.wait()
+    return said
 
 
 # a library of four cells, of which each takes a tenth of a nanosecond
@@ -305,4 +355,37 @@ def kept(bench: Bench) -> None:
     bench.is_so(not (bench.folder / "kept" / "none").exists(), "replay wrote through a link")
 
 
-PARTS = (kept, in_icarus, in_ghdl, in_openocd, in_opensta)
+# what each way to a whole chip says of a wrong bit, and of a module in which something is joined wrongly
+REACHED = [
+    ("", "fail 00000000\n"),
+    ("+planted +unit=5 +bit=1", "fail 00100000 unit 5 cycle 88 expected 00 returned 02\n"),
+    ("+planted +unit=7 +bit=4", "fail 10000000 unit 7 cycle 195 expected 00 returned 10\n"),
+]
+DAMAGED = [
+    (".taken_5(rdata_5)", ".taken_5(rdata_4)", "+planted +unit=5 +bit=1"),
+    (".given_7(wdata_7)", ".given_7()", "+planted +unit=7 +bit=4"),
+    (".done(over)", ".done()", ""),
+]
+
+
+def wholes(bench: Bench) -> None:
+    """A whole chip is started and read by a signal, by APB and by JTAG; one in which something is joined wrongly is told."""
+    if not shutil.which("iverilog"):
+        return
+    for words in (["tools/top", JOINS, *PINS, "whole_chip", "--access"], ["tools/access", JOINS, *PINS, "whole_chip", "--apb", "--jtag"]):
+        done = bench.run(words)
+        bench.is_so(not done.returncode, f"{words[0]} of a whole chip: {done.stderr}")
+    for kind in ("access", "apb", "tap"):
+        build = f"cd whole_chip && iverilog -g2012 -Wall -Wno-timescale -o tb -c joins_{kind}.f && vvp -n tb"
+        for more, told in REACHED:
+            done = bench.run(["bash", "-c", f"{build} {more}"])
+            bench.is_so(done.stdout.startswith(told) and f"joins_{kind}_tb: passed" in done.stdout, f"{kind} {more}: {done.stdout}{done.stderr}")
+    right = (bench.folder / "whole_chip" / "joins_access.v").read_text()
+    for old, new, more in DAMAGED:
+        bench.is_so(old in right, f"{old!r} does not stand in joins_access.v")
+        (bench.folder / "whole_chip" / "joins_access.v").write_text(right.replace(old, new))
+        done = bench.run(["bash", "-c", f"cd whole_chip && iverilog -g2012 -o tb -c joins_access.f && vvp -n tb {more}"])
+        bench.is_so(done.returncode == 1 and "FATAL" in done.stdout, f"{new} is not told: {done.stdout}{done.stderr}")
+
+
+PARTS = (kept, wholes, in_icarus, in_ghdl, in_openocd, in_opensta)

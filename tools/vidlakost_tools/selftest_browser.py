@@ -3,27 +3,20 @@ screen, and a page of elsewhere that asks it. Run by `tools/selftest` with the a
 each look, which begins with `ok` or `wrong`."""
 from __future__ import annotations
 
-import contextlib
 import http.server
 import pathlib
 import sys
 import tempfile
 import threading
-import time
 import traceback
-from typing import Any, Callable
 
-from selenium import webdriver
-from selenium.webdriver.chrome.options import Options
-from selenium.webdriver.chrome.service import Service
-from selenium.webdriver.common.by import By
 from selenium.webdriver.common.keys import Keys
 
 from vidlakost_tools.program import run
 from vidlakost_tools.selftest_explore import MARCH, MARKUP
+from vidlakost_tools.selftest_looker import REBOUND, Looker
+from vidlakost_tools.selftest_page import carried, found, small, told_apart
 
-SECONDS = 8.0
-REBOUND = "rebound.example"
 ELSEWHERE = """<!DOCTYPE html><title>elsewhere</title><iframe id="frame"></iframe><script>
 window.heard = {};
 async function attempt(address) {
@@ -45,76 +38,9 @@ async function attempt(address) {
 </script>"""
 
 
-class Looker:
-    """A browser, and what it found."""
-
-    def __init__(self, folder: pathlib.Path, address: str):
-        self.folder, self.address, self.wrong = folder, address, 0
-        options: Any = Options()
-        for word in (
-            "--headless=new",
-            "--no-sandbox",
-            "--disable-gpu",
-            "--disable-dev-shm-usage",
-            "--window-size=1400,1300",
-        ):
-            options.add_argument(word)
-        options.add_argument(f"--host-resolver-rules=MAP {REBOUND} 127.0.0.1")
-        options.add_experimental_option("prefs", {"download.default_directory": str(folder)})
-        options.set_capability("goog:loggingPrefs", {"browser": "ALL"})
-        self.browser: Any = webdriver.Chrome(service=Service("chromedriver"), options=options)
-
-    def look(self, what: str, holds: Callable[[], object]) -> None:
-        """Waits until something holds."""
-        until, found = time.monotonic() + SECONDS, None
-        while time.monotonic() < until:
-            with contextlib.suppress(Exception):
-                found = holds()
-            if found:
-                print(f"ok {what}", flush=True)
-                return
-            time.sleep(0.05)
-        self.wrong += 1
-        print(f"wrong {what}: {found!r}", flush=True)
-
-    def by_id(self, name: str) -> Any:
-        return self.browser.find_element(By.ID, name)
-
-    def text(self, name: str) -> str:
-        return str(self.by_id(name).text)
-
-    def all(self, selector: str) -> Any:
-        return self.browser.find_elements(By.CSS_SELECTOR, selector)
-
-    def write(self, name: str, text: str) -> None:
-        """Clears a field and types into it."""
-        field = self.by_id(name)
-        field.send_keys(Keys.CONTROL, "a")
-        field.send_keys(Keys.DELETE, text)
-
-    def keys(self, *keys: str) -> None:
-        self.browser.switch_to.active_element.send_keys(*keys)
-
-    def square(self, march: str, primitive: str) -> Any:
-        return self.all(f"#coverage [data-march='{march}'][data-primitive='{primitive}']")[0]
-
-    def saved(self, name: str) -> str:
-        """The text of a file that the browser saved, once it is whole."""
-        path = self.folder / name
-        until = time.monotonic() + SECONDS
-        while time.monotonic() < until and not path.exists():
-            time.sleep(0.05)
-        time.sleep(0.2)
-        return path.read_text(encoding="utf-8") if path.exists() else ""
-
-    def complaints(self) -> Any:
-        """What the browser's console says."""
-        return [entry["message"] for entry in self.browser.get_log("browser")]
-
-
 def typed(it: Looker) -> None:
     """March C- with a mistake, which is mended; and a word that is completed."""
-    it.look("the march of the call is judged", lambda: "32 of 50 covered" in it.text("cards"))
+    it.look("the march of the call is judged", lambda: "32 of 48 covered" in it.text("cards"))
     it.look("the page says which program answers", lambda: "proved" in it.text("program"))
     it.write("march-A", MARCH.replace("up(r0", "upp(r0"))
     it.look(
@@ -136,7 +62,7 @@ def typed(it: Looker) -> None:
     it.browser.switch_to.active_element.send_keys(Keys.ENTER)
     it.look("a word is completed", lambda: it.by_id("march-A").get_attribute("value") == "{any(w0);down")
     it.write("march-A", MARCH)
-    it.look("it is judged again", lambda: "32 of 50 covered" in it.text("cards") and it.text("said-A") == "")
+    it.look("it is judged again", lambda: "32 of 48 covered" in it.text("cards") and it.text("said-A") == "")
 
 
 def ticked(it: Looker) -> None:
@@ -159,7 +85,7 @@ def ticked(it: Looker) -> None:
     it.write("list", "TF\n<0w0/1/->\n")
     it.look("a list as text is judged", lambda: "2 of 3 covered" in it.text("cards") and it.text("list-said") == "")
     it.by_id("static").click()
-    it.look("the static classes are judged", lambda: "32 of 50" in it.text("cards"))
+    it.look("the static classes are judged", lambda: "32 of 48" in it.text("cards"))
 
 
 def changed(it: Looker) -> None:
@@ -202,6 +128,13 @@ def stepped(it: Looker) -> None:
     )
     it.square("A", "<0w1/0/->").click()
     it.look("a covered one is told", lambda: "Covered by march A" in it.text("why"))
+    it.look("its first catching read is told", lambda: "r1 of element 2 on cell 0" in it.text("why"))
+    it.look("the program says the same", lambda: "says caught element 2 address 0 operation 0" in it.text("why"))
+    it.keys(Keys.END)
+    it.look("the read is played", lambda: "reads 0, which differs" in it.text("player"))
+    it.square("A", "<0w1;1/0/->").click()
+    sides = ["aggressor below: r1 of element 4 on cell 1", "aggressor above: r1 of element 2 on cell 0"]
+    it.look("a coupling is caught on both sides", lambda: [node.text for node in it.all(".catches button")] == sides)
     it.square("A", "both and").click()
     it.look("a fault of the decoder is told", lambda: "Covered by march A" in it.text("why"))
     it.square("A", "<0w1/0/->").click()
@@ -231,7 +164,7 @@ def compared(it: Looker) -> None:
     it.by_id("add").click()
     gallery = it.all("#cards .card:nth-child(2) select option")
     next(option for option in gallery if option.text.startswith("March SS")).click()
-    it.look("a second march is judged", lambda: "B covers 48 of 50 in 22n" in it.text("summary"))
+    it.look("a second march is judged", lambda: "B covers 48 of 48 in 22n" in it.text("summary"))
     squares = [it.square(march, "<0w0/1/->").get_attribute("class").split() for march in "AB"]
     it.look("they differ where they should", lambda: ["covered" in found for found in squares] == [False, True])
     it.by_id("add").click()
@@ -262,7 +195,7 @@ def remembered(it: Looker) -> None:
     it.by_id("save-module").click()
     it.look("a module is saved", lambda: it.saved("little_bist.v").startswith("module little_bist("))
     it.by_id("save-report").click()
-    it.look("a report is saved", lambda: it.saved("little.report").endswith("total 50 covered 32 escapes 18\n"))
+    it.look("a report is saved", lambda: it.saved("little.report").endswith("total 48 covered 32 escapes 16\n"))
     it.by_id("save-memory").click()
     it.look("a memory is saved", lambda: "latency 2" in it.saved("little.mem"))
     it.by_id("save-list").click()
@@ -272,7 +205,7 @@ def remembered(it: Looker) -> None:
     words = ["benchfile", *(it.folder / name for name in ("little_bist.v", "march_A.m", "little.mem"))]
     it.look("the saved module is clocked", lambda: run(*words) == (0, "fail 0 done 163"))
     words = ["judge", it.folder / "march_A.m", it.folder / "faults.list", it.folder / "again"]
-    it.look("the saved list is judged", lambda: run(*words) == (1, "total 50 covered 32 escapes 18"))
+    it.look("the saved list is judged", lambda: run(*words) == (1, "total 48 covered 32 escapes 16"))
 
 
 def named(it: Looker) -> None:
@@ -305,7 +238,7 @@ def marked_up(it: Looker) -> None:
     )
     it.write("march-A", MARCH)
     it.write("memory-text", "memory 1\nname little\nwords 4\nbits 8\n")
-    it.look("the page goes on", lambda: "32 of 50" in it.text("cards") and "163" in it.text("figures"))
+    it.look("the page goes on", lambda: "32 of 48" in it.text("cards") and "163" in it.text("figures"))
 
 
 def kept(it: Looker) -> None:
@@ -316,7 +249,7 @@ def kept(it: Looker) -> None:
     it.browser.get((it.folder / "march.html").as_uri())
     it.look(
         "the file has the verdicts",
-        lambda: "A covers 32 of 50 in 10n · B covers 48 of 50 in 22n" in it.text("summary"),
+        lambda: "A covers 32 of 48 in 10n · B covers 48 of 48 in 22n" in it.text("summary"),
     )
     it.square("A", "<0r0/1/0>").click()
     it.look(
@@ -363,12 +296,31 @@ def elsewhere(it: Looker) -> None:
     server.shutdown()
 
 
+PARTS = [
+    typed,
+    ticked,
+    changed,
+    stepped,
+    told_apart,
+    small,
+    linked,
+    compared,
+    found,
+    remembered,
+    named,
+    carried,
+    marked_up,
+    kept,
+    elsewhere,
+]
+
+
 def main() -> int:
     with tempfile.TemporaryDirectory() as name:
         it = Looker(pathlib.Path(name), sys.argv[1])
         try:
             it.browser.get(it.address)
-            for part in (typed, ticked, changed, stepped, linked, compared, remembered, named, marked_up, kept, elsewhere):
+            for part in PARTS:
                 try:
                     part(it)
                 except Exception:

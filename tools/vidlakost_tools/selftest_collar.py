@@ -88,10 +88,11 @@ FILES.update(
     }
 )
 TOP = ["tools/top", "two.chip", "s.pins", "t.pins"]
+LEFT = ["tools/collar", "examples/joins/left.mem", "--macro", "examples/joins/left.pins"]
 COLLAR = ["tools/collar", "s.mem", "--macro", "s.pins"]
 # a tool that a call needs, its words, its status, a part of its output, and the beginning of standard error
 CALLS: List[Tuple[str, List[str], int, str, str]] = [
-    ("", [*TOP, "whole"], 0, "whole/both_system.v\n", ""),
+    ("", [*TOP, "whole"], 0, "whole/both_system.v\n", "top: not tested: s.ce, t.ce: whether it is ever off\n"),
     ("", [*TOP, "whole", "--plan"], 0, "  1  t     0     1      1     41   123\n", ""),
     ("", [*TOP, "mine"], 2, "", "top: mine/both_system.v is there and was not written by vidlakost"),
     ("", [*TOP, "whole", "t.pins"], 2, "", "top: whole: Is a directory"),
@@ -99,11 +100,11 @@ CALLS: List[Tuple[str, List[str], int, str, str]] = [
     ("", ["tools/top", "two.chip", "s.pins", "s.pins", "none"], 2, "", "top: s.pins: s.pins tells the pins of s too"),
     ("", ["tools/top", "two.chip", "lo.pins", "none"], 2, "", "top: lo.pins: this file is of lo, and the memories are s, t"),
     ("", ["tools/top", "two.chip", "c.m", "none"], 2, "", "top: c.m: a file of pins is named as its memory"),
-    ("", [*TOP, "whole", "--model", "shown.v"], 0, "whole/files.f", ""),
+    ("", [*TOP, "whole", "--model", "shown.v"], 0, "whole/files.f", "top: not tested: s.ce, t.ce"),
     ("", ["tools/top", "two.chip", "clash.pins", "none"], 2, "", "top: clash.pins: this file is of clash"),
     ("", ["tools/top", "apart.chip", "lo.pins", "s.pins", "none"], 2, "", "top: apart.chip: lo and hi are parts of one word, and"),
     ("", ["tools/top", "never.chip", "lo.pins", "none"], 2, "", "top: never.chip: lo and hi are parts of one word, and stand in two"),
-    ("", ["tools/top", "twice.list", "lo.pins", "twice", "--plan"], 0, "  3  hi_1     1     1      0      0   122\n", ""),
+    ("", ["tools/top", "twice.list", "lo.pins", "twice", "--plan"], 0, "  3  hi_1     1     1      0    122   244\n", ""),
     ("", ["tools/top", "light.list", "lo.pins", "none"], 2, "", "top: lo and hi weigh more than the budget together"),
     ("", ["tools/top", "logic.chip", "s.pins", "none"], 2, "", "top: logic.chip: the name 'logic' is a word of SystemVerilog"),
     ("", ["tools/top", "case.list", "lo.pins", "none"], 2, "", "top: case.list: two memories have the name lo, but"),
@@ -120,8 +121,8 @@ CALLS: List[Tuple[str, List[str], int, str, str]] = [
     ("", [*COLLAR, "listed"], 2, "", "collar: listed/files.f is the list of 't_collar_tb.sv', so nothing is written"),
     ("", [*COLLAR, "vendor", "--model", "hidden.v"], 2, "", "collar: s.pins:1: there is no module ram4x1 in /"),
     ("", [*COLLAR, "vendor", "--model", "no such.v"], 2, "", "collar: --model: 'no such.v' is no file"),
-    ("", [*COLLAR, "vendor", "--model", "shown.v"], 0, "vendor/files.f", ""),
-    ("", [*COLLAR, "open", "--open"], 0, "open/s_collar.v\nopen/ram4x1.v\n", ""),
+    ("", [*COLLAR, "vendor", "--model", "shown.v"], 0, "vendor/files.f", "collar: not tested: ce: whether"),
+    ("", [*COLLAR, "open", "--open"], 0, "open/s_collar.v\nopen/ram4x1.v\n", "collar: not tested: ce: whether"),
     ("", [*COLLAR, "open", "--open", "--through", "apb"], 2, "", "collar: --open and --through exclude one another"),
     ("", ["tools/collar", "s.mem", "--macro", "clash.pins", "none"], 2, "", "collar: clash.pins:1: 's_bist' is a module that stands"),
     ("", ["tools/liberty", "few.lib", "RAM8X4", "cells"], 0, "cells/ram8x4.pins\n", "liberty: Q changes at the falling edge"),
@@ -146,7 +147,7 @@ CALLS: List[Tuple[str, List[str], int, str, str]] = [
     ("", ["tools/hold", "blind.m", "pause.mem", "holds"], 0, "holds/p_hold.v", "hold: no pause is followed by a read"),
     ("", ["tools/hold", "c.m", "pause.mem", "holds"], 2, "", "hold: c.m: the march has no pause"),
     ("", ["tools/hold", "hold.m", "pause.mem", "mine"], 2, "", "hold: mine/p_hold.v is there and was not written by vidlakost"),
-    ("", ["tools/flow", "two.chip", "flow"], 0, "flow/Makefile\nflow/lint.vlt\nflow/faults.list\n", ""),
+    ("", ["tools/flow", "two.chip", "flow"], 0, "flow/Makefile\nflow/faults.list\n", ""),
     ("", ["tools/flow", "two.chip", "s.pins", "t.pins", "flow", "--list", "tf.list"], 0, "flow/Makefile\n", ""),
     ("", ["tools/flow", "two.chip", "s.pins", "t.pins", "mine"], 2, "", "flow: mine/Makefile is there and was not written by"),
     ("", ["tools/flow", "apart.chip", "flow"], 2, "", "flow: apart.chip: lo and hi are parts of one word"),
@@ -157,6 +158,12 @@ CALLS: List[Tuple[str, List[str], int, str, str]] = [
     ("", ["tools/flow", "odd;name.chip", "s.pins", "t.pins", "flow"], 2, "", "flow: 'odd;name.chip': a makefile takes names"),
     ("", ["tools/flow", "two.chip", "s.pins", "t.pins", "flow", "--list", "a`b.list"], 2, "", "flow: 'a`b.list': a makefile takes names"),
     ("", ["tools/flow", "chip.chip", "chip.pins", "flow"], 2, "", "flow: a memory named chip would have the folder"),
+    ("", [*LEFT, "mux"], 0, "mux/left_collar.v\n", "collar: `? :` chooses the clock of clkb, clkc: name a cell by --clock-mux"),
+    ("", [*LEFT, "mux2", "--clock-mux", "CK:S:A:B:Z"], 0, "mux2/CK.v\n", "collar: not tested"),
+    ("", [*LEFT, "mux3", "--clock-mux", "CK:S:A:B"], 2, "", "collar: --clock-mux is CELL:SELECT:CHIP:TEST:OUT, five names"),
+    ("", [*LEFT, "mux3", "--clock-mux", "wire:S:A:B:Z"], 2, "", "collar: --clock-mux is CELL:SELECT:CHIP:TEST:OUT, five names"),
+    ("", [*LEFT, "mux3", "--clock-mux", "left_bist:S:A:B:Z"], 2, "", "collar: examples/joins/left.pins: 'left_bist' is a module"),
+    ("", ["tools/flow", "examples/joins/joins.chip", "flow2", "--clock-mux", "CK:S"], 2, "", "flow: --clock-mux is CELL"),
     ("", ["tools/collar", "cash.mem", "--macro", "s.pins", "none"], 2, "", "collar: s.pins: the memory a$b has a $ in its name"),
     ("", ["tools/collar", "lo.mem", "hi.mem", "--macro", "s.pins", "none"], 2, "", "collar: s.pins: two memories make one word"),
 ]
@@ -275,6 +282,7 @@ def shares(bench: Bench, call: str, name: str) -> None:
     for more, is_passed, told in (
         ("+planted=gray_39" if name == "soc" else "+planted=gray", True, "a wrong bit at gray"),
         ("+planted +parts=3 +part=1", True, "is found"),
+        ("+planted +parts=3 +part=1 +seed=5", True, " faults by the seed 5\n"),
         ("+planted=other", False, "no memory is named other"),
         ("+planted +parts=3 +part=3", False, "+part below it"),
     ):

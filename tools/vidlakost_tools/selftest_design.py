@@ -21,6 +21,7 @@ FILES: Dict[str, str] = {
     "paused.m": "{del;any(w0);any(r0)}\n",
     "long.m": "{any(w0,r0,r0,r0)}\n",
     "eight.mem": "memory 1\nname eight\nwords 16\nbits 8\n",
+    "pair.mem": "memory 1\nname pair\nwords 4\nbits 2\nbackgrounds 0\n",
 }
 # the words behind `design`, the status, a part of the answer, and the beginning of standard error
 ROWS: List[Tuple[List[str], int, str, str]] = [
@@ -35,6 +36,12 @@ ROWS: List[Tuple[List[str], int, str, str]] = [
     (["tf.list", "--operations", "1"], 0, "judge total 2 covered 2 escapes 0", "design: "),
     (["tf.list", "--time", "100", "eight.mem"], 0, "time 0.003 ms at 100 MHz, 323 cycles of eight", "design: 5n, 0.003 ms at 100 MHz after"),
     (["tf.list", "--inword", "eight.mem"], 0, "inword total 0 covered 0 escapes 0", "design: "),
+    (["tf.list", "--inword", "eight.mem", "--backgrounds", "2"], 0, "escapes 0 with `backgrounds 00`", "design: "),
+    (["wide.list", "--inword", "pair.mem"], 0, "inword total 4 covered 2 escapes 2\n", "design: "),
+    (["wide.list", "--inword", "pair.mem", "--backgrounds", "3"], 0, "inword total 4 covered 4 escapes 0 with `backgrounds 0 2`", "design: "),
+    (["wide.list", "--inword", "pair.mem", "--backgrounds", "1"], 0, "inword total 4 covered 2 escapes 2 with `backgrounds 0`", "design: "),
+    (["tf.list", "--backgrounds", "2"], 2, "", "design: --backgrounds wants --inword, which names the memory"),
+    (["tf.list", "--inword", "eight.mem", "--backgrounds", "9"], 2, "", "design: --backgrounds is a number from 1 to 8, and not 9"),
     (["wide.list", "--elements", "1"], 1, "<0;0/1/-> CFst: no march was found that covers it too", ""),
     (["two.list", "--operations", "3"], 0, "judge total 1 covered 1 escapes 0", "design: "),
     (["two.list", "--operations", "2"], 2, "", "design: elements of at most 2 operations cover no primitive of two.list"),

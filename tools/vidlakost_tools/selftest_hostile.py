@@ -46,7 +46,7 @@ CALLS: List[Tuple[str, List[str], int, str, str]] = [
     ("", ["tools/testbench", "c.m", "task.mem", "harm"], 0, "harm/s_tb.v\n", ""),
     ("", ["tools/schedule", "loose.chip"], 0, "   0  s            2      0       0      42\ngroups 1 done 42\n", ""),
     ("", ["tools/testbench", "loose.chip", "harm", "--chip"], 0, "harm/both_tb.v\n", ""),
-    ("", ["tools/collar", "s.mem", "--macro", "loose.pins", "harm"], 0, "harm/ram.v\n", ""),
+    ("", ["tools/collar", "s.mem", "--macro", "loose.pins", "harm"], 0, "harm/ram.v\n", "collar: not tested: we: whether"),
     ("", ["tools/collar", "s.mem", "--macro", "named.pins", "harm"], 2, "", "collar: named.pins:1: the name of a pin"),
     ("", ["tools/collar", "s.mem", "--macro", "tied.pins", "harm"], 2, "", "collar: tied.pins:7: what an input is tied to"),
     ("yosys", ["tools/audit", *RIGHT, "--vcd", "latin\udce9.vcd"], 2, "fail is exact", "audit: a name that is no UTF-8 would stand"),
@@ -222,7 +222,7 @@ def launcher(bench: Bench) -> None:
         told = f"vidlakost: the program {silent} ended with status 1 and without an answer"
         bench.look(["./vidlakost", "sim", "c.m"], 125, "", told, VIDLAKOST_PROGRAM=silent, VIDLAKOST_EXPLAIN=explain)
     bench.look(["./vidlakost", "sim"], 125, "", "vidlakost: VIDLAKOST_PROGRAM names", VIDLAKOST_PROGRAM=str(bench.folder))
-    slow = program(bench, "slow", "#!/bin/sh\nsleep 11\necho conforms 3\n")
+    slow = program(bench, "slow", "#!/bin/sh\nsleep 14\necho conforms 3\n")
     long = "vidlakost: still running: a test takes at most 2,000,000 cycles"
     bench.look(["./vidlakost", "check", "c.m", "c.m", "s.mem"], 0, "conforms 3", long, VIDLAKOST_PROGRAM=slow)
     for words in (["--stale", "--help"], ["--stale", "help"]):

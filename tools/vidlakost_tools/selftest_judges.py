@@ -21,16 +21,20 @@ def changed(*pairs: Tuple[str, str], text: str = RIGHT) -> str:
     return text
 
 
-def with_rows(first: str) -> str:
+def with_rows(first: str, head: str = "unique case (1'b1)", last: str = "default: wdata = ground;") -> str:
     """Whether the word is inverted is told by rows, of which the first holds for these states."""
-    rows = f"""unique case (1'b1)
+    rows = f"""{head}
       {first}: wdata = ground;
       state == WRITE_UP: wdata = ~ground;
-      default: wdata = ground;
+      {last}
     endcase"""
     return changed(("        wdata = ~ground;\n        next_state = READ_UP;", "        next_state = READ_UP;"), ("wdata = ground;", rows))
 
 
+# what a synthesizer is told by comments
+PARALLEL, FULL = "case (1'b1) // synopsys parallel_case", "case (1'b1) /* synthesis full_case */"
+ELSE = "state != WRITE_UP && state != FILL: wdata = ground;"
+PRIORITY = RIGHT.replace("        if (&word) next_state = READ_UP;", "        priority if (&word) next_state = READ_UP; else next_state = FILL;")
 # the comparison takes one cycle more, and so does the end
 PIPELINED = changed(
     ("  reg reading, wrong;", "  reg reading, wrong, differs, ended;"),
@@ -40,12 +44,51 @@ PIPELINED = changed(
 )
 
 
-# how many words were wrong, up to seven
-COUNTS = changed(
-    ("  reg reading, wrong;", "  reg reading;\n  reg [2:0] count;\n  wire wrong = count != 0;"),
-    ("      wrong <= 0;\n", "      count <= 0;\n"),
-    ("      if (reading) for (i = 0; i < W; i = i + 1) if (rdata[i] != wanted[i]) wrong <= 1;\n", "      if (reading && rdata != wanted && count != 7) count <= count + 1;\n"),
-)
+COMPARED = "      if (reading) for (i = 0; i < W; i = i + 1) if (rdata[i] != wanted[i]) wrong <= 1;\n"
+
+
+def counting(more: str) -> str:
+    """How many words were wrong is counted in three bits, while something holds."""
+    return changed(
+        ("  reg reading, wrong;", "  reg reading;\n  reg [2:0] count;\n  wire wrong = count != 0;"),
+        ("      wrong <= 0;\n", "      count <= 0;\n"),
+        (COMPARED, f"      if (reading && rdata != wanted{more}) count <= count + 1;\n"),
+    )
+
+
+def compared(condition: str) -> str:
+    """A controller whose words differ where a condition holds."""
+    return changed((COMPARED, f"      if (reading && ({condition})) wrong <= 1;\n"))
+
+
+# up to seven, and with more of them from 0 on again
+COUNTS, COUNTS_ON = counting(" && count != 7"), counting("")
+SIGNED = "$signed(rdata) < $signed(wanted) || {} > {}"
+
+
+def with_member(index: str) -> str:
+    """What a read has to answer is a member of a structure, of which a bit is taken."""
+    return changed(
+        ("  reg reading, wrong;", "  typedef struct packed { logic high; logic [1:0] expected; logic low; } kept_t;\n  kept_t kept;\n  reg reading, wrong;"),
+        ("wanted <= state", "kept.expected <= state"),
+        (COMPARED, COMPARED.replace("wanted[i]", f"kept.expected[{index}]")),
+    )
+
+
+def netlist(source: str, out: str) -> List[str]:
+    """The call that makes gates of a source, whose registers keep their asynchronous reset, and audits them."""
+    passes = f"read_verilog {source}; synth -flatten; abc -g NAND,NOR,XOR; opt_clean; write_verilog -noattr {out}"
+    return ["bash", "-c", f"yosys -q -p '{passes}' && tools/audit {out} {' '.join(TEST)}"]
+
+
+def for_ice40(source: str, out: str, *options: str) -> List[str]:
+    """The call that maps a source to the cells of ice40, and audits the netlist."""
+    passes = f"read_verilog {source}; synth_ice40 -flatten; write_verilog -noattr {out}"
+    return ["bash", "-c", f"yosys -q -p '{passes}' && tools/audit {out} {' '.join(TEST)} --cells ice40 {' '.join(options)}"]
+
+
+COMPILE = "./vidlakost compile examples/mats_plus.m examples/foreign/four.mem nothing.list own.v own.report"
+RAM_CELL = "module ram_cell(input clk, output y);\n  SB_RAM40_4K ram(.RCLK(clk), .RDATA(y));\nendmodule\n"
 PINNED = RIGHT + """module pinned(input ck, rst_n, mode, input [1:0] q, output cen, wen, output [1:0] a, d, output ready, error, busy);
   wire en, we;
   two_processes inner(~ck, ~rst_n & mode, q, en, we, a, d, ready, error);
@@ -86,6 +129,14 @@ FILES: Dict[str, str] = {
     "rows_meet.v": with_rows("state[1] || state == FILL"),
     # the first row comes back to the second's word where both hold
     "rows_of_one_word.v": with_rows("state == READ_UP || state[2] && !state[0]"),
+    "comment_apart.v": with_rows("state == FILL", PARALLEL),
+    "comment_meet.v": with_rows("state[1] || state == FILL", PARALLEL),
+    "priority_rows.v": with_rows("state[1] && state != WRITE_UP || state == FILL", "priority case (1'b1)"),
+    "full.v": with_rows("state == FILL", FULL, ELSE),
+    # in the state WRITE_DOWN none holds
+    "full_not.v": with_rows("state == FILL", FULL, "state[0] || state == 6: wdata = ground;"),
+    "full_priority.v": with_rows("state == FILL", "priority case (1'b1)", "state[0] || state == 6: wdata = ground;"),
+    "priority_if.v": PRIORITY,
     "three_state.lib": LIBRARY,
     "cells.v": with_cells("INV"),
     "cells_off.v": with_cells("TBUF"),
@@ -112,6 +163,17 @@ FILES: Dict[str, str] = {
     "pulled.v": changed((FAIL, "  tri1 t;\n  assign fail = wrong & ~reset & t;\n")),
     "falls_late.v": changed((FAIL, "  reg [9:0] since;\n  always @(posedge clk) since <= reset ? 0 : since + 1;\n  assign fail = wrong & ~reset & since != 1000;\n")),
     "counts.v": COUNTS,
+    "counts_on.v": COUNTS_ON,
+    "minus.v": compared("wanted - rdata != 0"),
+    "minus_short.v": compared("((wanted - rdata) >> 1) != 0"),
+    "signed.v": compared(SIGNED.format("$signed(rdata)", "$signed(wanted)")),
+    "signed_half.v": compared(SIGNED.format("rdata", "wanted")),
+    "nothing.list": "",
+    "member.v": with_member("i"),
+    # beyond the member, where Yosys by itself would take a bit of the next one
+    "member_beyond.v": with_member("i + 1"),
+    "member_written.v": with_member("i").replace("kept.expected <= state", "for (i = 0; i < 2; i = i + 1) kept.expected[i] <= state"),
+    "ram_cell.v": RAM_CELL,
     "nothing.v": "module m(input clk);\nendmodule\n",
     "unclosed.v": "module m(input clk);" + "(*a" * 8000 + "\n",
 }
@@ -130,6 +192,13 @@ CALLS: List[Tuple[str, List[str], int, str, str]] = [
     audited("rows_apart.v", 0, EXACT, ""),
     audited("rows_of_one_word.v", 0, EXACT, ""),
     audited("rows_meet.v", 1, "  wdata hangs on rows_that_overlap (rows_meet.v:45)", ""),
+    audited("comment_apart.v", 0, EXACT, "audit: Warning: Encountered `"),
+    audited("comment_meet.v", 1, "  wdata hangs on rows_that_overlap (comment_meet.v:45)", "audit: Warning: Encountered `"),
+    audited("priority_rows.v", 0, EXACT, ""),
+    audited("full.v", 0, EXACT, "audit: Warning: Encountered `"),
+    audited("full_not.v", 1, "audit: unknown cycle 14 port wdata", "audit: Warning: Encountered `"),
+    audited("full_priority.v", 1, "audit: unknown cycle 14 port wdata", ""),
+    audited("priority_if.v", 1, "audit: refused", "audit: 'priority_if.v':50: Yosys doesn't read `priority if`"),
     ("yosys", ["tools/formal", "rows_apart.v", *TEST], 0, "each port is in each cycle as it has to be\n", ""),
     ("yosys", ["tools/formal", "rows_meet.v", *TEST], 1, "differs in cycle 6\n", ""),
     audited("cells.v", 0, EXACT, "", "--liberty", "three_state.lib"),
@@ -164,7 +233,24 @@ CALLS: List[Tuple[str, List[str], int, str, str]] = [
     audited("falls_late.v", 0, "fail is exact to cycle 106\n", ""),
     audited("falls_late.v", 1, "fail is exact to cycle 106\n", "", "--strict"),
     audited("kept.v", 0, EXACT, "", "--strict"),
-    audited("counts.v", 1, "a model checker may know: vidlakost formal counts.v examples/mats_plus.m", ""),
+    clocked("counts.v", 0, "and splitting 1 bit does, in 8 states at once\n", ""),
+    audited("counts.v", 0, EXACT, ""),
+    audited("counts_on.v", 1, "audit: conforms, fail is 0 in cycle 21 though bit 0 of the answer of cycle 6 is wrong\n", ""),
+    clocked("minus.v", 0, EXACT, ""),
+    audited("minus_short.v", 1, "audit: conforms, fail is 0 in cycle 15 though bit 0 of the answer of cycle 14", ""),
+    clocked("signed.v", 0, EXACT, ""),
+    audited("signed_half.v", 1, "audit: conforms, fail is 0 in cycle 15 though", ""),
+    ("yosys", netlist("counts.v", "counts_gates.v"), 0, EXACT, ""),
+    ("yosys", netlist("counts_on.v", "counts_on_gates.v"), 1, "audit: conforms, fail is 0 in cycle ", ""),
+    ("yosys iverilog", for_ice40(f"{STYLES}two_processes.v", "ice.v", "--simulate"), 0, EXACT, ""),
+    ("yosys", for_ice40(f"{STYLES}two_processes_forgets.v", "ice_forgets.v"), 1, "audit: conforms, fail is 0 in cycle 9", ""),
+    ("yosys", for_ice40("counts_on.v", "ice_counts_on.v"), 1, "audit: conforms, fail is 0 in cycle ", ""),
+    ("yosys", ["bash", "-c", f"{COMPILE} && {for_ice40('own.v', 'ice_own.v')[-1]}"], 0, EXACT, "nothing.list: warning: the list holds no primitive"),
+    clocked("member.v", 0, EXACT, "audit: 'member.v':37: kept.expected[i] is read as a part of a word of its own"),
+    audited("member_beyond.v", 1, "audit: conforms, fail is ", "audit: 'member_beyond.v':37: kept.expected[i + 1]"),
+    audited("member_written.v", 1, "", "audit: 'member_written.v':36: a part of a structure's member, beyond which Yosys"),
+    ("yosys", ["tools/plain", "out.v", "ram_cell.v", "--cells", "ice40"], 1, "", "plain: ram_cell has a part SB_RAM40_4K, which is no"),
+    ("yosys", ["tools/plain", "out.v", "ram_cell.v", "--cells", "ice"], 2, "", "plain: --cells knows ice40"),
     ("yosys", ["tools/formal", "counts.v", *TEST], 0, "each port is in each cycle as it has to be\n", ""),
     ("yosys", ["tools/formal", *IDLE], 1, "differs in cycle 1\n", ""),
     ("yosys", ["tools/formal", "pinned.v", *TEST, "--pins", "pinned.pins"], 0, "each port is in each cycle", ""),

@@ -7,8 +7,9 @@ import os
 import pathlib
 import shutil
 
+from vidlakost_tools.program import ROOT
 from vidlakost_tools.selftest_bench import Bench
-from vidlakost_tools.selftest_collar import MARCH, SIX
+from vidlakost_tools.selftest_collar import MARCH
 
 HEAD = "memory 2\nname {}\nwords 8\nbits {}\nlatency {}\nbackgrounds 0\n"
 OTHER = "port we v 2\nport addr b\nport wdata e\nport rdata p\n"
@@ -24,6 +25,8 @@ PINS = {
 OF = {"both": ["both"], "two": ["two"], "slow": ["slow"], "lower": ["lower", "upper"]}
 # the macro whose model holds a word until the next read, as those of most vendors do
 HELD = "slow"
+# the examples whose whole is joined wrongly
+SYSTEMS = ("six", "joins")
 
 
 def hung(net: str) -> str:
@@ -66,10 +69,19 @@ WRONG = [
     ("a bit of what the other port writes hangs on another", "both", "m_e = test ? t_wdata", "m_e = test ? {t_wdata[3:1], t_wdata[1]}", True),
     ("the lanes are compared in the low half alone", "both", "(rdata != want_2)", "(rdata[1:0] != want_2[1:0])", True),
     ("a lane of the other port stands open in writes of zeros", "both", "t_lanes_1)", "(t_lanes_1 | {{~t_wdata[0], 1'b0}}))", True),
+    ("the lanes are tried at the first address alone", "both", "s_addr = lanes_go ? l_addr", "s_addr = lanes_go ? 3'd0", False),
+    ("the machine of the lanes stays at the first address", "both", "if (is_last) place <= 1'b1", "place <= 1'b0", False),
+    ("the supply is another in test", "two", "test ? 1'h0 : sleep", "test ? 1'h1 : sleep", False),
+    ("the high part's address is open", "lower", ".addr(high_addr)", ".addr()", False),
     ("the high part reads the low one", "lower", "high_rdata = returned[7:3]", "high_rdata = {2'd0, returned[2:0]}", False),
     ("the high part does not count", "lower", "low_fail | high_fail", "low_fail", True),
     ("parts out of step do not count", "lower", " | apart_kept", "", True),
     ("an enable hangs on the chip's pin of another memory", "six", ".cea(dual_cea)", ".cea(bytes_cen)", False),
+    ("the other clocks of two memories are swapped", "joins", ".clkb(left_clkb)", ".clkb(right_clkb)", False),
+    ("a further clock hangs on that of another memory", "joins", ".clkc(right_clkc)", ".clkc(left_clkc)", False),
+    ("a memory is enabled always in test", "joins", ".bist_en(n_left_en)", ".bist_en(1'b1)", False),
+    ("two chips' tests run at once", "joins", "reset(~chip_0_on)", "reset(~test)", True),
+    ("a pin of the chip hangs on that of another memory", "joins", ".sleep(left_sleep)", ".sleep(right_sleep)", False),
     ("the chip's write is never idle", "six", ".w(late_w)", ".w(1'b1)", False),
     ("an address hangs on the chip's pin of the other port", "six", ".ab(dual_ab)", ".ab(dual_aa)", False),
     ("a bit that a chip takes hangs on another", "six", "_taken = n_late_rdata", "_taken = n_late_rdata & ~12'h8 | {8'd0, n_late_rdata[2], 3'd0}", True),
@@ -79,10 +91,11 @@ WRONG = [
 SAID = {"the macro answers a cycle earlier than the description says": "behind 1 cycle: latency 3 fits, and the description says 4"}
 
 
-def made_system(bench: Bench) -> pathlib.Path:
-    """The folder of a right module that joins six collars."""
-    bench.run(["tools/top", "examples/six/six.chip", *SIX, "wrong/six/made"])
-    return bench.folder / "wrong" / "six" / "made"
+def made_system(bench: Bench, name: str) -> pathlib.Path:
+    """The folder of a right module that joins the collars of an example."""
+    pins = sorted(str(path.relative_to(ROOT)) for path in (ROOT / "examples" / name).glob("*.pins"))
+    bench.run(["tools/top", f"examples/{name}/{name}.chip", *pins, f"wrong/{name}/made"])
+    return bench.folder / "wrong" / name / "made"
 
 
 def made(bench: Bench, name: str) -> pathlib.Path:
@@ -113,7 +126,7 @@ def is_told(bench: Bench, right: pathlib.Path, number: int) -> None:
     what, name, old, new, is_planted = WRONG[number]
     folder = right.parent.parent / str(number)
     shutil.copytree(right, folder)
-    module = folder / ("six_system.v" if name == "six" else f"{name}_collar.v")
+    module = folder / (f"{name}_system.v" if name in SYSTEMS else f"{name}_collar.v")
     if name == HELD and old not in module.read_text(encoding="utf-8"):
         module = folder / "held.v"
     text = module.read_text(encoding="utf-8")
@@ -129,7 +142,7 @@ def modules(bench: Bench) -> None:
     if not shutil.which("iverilog"):
         print("iverilog is not installed, so no wrong collar is run")
         return
-    right = {**{name: made(bench, name) for name in PINS}, "six": made_system(bench)}
+    right = {**{name: made(bench, name) for name in PINS}, **{name: made_system(bench, name) for name in SYSTEMS}}
     for name in right:
         for is_planted in (False, True):
             done = bench.run(call(f"{name}/made", is_planted))

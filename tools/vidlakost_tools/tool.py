@@ -15,7 +15,7 @@ import sys
 import tempfile
 import threading
 import time
-from typing import Any, Callable, Iterator, Mapping, TextIO, cast
+from typing import Any, Callable, Iterable, Iterator, Mapping, TextIO, cast
 
 from vidlakost_tools.text import Path, cut, harmless, shown, visible
 
@@ -156,14 +156,15 @@ def leave(status: int) -> None:
 
 
 @contextlib.contextmanager
-def telling(what: str) -> Iterator[None]:
-    """Says each ten seconds what is being done, for as long as it takes."""
+def telling(what: str, how_far: Callable[[], str] | None = None) -> Iterator[None]:
+    """Says each ten seconds what is being done and how far it is, for as long as it takes."""
     is_over, name = threading.Event(), pathlib.Path(sys.argv[0]).name
 
     def tell_on() -> None:
         seconds = 10
         while not is_over.wait(10):
-            tell(f"{name}: {what}, for {seconds} seconds by now")
+            far = how_far() if how_far else ""
+            tell(f"{name}: {what}{f' ({far})' if far else ''}, for {seconds} seconds by now")
             seconds += 10
 
     teller = threading.Thread(target=tell_on, daemon=True)
@@ -173,6 +174,14 @@ def telling(what: str) -> Iterator[None]:
     finally:
         is_over.set()
         teller.join()
+
+
+def progress(cycles: Iterable[int], what: str) -> Iterator[int]:
+    """The cycles, one after another, and each ten seconds the one at which it is."""
+    at = 0
+    with telling(what, lambda: f"cycle {at}"):
+        for at in cycles:
+            yield at
 
 
 def tell(line: str) -> None:
