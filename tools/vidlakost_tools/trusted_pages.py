@@ -158,13 +158,16 @@ CLAIM = re.compile(r"`(\w+(?:::\w+)+)`(?: \((`\w+`(?:, `\w+`)*)\))?")
 
 
 def wrong_claims(graph: Graph, page: str) -> list[str]:
-    """The lines of a page of claims that name a call or a clause that does not exist, and what of it. A name alone is that of
-    a call of a crate that its line names."""
+    """The lines of a page's list of calls that name a call or a clause that does not exist, and what of it. A name alone is
+    that of a call of a crate that its line names."""
     calls: dict[str, set[str]] = {}
     for clause in graph.clauses:
         calls.setdefault(clause.call, set()).add(clause.name)
     wrong = []
-    for number, line in enumerate(page.splitlines(), 1):
+    before, heading, listed = page.partition("\n## Each call\n")
+    if not heading:
+        return ["1: has no list of calls"]
+    for number, line in enumerate(listed.splitlines(), before.count("\n") + 3):
         begun = line.split(": ", 1)[0] if line.startswith("- ") else ""
         found = list(CLAIM.finditer(begun))
         if begun and not found:
