@@ -164,10 +164,8 @@ def wrong_claims(graph: Graph, page: str) -> list[str]:
     for clause in graph.clauses:
         calls.setdefault(clause.call, set()).add(clause.name)
     wrong = []
-    before, heading, listed = page.partition("\n## Each call\n")
-    if not heading:
-        return ["1: has no list of calls"]
-    for number, line in enumerate(listed.splitlines(), before.count("\n") + 3):
+    before, heading, listed = page.rpartition("## Each call\n")
+    for number, line in enumerate(listed.splitlines(), before.count("\n") + 2 if heading else 1):
         begun = line.split(": ", 1)[0] if line.startswith("- ") else ""
         found = list(CLAIM.finditer(begun))
         if begun and not found:
