@@ -50,7 +50,7 @@ def values_of(code: str, rest: str) -> dict[str, str]:
 
 
 # what the file of `show` is called in the forms of the other commands
-SHOWN_AS = {"march": "MARCH", "memory": "MEMORY", "list": "FAULTS", "chip": "CHIPFILE"}
+SHOWN_AS = {"march": "MARCH", "memory": "MEMORY", "list": "FAULTS", "chip": "CHIPFILE", "module": "VERILOG"}
 
 
 def words_by_name(words: list[str]) -> dict[str, str]:

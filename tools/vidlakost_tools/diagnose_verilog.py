@@ -269,6 +269,15 @@ def port(name: str, text: bytes, what: str, memory: Memory) -> Finding:
     )
 
 
+def too_deep(text: bytes, at: int) -> str:
+    """What is too much at a byte. No module opens anything at byte 0, so there it is the text that `show` would say."""
+    if at == 0:
+        return "with parentheses round each operator, this module opens more than 64 of (, {, begin, case and if at once"
+    if re.compile(rb"[({]|(begin|case|if)\b").match(text, at):
+        return "this opens the 65th of (, {, begin, case and if that are open at once; at most 64 may be"
+    return "this is the 257th operator of an expression, and at most 256 may be"
+
+
 def verilog(name: str, text: bytes, code: str, values: Mapping[str, str], memory_file: str | None) -> Finding:
     """What is wrong with a module."""
     if code == "L1":
@@ -281,11 +290,7 @@ def verilog(name: str, text: bytes, code: str, values: Mapping[str, str], memory
         return rule(name, text, code, values)
     at = int(values["byte"])
     message = {
-        "L3": (
-            "this opens the 65th of (, {, begin, case and if that are open at once; at most 64 may be"
-            if re.compile(rb"[({]|(begin|case|if)\b").match(text, at)
-            else "this is the 257th operator of an expression, and at most 256 may be"
-        ),
+        "L3": too_deep(text, at),
         "L4": "this name goes on for more than 64 bytes",
         "L5": "this number is too large: a literal has 1 to 64 bits and a value that they hold, and an index is at most 63",
     }[code]

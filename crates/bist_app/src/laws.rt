@@ -1,7 +1,9 @@
-//! Laws of the generator's modules, as `check` reads and judges them, each the contract of a function that does nothing.
-ghost use Rattle.std.specs.Prelude.{◌≡◌, List};
+//! Laws of the generator's modules, as `check` reads and judges them, and of those that are shown, each the contract of a function that
+//! does nothing.
+ghost use Rattle.std.specs.Prelude.{◌≡◌, true, List};
 ghost use Rattle.verilog_tree.specs.Plain.{ModuleTree};
-ghost use Rattle.verilog_tree.specs.Spells.{FreelySpells};
+ghost use Rattle.verilog_tree.specs.Fits.{fits};
+ghost use Rattle.verilog_tree.specs.Spells.{Spells, FreelySpells};
 ghost use Rattle.verilog_emit.specs.Printed.{printed};
 ghost use Rattle.march_core.specs.March.{MarchElement};
 ghost use Rattle.memory_desc.specs.Descriptions.{Description};
@@ -27,4 +29,10 @@ pub fn generated_modules_conform()
 pub fn generated_texts_are_read()
     ensures its_own { (p : Plan) → IsPlan p → FreelySpells (printed (L.self_test p)) (L.self_test p) }
     ensures no_other { (p : Plan) → IsPlan p → (mo : ModuleTree) → FreelySpells (printed (L.self_test p)) mo → mo ≡ L.self_test p }
+{}
+
+/// The text that `show` says of a module spells that module, and read with operators that bind by precedence no other.
+pub fn shown_modules_are_read()
+    ensures its_own { (mo : ModuleTree) → fits mo ≡ true → Spells (printed mo) mo }
+    ensures no_other { (mo : ModuleTree) → fits mo ≡ true → (other : ModuleTree) → FreelySpells (printed mo) other → other ≡ mo }
 {}

@@ -1,4 +1,4 @@
-//! Worked examples of `show`: what is said of marches, memories, lists and chips, and what is refused.
+//! Worked examples of `show`: what is said of marches, memories, lists, chips and modules, and what is refused.
 
 use crate::commands::first_wrong;
 use crate::rows::are_right;
@@ -38,6 +38,42 @@ c = # one\nchip 1\nunit 2 m d # and no more\nbudget 16\n name s\nunit 3 m e\n
 0 ..
 said == chip 1\nname s\nbudget 16\nunit 2 m d\nunit 3 m e\n
 
+# MODULES
+s = module m(input clk,input[1:0]a,output y,output reg[7:0]q);wire[1:0]w,v;assign w=~a;assign v={a[1],1'b1};assign y=!w[0]&v[1]|a==2'd3;always@(posedge clk)if(y)q<=8'd10;else q<=q+8'b1;endmodule // by precedence\n
+> show module s
+0 ..
+said == module m(\n  input clk,\n  input [1:0] a,\n  output y,\n  output reg [7:0] q\n);\n  wire [1:0] w;\n  wire [1:0] v;\n  assign w = (~a);\n  assign v = {a[1], 1'h1};\n  assign y = (((!w[0]) & v[1]) | (a == 2'h3));\n  always @(posedge clk) begin\n    if (y) begin\n      q <= 8'h0a;\n    end else begin\n      q <= (q + 8'h01);\n    end\n  end\nendmodule\n
+# in full parentheses too
+s = module m(input a,output y);assign y=((!a)&a);endmodule
+0 ..
+said == module m(\n  input a,\n  output y\n);\n  assign y = ((!a) & a);\nendmodule\n
+# 64 open at once, and 65
+s = module m(input a,output y);assign y=a\64{^a\};endmodule
+0 ..
+said == module m(\n  input a,\n  output y\n);\n  assign y = \64{(\}a\64{ ^ a)\};\nendmodule\n
+s = module m(input a,output y);assign y=a\65{^a\};endmodule
+14 verilog L3 byte 0
+s = module m(input clk,input a,output reg q);always@(posedge clk)\31{if(a)\}q<=!a;endmodule
+0 ..
+said begins module m(\n  input clk,\n  input a,\n  output reg q\n);\n  always @(posedge clk) begin\n    if (a) begin\n      if (a) begin\n
+s = module m(input clk,input a,output reg q);always@(posedge clk)\31{if(a)\}q<=!!a;endmodule
+14 verilog L1 byte 220
+s = module m(input clk,input a,output reg q);always@(posedge clk)\31{if(a)\}q<=!(!a);endmodule
+14 verilog L3 byte 0
+s = module m(input clk,input a,output reg q);always@(posedge clk)\32{if(a)\}q<=a;endmodule
+14 verilog L3 byte 0
+# the reader's own refusals come first, then the rules, then loops
+s = module m(input a,output y);assign y=b\65{^a\};endmodule
+14 verilog N1 b
+s = module m(output y);assign y=y\65{^y\};endmodule
+14 verilog N7 y
+s = module m(input a,output y);assign y=a\257{^a\};endmodule
+14 verilog L3 byte 549
+s = module m(output y);endmodule
+14 verilog N9 y
+s =
+14 verilog L2
+
 # REFUSED
 > show
 2 usage
@@ -62,6 +98,8 @@ m = {del}
 5 fault F1 line 1 byte 0
 > show chip m
 15 chip C1 line 1 byte 0
+> show module m
+14 verilog L1 byte 0
 ";
 
 #[test]
