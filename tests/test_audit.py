@@ -8,16 +8,18 @@ import unittest
 from typing import Any
 from unittest import mock
 
-from vidlakost_tools import audit_pins, clock_tree, fail_search, lanes, model_checker, splits, yosys
+from vidlakost_tools import audit_pins, clock_tree, fail_search, lanes, model_checker, replayed, splits, yosys
 from vidlakost_tools.audit_pins import Pin, Pins
 from vidlakost_tools.audit_random import agree
 from vidlakost_tools.audit_wave import code_of, shown, write_save
 from vidlakost_tools.cuts import least_cut
 from vidlakost_tools.front_end import Plain
 from vidlakost_tools.gates import Machine
+from vidlakost_tools.memory import parse_memory
+from vidlakost_tools.replayed import Case, Test
 from vidlakost_tools.tool import ToolError
 from vidlakost_tools.vhdl import literal_of, placed, with_defaults
-from vidlakost_tools.words import NotWords, Writer
+from vidlakost_tools.words import Drive, NotWords, Writer
 from vidlakost_tools.yosys import blanked
 
 
@@ -255,6 +257,57 @@ class Splits(unittest.TestCase):
     def test_lowest_and_highest_wrong_bit(self) -> None:
         self.assertEqual([lanes.Side.LOWEST.lanes(bit, 3) for bit in range(3)], [0b110, 0b100, 0])
         self.assertEqual([lanes.Side.HIGHEST.lanes(bit, 3) for bit in range(3)], [0, 0b001, 0b011])
+
+
+def remembers() -> Plain:
+    """A module whose `fail` is what it remembers of bit 0 on `rdata`, but for what nothing drives."""
+    others = ("en", "we", "addr", "wdata", "done")
+    ports = [("input", "clk", 1), ("input", "reset", 1), ("input", "rdata", 2), *(("output", port, 1) for port in (*others, "fail"))]
+    outputs = [*(Drive(port, 1, "1'b0", [[]]) for port in others), Drive("fail", 1, "(bad ^ lost)", [["bad", "lost"]])]
+    bad = Drive("bad", 1, "(rdata[0] & (~reset))", [["rdata", "reset"]])
+    return Plain("m", ports, [], outputs, [bad], ["lost"], {}, "clk")
+
+
+class Replays(unittest.TestCase):
+    def test_signals_that_are_asked_for(self) -> None:
+        self.assertEqual(replayed.signals_of(remembers()), ["dut.bad", "dut.lost"])
+
+    def test_case_is_clocked(self) -> None:
+        # in the reset what was on rdata is not remembered, and of cycle 1 it is
+        for cycle, bad, lost, fail in ((0, 1, [0, 0, 0], 1), (1, 1, [0, 0, 0], 0), (2, 0, [0, 0, 0], 1), (2, 0, [0, 0, 1], 0)):
+            case = Case(cycle, [1, 3, 0], {0}, {"dut.bad": [bad], "dut.lost": lost})
+            self.assertEqual(replayed.ports_at(remembers(), case)["fail"], fail, (cycle, bad, lost))
+
+    def test_what_nothing_drives_is_open(self) -> None:
+        self.assertIsNone(replayed.ports_at(remembers(), Case(1, [0, 0], {0}, {"dut.bad": [0]}))["fail"])
+
+    def test_what_is_due_in_a_case(self) -> None:
+        memory = parse_memory("memory 1\nname m\nwords 2\nbits 1\n")
+        # two words are written and read, and the second answer is compared in cycle 5
+        test = Test(memory, [None, (True, 0, 0), (True, 1, 0), (False, 0, 0), (False, 1, 0), *[None] * 5], 6)
+        self.assertEqual(test.due(Case(2, [0] * 3)), [("en", 1), ("we", 1), ("addr", 1), ("wdata", 0), ("done", 0), ("fail", 0)])
+        self.assertEqual(test.due(Case(4, [0, 1, 1, 1, 1])), [("en", 1), ("we", 0), ("addr", 1), ("done", 0), ("fail", 0)])
+        self.assertEqual(test.due(Case(5, [0, 0, 0, 0, 1, 0])), [("en", 0), ("done", 0), ("fail", 1)])
+        self.assertEqual(test.due(Case(6, [0, 0, 0, 0, 0, 1])), [("en", 0), ("done", 1), ("fail", 1)])
+        # a reset begins the test anew
+        self.assertEqual(test.due(Case(7, [0, 0, 0, 0, 1, 1, 0, 0], {0, 6})), [("en", 1), ("we", 1), ("addr", 0), ("wdata", 0), ("done", 0), ("fail", 0)])
+
+    def test_case_that_does_not_come_out_is_no_finding(self) -> None:
+        plan, lost = lanes.Plan({1: 0}, 4, 2), lanes.Found("unknown", 2, 1, "open", 1, 0)
+        for word, said in ((1, False), (2, True)):
+            # fail is said to be 0 in cycle 2 behind this word; so it is behind the second alone
+            case = Case(2, [0, word, 0], {0}, {"dut.bad": [0, 0, word], "dut.lost": [0, 0, 0]})
+            with mock.patch.object(model_checker, "differs_within", return_value=case):
+                checked = model_checker.fail_of(remembers(), plan, 9, 9)
+            assert checked is not None
+            self.assertEqual((checked.found.got, checked.is_replayed), ("0", said))
+            machine = Toggles().machine
+            with mock.patch.object(lanes, "look_at", return_value=lost), mock.patch.object(splits, "look_at", return_value=None), \
+                    mock.patch.object(fail_search, "is_undriven", return_value=False), \
+                    mock.patch.object(model_checker, "fail_of", return_value=checked):
+                told = fail_search.look_at(machine, plan, remembers(), lanes.Clock(60))
+            self.assertEqual(told.found.kind, "differs" if said else "unknown")
+            self.assertEqual("so it is no finding" in told.how, not said)
 
 
 class Texts(unittest.TestCase):

@@ -21,6 +21,8 @@ from vidlakost_tools.vhdl import is_vhdl
 from vidlakost_tools.yosys import blanked, with_included, with_members
 
 CYCLES = 2000
+# in the first half of them the registers have other numbers after so many
+LENGTH = 20
 SECONDS = 120
 # a signal in a hierarchy, as a simulator names it too
 SIGNAL = re.compile(r"[A-Za-z_][\w$]*(\[\d+\])?(\.[A-Za-z_][\w$]*(\[\d+\])?)*")
@@ -40,7 +42,8 @@ BENCH = """module vidlakost_beside;
 
   task compare(input [63:0] one, input [63:0] other, input [63:0] port);
     integer at;
-    for (at = 0; at < 64; at = at + 1)
+    // words that are the same have no bit that differs
+    if (one !== other) for (at = 0; at < 64; at = at + 1)
       if (other[at] !== 1'bx && other[at] !== 1'bz && one[at] !== other[at]) begin
         if (one[at] !== 1'bx) begin
           $display("differs %0s %0d %b %b", port, cycle, one[at], other[at]);
@@ -49,12 +52,22 @@ BENCH = """module vidlakost_beside;
       end
   endtask
 
-  initial begin
+  // random registers, the same on both sides
+  task start;
+    begin
+    reset = 0;
+    #1;
 {registers}
     #1;
 {same}
     #1;
+    end
+  endtask
+
+  initial begin
+    start;
     for (cycle = 0; cycle < {cycles}; cycle = cycle + 1) begin
+      if (cycle > 0 && cycle < {starts} && cycle % {length} == 0) start;
       reset = cycle == 0 || $urandom % 97 == 0;
       rdata = $urandom % 12 == 0 ? {{$urandom, $urandom}} : answers[{latency}];
       #4;
@@ -109,9 +122,9 @@ class Beside:
                 found[-1:] = [*([f"  wire {ranged(width)}low_{port};"] if port in lows else []), found[-1]]
         return found
 
-    def same(self) -> list[str]:
-        """The registers of the sources as those of the made module are. A signal of which some bits are no registers is set
-        where no other has its bits."""
+    def same(self) -> dict[str, set[str]]:
+        """The lines by which the registers of the sources become as those of the made module are, with the bits of these. A signal
+        of which some bits are no registers is set where no other has its bits, and is said to have none."""
         bits: dict[str, dict[int, str]] = {}
         for register in self.plain.registers:
             for index, origin in enumerate(self.plain.origins.get(register.name, [])):
@@ -120,16 +133,22 @@ class Beside:
                     bits.setdefault(name, {})[at] = made
         whole = [name for name in bits if len(bits[name]) == self.plain.widths[name]]
         done = {made for name in whole for made in bits[name].values()}
-        found = []
+        found = {}
         for name in filter(SIGNAL.fullmatch, bits):
             if name not in whole and done >= set(bits[name].values()):
                 continue
             value = ", ".join(bits[name].get(at, "1'b0") for at in reversed(range(self.plain.widths[name])))
             # a word of a memory is no target of $deposit
-            found.append(f"    dut.{name} = {{{value}}};" if name.endswith("]") else f"    $deposit(dut.{name}, {{{value}}});")
+            line = f"    dut.{name} = {{{value}}};" if name.endswith("]") else f"    $deposit(dut.{name}, {{{value}}});"
+            found[line] = set(bits[name].values()) if name in whole else set()
         return found
 
-    def bench(self, same: list[str]) -> str:
+    def is_whole(self, same: dict[str, set[str]]) -> bool:
+        """Whether these lines set each register, so that they may be set at any time."""
+        bits = {f"made.{one.name}[{index}]" if one.width > 1 else f"made.{one.name}" for one in self.plain.registers for index in range(one.width)}
+        return bits <= set().union(*same.values())
+
+    def bench(self, same: dict[str, set[str]]) -> str:
         outputs = [port for way, port, _ in self.plain.ports if way == "output"]
         return BENCH.format(
             word=ranged(self.memory.bits),
@@ -142,6 +161,8 @@ class Beside:
             registers="\n".join(f"    made.{one.name} = {{$urandom, $urandom}};" for one in self.plain.registers),
             same="\n".join(same),
             cycles=CYCLES,
+            starts=CYCLES // 2 if self.is_whole(same) else 0,
+            length=LENGTH,
             compares="\n".join(f'      compare(dut_{port}, made_{port}, "{port}");' for port in outputs),
         )
 
@@ -205,7 +226,7 @@ def beside(asked: Beside) -> str:
             unknown = {line for number, line in enumerate(text.split("\n"), 1) if number in lines} & set(same)
             if status == 0 or not unknown:
                 break
-            same = [line for line in same if line not in unknown]
+            same = {line: bits for line, bits in same.items() if line not in unknown}
         if status:
             raise ToolError(f"Icarus refuses the sources: {(said.splitlines() or ['no reason is given'])[0]}", 1)
         _, said = call(["vvp", "-n", str(folder / "run")], folder)

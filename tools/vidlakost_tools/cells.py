@@ -38,8 +38,30 @@ def is_refused(kind: str) -> bool:
     return any(re.match(pattern, kind) for pattern, _ in REFUSED)
 
 
+def live_cells(module: dict[str, Any]) -> set[str]:
+    """The cells on which an output, a memory or a part of another kind hangs, by way of any pin that goes out."""
+    cells = module["cells"]
+    drivers: dict[object, str] = {}
+    found = set()
+    for name, cell in cells.items():
+        ways = cell.get("port_directions", {})
+        drivers.update((bit, name) for pin, bits in cell["connections"].items() if ways.get(pin) == "output" for bit in bits)
+        if cell["type"].startswith("$mem") or not set(cell["connections"]) <= set(ways) or "output" not in ways.values():
+            found.add(name)
+    todo = [bit for said in module["ports"].values() if said["direction"] != "input" for bit in said["bits"]]
+    todo += [bit for name in found for bits in cells[name]["connections"].values() for bit in bits]
+    while todo:
+        driver = drivers.get(todo.pop())
+        if driver is not None and driver not in found:
+            found.add(driver)
+            todo += [bit for bits in cells[driver]["connections"].values() for bit in bits]
+    return found
+
+
 def refuse_cells(module: dict[str, Any], taken: set[str]) -> None:
-    """Refuses what later passes would make something else of, as a flip-flop of a latch; not those that are taken."""
+    """Refuses what later passes would make something else of, as a flip-flop of a latch; not those that are taken, nor those on
+    which nothing hangs, as the latch of a loop's variable."""
+    taken = taken | set(module["cells"]) - live_cells(module)
     for name, cell in module["cells"].items():
         if name in taken:
             continue

@@ -10,7 +10,7 @@ from typing import Any
 
 from vidlakost_tools import yosys
 from vidlakost_tools.audit_pins import Pins
-from vidlakost_tools.cells import is_refused, place_of, refuse_cells
+from vidlakost_tools.cells import is_refused, live_cells, place_of, refuse_cells
 from vidlakost_tools.tool import ToolError
 
 INVERTERS = ("$not", "$logic_not", "$_NOT_")
@@ -220,7 +220,7 @@ def clock_of(tree: Tree, registers: dict[str, Edge], pins: Pins | None) -> str |
 
 def refuse_read(tree: Tree, holders: set[str]) -> None:
     """What holds the enable of a clock may gate that clock and nothing else."""
-    live = live_cells(tree)
+    live = live_cells(tree.module)
     held = {bit: holder for holder in holders for bit in tree.pin(tree.cells[holder], "Q")}
     for name in live:
         for pin, bits in tree.cells[name]["connections"].items():
@@ -231,19 +231,6 @@ def refuse_read(tree: Tree, holders: set[str]) -> None:
     for said in tree.module["ports"].values():
         if said["direction"] == "output" and set(said["bits"]) & set(held):
             raise ToolError("a latch of a clock gate is an output of the module", 1)
-
-
-def live_cells(tree: Tree) -> set[str]:
-    """The cells on which an output or a memory hangs."""
-    todo = [bit for said in tree.module["ports"].values() if said["direction"] == "output" for bit in said["bits"]]
-    found = {name for name, cell in tree.cells.items() if cell["type"].startswith("$mem")}
-    todo += [bit for name in found for bits in tree.cells[name]["connections"].values() for bit in bits]
-    while todo:
-        name = tree.drivers.get(todo.pop())
-        if name is not None and name not in found:
-            found.add(name)
-            todo += [bit for bits in tree.cells[name]["connections"].values() for bit in bits]
-    return found
 
 
 def rewrite(tree: Tree, registers: dict[str, Edge], holders: set[str]) -> None:

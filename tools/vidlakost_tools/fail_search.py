@@ -22,6 +22,8 @@ class Told:
     plan: Plan
     how: str = ""
     history: str = ""
+    # whether the model checker had too little time or memory
+    is_bounded: bool = False
 
 
 def look_at(machine: Machine, plan: Plan, plain: Plain, clock: Clock) -> Told:
@@ -40,9 +42,12 @@ def look_at(machine: Machine, plan: Plan, plain: Plain, clock: Clock) -> Told:
     checked = model_checker.fail_of(plain, plan, len(machine.order) + len(machine.registers), clock.left())
     if checked is None:
         why = "splitting is too much, and so it is for Yosys' model checker in the time that is left"
-        return Told(found, plan, f"{lost}; {why}")
-    words = [f"{word:0{plan.bits}b}" for word in checked[1]]
-    return Told(checked[0], plan, f"{lost}, and Yosys' model checker does", told_words(plan, checked[0], words) if words else "")
+        return Told(found, plan, f"{lost}; {why}", is_bounded=True)
+    if not checked.is_replayed:
+        why = "and that doesn't come out where the module is clocked by itself from there, so it is no finding"
+        return Told(found, plan, f"{lost}; Yosys' model checker says that {checked.found.line()}, {why}")
+    words = [f"{word:0{plan.bits}b}" for word in checked.words]
+    return Told(checked.found, plan, f"{lost}, and Yosys' model checker does", told_words(plan, checked.found, words) if words else "")
 
 
 def is_undriven(machine: Machine, plan: Plan, plain: Plain, found: Found) -> bool:

@@ -6,32 +6,32 @@ import dataclasses
 import pathlib
 import re
 import tempfile
+from typing import Sequence
 
-from vidlakost_tools import yosys
+from vidlakost_tools import replayed, yosys
 from vidlakost_tools.front_end import Plain
 from vidlakost_tools.lanes import Found, Plan
+from vidlakost_tools.replayed import Case
 from vidlakost_tools.verilog import ranged
 
 # cycles times gates, beyond which there may be no memory for the question
 LARGEST = 1_500_000
 BEHIND = 3
+# a row of a case: its cycle from 1 on, the signal, its number twice, and its bits. The number is negative from 2 ** 31 on, and
+# none where there are more bits
+ROW = re.compile(r"^\s*(\d+)\s+\\(\S+)\s+\S+\s+\S+\s+([01]+)\s*$", re.MULTILINE)
 
 
-@dataclasses.dataclass
-class Difference:
-    """A cycle in which `ok` is not 1, and the words on `rdata` to it that make it so."""
-
-    cycle: int
-    words: list[int]
-
-
-def differs_within(steps: int, begin: str, folder: pathlib.Path, seconds: float | None = None) -> Difference | None:
-    """A cycle among the first so many in which a module differs; None where there is none. `begin` is the script that reads
-    it. What the passes leave undriven, or make an `x` of, `sat` would take for 0, so it is opened before it."""
+def differs_within(
+    steps: int, begin: str, folder: pathlib.Path, seconds: float | None = None, more: Sequence[str] = ()
+) -> Case | None:
+    """A cycle among the first so many in which a module differs, with the numbers of some more signals of it; None where there is
+    none. `begin` is the script that reads it. What the passes leave undriven, or make an `x` of, `sat` would take for 0, so it
+    is opened before it."""
     said = yosys.run(
         f"{begin}read_verilog -sv {yosys.quoted(folder / 'judge.v')}\nhierarchy -check -top judge\nproc\nflatten\n"
         f"check -assert\n{yosys.OPEN}memory_map\n{yosys.OPEN}async2sync\nsetattr -unset init w:*\nopt -keepdc -fine\n{yosys.OPEN}"
-        f"sat -seq {steps} -set-at 1 step 0 -prove ok 1 -show cycle,ok,rdata,again\n",
+        f"sat -seq {steps} -set-at 1 step 0 -prove ok 1 -show {','.join(['cycle', 'ok', 'rdata', 'again', *more])}\n",
         folder,
         "-Q",
         "-T",
@@ -40,11 +40,13 @@ def differs_within(steps: int, begin: str, folder: pathlib.Path, seconds: float 
     text = "\n".join(said)
     if "SAT proof finished - no model found: SUCCESS!" in text:
         return None
-    # the last column has the bits; the number before it is negative from 2 ** 31 on, and none where there are more bits
-    row = r"^\s*(\d+)\s+\\{}\s+\S+\s+\S+\s+([01]+)\s*$"
-    shown = {name: dict(re.findall(row.format(name), text, re.MULTILINE)) for name in ("ok", "rdata")}
-    cycle = next((int(step) - 1 for step, ok in shown["ok"].items() if ok == "0"), steps - 1)
-    return Difference(cycle, [int(shown["rdata"].get(str(step), "0"), 2) for step in range(1, cycle + 2)])
+    shown: dict[str, dict[int, int]] = {}
+    for step, name, bits in ROW.findall(text):
+        shown.setdefault(name, {})[int(step) - 1] = int(bits, 2)
+    cycle = next((step for step, ok in sorted(shown.get("ok", {}).items()) if not ok), steps - 1)
+    numbers = {name: [found.get(step, 0) for step in range(cycle + 1)] for name, found in shown.items()}
+    resets = {step for step, again in enumerate(numbers.get("again", [])) if again} | {0}
+    return Case(cycle, numbers.get("rdata", [0] * (cycle + 1)), resets, {name: numbers[name] for name in more if name in numbers})
 
 
 JUDGE = """module judge(input clk, input {word}rdata, output ok, output [31:0] cycle, output again);
@@ -86,9 +88,18 @@ def judge_of(module: str, plan: Plan) -> str:
     )
 
 
-def fail_of(plain: Plain, plan: Plan, gates: int, seconds: float) -> tuple[Found, list[int]] | None:
-    """What Yosys' model checker finds of `fail` to some cycles behind the end, with the words of a history in which it is wrong;
-    None where that is too much for it."""
+@dataclasses.dataclass
+class Checked:
+    """What was found of `fail`, with the words of a history in which it is wrong; and whether it is so where the module is clocked
+    by itself from there."""
+
+    found: Found
+    words: list[int] = dataclasses.field(default_factory=list)
+    is_replayed: bool = True
+
+
+def fail_of(plain: Plain, plan: Plan, gates: int, seconds: float) -> Checked | None:
+    """What Yosys' model checker finds of `fail` to some cycles behind the end; None where that is too much for it."""
     steps = plan.cycles + BEHIND + plan.late
     if gates * steps > LARGEST or seconds < 1:
         return None
@@ -99,15 +110,16 @@ def fail_of(plain: Plain, plan: Plan, gates: int, seconds: float) -> tuple[Found
         (folder / "judge.v").write_text(judge_of(module.name, plan), encoding="utf-8")
         begin = f"read_verilog {yosys.quoted(folder / 'plain.v')}\nproc -noopt -norom\n{yosys.OPEN}"
         try:
-            found = differs_within(steps, begin, folder, seconds)
+            found = differs_within(steps, begin, folder, seconds, replayed.signals_of(plain))
         except yosys.Slow:
             return None
     if found is None:
-        return Found("exact", steps - 1, lanes=len(plan.answers) * plan.bits), []
-    return wrong_at(plan, found), found.words
+        return Checked(Found("exact", steps - 1, lanes=len(plan.answers) * plan.bits))
+    told = wrong_at(plan, found)
+    return Checked(told, found.words, replayed.ports_at(plain, found)["fail"] == int(told.got))
 
 
-def wrong_at(plan: Plan, found: Difference) -> Found:
+def wrong_at(plan: Plan, found: Case) -> Found:
     """The finding of a history by its words."""
     wrong = next((cycle for cycle, word in plan.answers.items() if cycle < len(found.words) and found.words[cycle] != word), None)
     is_due = wrong is not None and found.cycle > wrong + plan.late

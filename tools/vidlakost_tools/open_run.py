@@ -5,7 +5,8 @@ alone. It takes modules that the program accepts; a number that is left open is 
 from __future__ import annotations
 
 import dataclasses
-from typing import Callable, Dict, Iterator, List, Mapping, Optional, Tuple
+import itertools
+from typing import Callable, Dict, Iterable, Iterator, List, Mapping, Optional, Tuple
 
 from vidlakost_tools.march import Element, elements_of
 from vidlakost_tools.memory import Memory, parse_memory
@@ -242,20 +243,24 @@ def order_of(module: Run) -> list[str]:
     return list(order)
 
 
-def cycles_of(module: Run) -> Iterator[Dict[str, Optional[int]]]:
-    """Of each cycle the numbers of all names, `reset` being 1 in the first alone."""
+def clocked(module: Run, first: Numbers, inputs: Iterable[Numbers]) -> Iterator[Dict[str, Optional[int]]]:
+    """Of each cycle the numbers of all names, from what the registers hold at first, with what comes in in each cycle."""
     order = order_of(module)
-    registers: Dict[str, Optional[int]] = {name: None for name in module.registers}
-    reset = 1
-    while True:
-        env: Dict[str, Optional[int]] = {**{name: None for name in module.inputs}, **registers, "reset": reset}
+    registers: Dict[str, Optional[int]] = dict(first)
+    for given in inputs:
+        env: Dict[str, Optional[int]] = {**{name: None for name in module.inputs}, **registers, **given}
         for name in order:
             env[name] = module.assigns[name].of(env)
         yield env
         registers = {name: env[name] for name in registers}
         for sets in module.blocks:
             registers.update(sets(env))
-        reset = 0
+
+
+def cycles_of(module: Run) -> Iterator[Dict[str, Optional[int]]]:
+    """Of each cycle the numbers of all names, `reset` being 1 in the first alone, and all else that comes in open."""
+    first: Numbers = {name: None for name in module.registers}
+    return clocked(module, first, itertools.chain([{"reset": 1}], itertools.repeat({"reset": 0})))
 
 
 # ---- what the ports have to be
