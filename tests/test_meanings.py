@@ -8,8 +8,11 @@ import unittest
 from typing import Any
 from unittest import mock
 
-from vidlakost_tools import known_cells, members, simulation, two_meanings, yosys
+from vidlakost_tools import beside_icarus, known_cells, members, simulation, two_meanings, unread, yosys
+from vidlakost_tools.front_end import Plain
+from vidlakost_tools.memory import parse_memory
 from vidlakost_tools.tool import ToolError
+from vidlakost_tools.words import Drive
 
 CASE = """module \\m
   wire \\a
@@ -257,5 +260,57 @@ class Simulation(unittest.TestCase):
             simulation.warnings_of("m.v", f"module {text}", f"module {text}")
 
 
-if __name__ == "__main__":
-    unittest.main()
+def two_bits(**origins: list[list[tuple[str, int]]]) -> beside_icarus.Beside:
+    """A module with a register of two bits, which are these signals of the sources, and one of two bits that is none."""
+    memory = parse_memory("memory 1\nname m\nwords 2\nbits 1\n")
+    held = Drive("held", 2, "held", [["held"]])
+    plain = Plain("m", [], [], [], [held], [], {}, "clk", origins=origins, widths={"q": 2, "low": 1, "wide": 3})
+    return beside_icarus.Beside([], plain, None, memory)
+
+
+class Unread(unittest.TestCase):
+    def test_form_on_the_line_of_an_error(self) -> None:
+        source = "module m;\n  function f(input x); return x; endfunction\n  wire y = a inside {1, 2};\nendmodule\n"
+        said = unread.reason([("there/m.sv", source)], "yosys refuses it: there/m.sv:3: ERROR: syntax error")
+        self.assertEqual(said, "'there/m.sv':3: Yosys doesn't read `inside`; comparisons with == say the same")
+        # of an error without a line the first form is told, and of a source without one nothing
+        self.assertIn("'there/m.sv':2: Yosys doesn't read `return`", str(unread.reason([("there/m.sv", source)], "m.sv:0: ERROR: x")))
+        self.assertIsNone(unread.reason([("m.sv", "module m; endmodule\n")], "m.sv:1: ERROR: x"))
+
+    def test_names_that_only_look_so(self) -> None:
+        for text in ("count c(.first(first), .last(l));", "logic [1:0] m [0:3];", "struct packed { logic a; } s;", "assign y = 4'(x);", "x = (a == b) ? c : d;"):
+            self.assertEqual(list(unread.reasons(text)), [], text)
+        for text in ("s = s.next();", "logic [1:0][0:3] m;", "struct { logic a; } s;", "assign y = int'(x);", "x = a ==? b;", "assign (weak1, weak0) f = b;"):
+            self.assertEqual(len(list(unread.reasons(text))), 1, text)
+
+    def test_latch_of_a_combinational_block(self) -> None:
+        error = "yosys refuses it: ERROR: Latch inferred for signal `\\m.\\flip' from always_comb process `\\m.$proc$/a/m.sv:0$19'."
+        self.assertEqual(str(unread.latch(error))[:49], "flip (m.sv): an always_comb doesn't set it in eve")
+        self.assertIsNone(unread.latch("yosys refuses it: ERROR: other"))
+
+
+class BesideIcarus(unittest.TestCase):
+    def test_registers_are_set_as_the_made_ones_are(self) -> None:
+        whole = two_bits(held=[[("q", 0)], [("q", 1)]])
+        same = {"    $deposit(dut.q, {made.held[1], made.held[0]});": {"made.held[0]", "made.held[1]"}}
+        self.assertEqual((whole.same(), whole.is_whole(same)), (same, True))
+        self.assertIn("cycle < 1000 && cycle % 20 == 0", whole.bench(same))
+
+    def test_registers_that_are_not_known_begin_once(self) -> None:
+        part = two_bits(held=[[("low", 0)], []])
+        self.assertFalse(part.is_whole(part.same()))
+        self.assertIn("cycle < 0 &&", part.bench(part.same()))
+        # a signal some bits of which are no registers is set, and doesn't count
+        wide = two_bits(held=[[("wide", 0)], [("wide", 2)]])
+        self.assertEqual(wide.same(), {"    $deposit(dut.wide, {made.held[1], 1'b0, made.held[0]});": set()})
+        self.assertFalse(wide.is_whole(wide.same()))
+
+    def test_names_behind_a_backslash(self) -> None:
+        for line, other in (
+            ("    dut.q[1] = {made.held[1]};", "    $deposit(dut.\\q[1] , {made.held[1]});"),
+            ("    $deposit(judge.dut.part.q, {n_held[1]});", "    $deposit(judge.dut.\\part.q , {n_held[1]});"),
+        ):
+            self.assertEqual(beside_icarus.escaped(line), other)
+            self.assertIsNone(beside_icarus.escaped(other))
+            self.assertEqual(beside_icarus.known({line: {"a"}, "b": {"c"}}, {line}), {other: {"a"}, "b": {"c"}})
+            self.assertEqual(beside_icarus.known({other: {"a"}}, {other}), {})

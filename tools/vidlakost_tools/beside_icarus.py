@@ -9,6 +9,7 @@ import re
 import shutil
 import subprocess
 import tempfile
+from typing import Callable
 
 from vidlakost_tools import confined
 from vidlakost_tools.audit_pins import INPUTS, Pins
@@ -65,6 +66,9 @@ BENCH = """module vidlakost_beside;
   endtask
 
   initial begin
+    // no x comes in
+    for (late = 0; late <= {last}; late = late + 1) kept[late] = {{$urandom, $urandom}};
+    for (late = 0; late <= {latency}; late = late + 1) answers[late] = {{$urandom, $urandom}};
     start;
     for (cycle = 0; cycle < {cycles}; cycle = cycle + 1) begin
       if (cycle > 0 && cycle < {starts} && cycle % {length} == 0) start;
@@ -74,6 +78,7 @@ BENCH = """module vidlakost_beside;
 {compares}
       for (late = {latency}; late > 0; late = late - 1) answers[late] = answers[late - 1];
       answers[1] = made_en === 1 && made_we === 0 ? kept[made_addr] : {{$urandom, $urandom}};
+      if (^answers[1] === 1'bx) answers[1] = {{$urandom, $urandom}};
       if (made_en === 1 && made_we === 1) kept[made_addr] = made_wdata;
       clk = 1;
       if (cycle % 100 == 99) begin
@@ -102,6 +107,10 @@ class Beside:
     memory: Memory
     cells: str = ""
 
+    def known(self) -> str:
+        """The models of known cells. Icarus reads no number that a port has where nothing is connected; x it is then."""
+        return re.sub(r"(\binput \w+) = 1'b[01]", r"\1", self.cells)
+
     def dut_pins(self) -> str:
         """The pins of the sources' top."""
         if self.pins is None:
@@ -122,13 +131,13 @@ class Beside:
                 found[-1:] = [*([f"  wire {ranged(width)}low_{port};"] if port in lows else []), found[-1]]
         return found
 
-    def same(self) -> dict[str, set[str]]:
+    def same(self, dut: str = "dut.", made_in: str = "made.") -> dict[str, set[str]]:
         """The lines by which the registers of the sources become as those of the made module are, with the bits of these. A signal
         of which some bits are no registers is set where no other has its bits, and is said to have none."""
         bits: dict[str, dict[int, str]] = {}
         for register in self.plain.registers:
             for index, origin in enumerate(self.plain.origins.get(register.name, [])):
-                made = f"made.{register.name}[{index}]" if register.width > 1 else f"made.{register.name}"
+                made = f"{made_in}{register.name}[{index}]" if register.width > 1 else f"{made_in}{register.name}"
                 for name, at in origin:
                     bits.setdefault(name, {})[at] = made
         whole = [name for name in bits if len(bits[name]) == self.plain.widths[name]]
@@ -139,7 +148,7 @@ class Beside:
                 continue
             value = ", ".join(bits[name].get(at, "1'b0") for at in reversed(range(self.plain.widths[name])))
             # a word of a memory is no target of $deposit
-            line = f"    dut.{name} = {{{value}}};" if name.endswith("]") else f"    $deposit(dut.{name}, {{{value}}});"
+            line = f"    {dut}{name} = {{{value}}};" if name.endswith("]") else f"    $deposit({dut}{name}, {{{value}}});"
             found[line] = set(bits[name].values()) if name in whole else set()
         return found
 
@@ -205,30 +214,50 @@ def call(words: list[str], folder: pathlib.Path) -> tuple[int, str]:
     return done.returncode, re.sub(rf"{re.escape(str(folder))}/(?:given\d+/)?", "", said)
 
 
+# a line that sets a signal of the sources, by $deposit or without
+SETS = re.compile(r"    (?:\$deposit\()?(?P<dut>[a-z.]*\bdut\.)(?P<name>[\w$.\[\]]+)(?: =|,) (?P<value>\{.*\})\)?;")
+
+
+def escaped(line: str) -> str | None:
+    """The line that sets a signal of the same name behind a backslash, as netlists have them; None where it is one."""
+    match = SETS.fullmatch(line)
+    return f"    $deposit({match['dut']}\\{match['name']} , {match['value']});" if match else None
+
+
+def known(same: dict[str, set[str]], unknown: set[str]) -> dict[str, set[str]]:
+    """The lines without those that name what Icarus doesn't know, which are tried once more with a backslash."""
+    lines = {line: escaped(line) if line in unknown else line for line in same}
+    return {told: same[line] for line, told in lines.items() if told is not None}
+
+
+def compiled(words: list[str], folder: pathlib.Path, bench: Callable[[dict[str, set[str]]], str], same: dict[str, set[str]]) -> None:
+    """Compiles a bench whose lines set the registers of the sources, but for those that Icarus doesn't know."""
+    for _ in range(20):
+        text = bench(same)
+        (folder / "bench.v").write_text(text, encoding="utf-8")
+        status, said = call(words, folder)
+        lines = {int(number) for number in re.findall(r"^bench\.v:(\d+): ", said, re.MULTILINE)}
+        unknown = {line for number, line in enumerate(text.split("\n"), 1) if number in lines} & set(same)
+        if status == 0 or not unknown:
+            break
+        same = known(same, unknown)
+    if status:
+        raise ToolError(f"Icarus refuses the sources: {(said.splitlines() or ['no reason is given'])[0]}", 1)
+
+
 def beside(asked: Beside) -> str:
     """What is found of the sources beside the made module; a port that differs is refused."""
     with tempfile.TemporaryDirectory() as name:
         folder = pathlib.Path(name)
         made = dataclasses.replace(asked.plain, name="vidlakost_made")
         (folder / "made.v").write_text(made.text(), encoding="utf-8")
-        # Icarus reads no number that a port has where nothing is connected; x it is then
-        (folder / "cells.v").write_text(re.sub(r"(\binput \w+) = 1'b[01]", r"\1", asked.cells), encoding="utf-8")
-        same = asked.same()
+        (folder / "cells.v").write_text(asked.known(), encoding="utf-8")
         copies, _ = with_members(asked.files, folder)
         files = [os.path.abspath(file) for file in copies]
         places = [f"-I{place}" for place in dict.fromkeys([os.getcwd(), *(os.path.dirname(os.path.abspath(file)) for file in asked.files)])]
         words = ["iverilog", "-g2012", "-s", "vidlakost_beside", *places, "-o", str(folder / "run")]
-        for _ in range(20):
-            text = asked.bench(same)
-            (folder / "bench.v").write_text(text, encoding="utf-8")
-            status, said = call([*words, *(str(folder / part) for part in ("bench.v", "made.v", "cells.v")), *files], folder)
-            lines = {int(number) for number in re.findall(r"^bench\.v:(\d+): ", said, re.MULTILINE)}
-            unknown = {line for number, line in enumerate(text.split("\n"), 1) if number in lines} & set(same)
-            if status == 0 or not unknown:
-                break
-            same = {line: bits for line, bits in same.items() if line not in unknown}
-        if status:
-            raise ToolError(f"Icarus refuses the sources: {(said.splitlines() or ['no reason is given'])[0]}", 1)
+        words += [str(folder / part) for part in ("bench.v", "made.v", "cells.v")] + files
+        compiled(words, folder, asked.bench, asked.same())
         _, said = call(["vvp", "-n", str(folder / "run")], folder)
     return found_in(said)
 

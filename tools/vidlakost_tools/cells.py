@@ -58,12 +58,25 @@ def live_cells(module: dict[str, Any]) -> set[str]:
     return found
 
 
+def choices_of(module: dict[str, Any], latch: dict[str, Any]) -> set[str]:
+    """The choices by which a latch takes what it takes. Yosys leaves out of them that it keeps what it holds, so that what else
+    reads them reads something else."""
+    drivers = {bit: name for name, cell in module["cells"].items() for bit in cell["connections"].get("Y", [])}
+    todo, found = list(latch["connections"].get("D", [])), set()
+    while todo:
+        name = drivers.get(todo.pop(), "")
+        if name not in found and module["cells"].get(name, {}).get("type") in ("$mux", "$pmux", "$_MUX_"):
+            found.add(name)
+            todo += [bit for pin in "AB" for bit in module["cells"][name]["connections"][pin]]
+    return found
+
+
 def refuse_cells(module: dict[str, Any], taken: set[str]) -> None:
     """Refuses what later passes would make something else of, as a flip-flop of a latch; not those that are taken, nor those on
-    which nothing hangs, as the latch of a loop's variable."""
-    taken = taken | set(module["cells"]) - live_cells(module)
+    which nothing hangs, as the latch of a loop's variable that nothing reads behind the loop."""
+    live = live_cells(module)
     for name, cell in module["cells"].items():
-        if name in taken:
+        if name in taken or name not in live and not choices_of(module, cell) & live:
             continue
         what = next((what for pattern, what in REFUSED if re.match(pattern, cell["type"])), None)
         if what:

@@ -117,7 +117,8 @@ class Search:
             return f"hangs on {name} of cycle {cycle}"
         cell = self.machine.driver.get(bit)
         if cell is None or cell["type"] == "$anyseq":
-            return f"hangs on {self.source(bit)}, which nothing drives"
+            why = "of which more than one holds: any may be taken" if name == OVERLAP else "which nothing drives"
+            return f"hangs on {self.source(bit)}, {why}"
         if self.machine.is_register(cell) and cycle == self.first:
             since = "from the start" if cycle == 0 else f"since cycle {cycle} or longer"
             return f"hangs on {self.source(bit)}, which is open {since}"

@@ -589,7 +589,7 @@ def read(files: list[str], options: Mapping[str, Any], folder: pathlib.Path) -> 
     try:
         said = run(f"{reading}write_rtlil {quoted(raw)}\n", folder, "-q", "-E", str(folder / OPENED))
     except ToolError as error:
-        why = next((why for file, source in with_included(files) for why in unread.reasons(file, blanked(source)[0])), None)
+        why = unread.reason([(file, blanked(source)[0]) for file, source in with_included(files)], str(error))
         if why is None:
             raise
         raise ToolError(f"{why}\n{error}", error.status) from error
@@ -602,7 +602,10 @@ def read(files: list[str], options: Mapping[str, Any], folder: pathlib.Path) -> 
     text, had = without_initial(whole)
     plain.write_bytes(two_meanings.open_rows(text).encode("utf-8", "surrogateescape"))
     begin = f"read_rtlil {quoted(plain)}\nsetattr -mod -unset keep_hierarchy\nproc -noopt -norom\nflatten\n"
-    said += run(f"{begin}write_rtlil {quoted(first)}\nwrite_json {quoted(parts)}\ncheck\n", folder, "-q")
+    try:
+        said += run(f"{begin}write_rtlil {quoted(first)}\nwrite_json {quoted(parts)}\ncheck\n", folder, "-q")
+    except ToolError as error:
+        raise ToolError(unread.latch(str(error)) or str(error), error.status) from error
     name, module = top_module(parts)
     two_meanings.refuse_two_blocks(module)
     if "--top" not in options:
