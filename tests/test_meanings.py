@@ -278,10 +278,14 @@ class Unread(unittest.TestCase):
         self.assertIsNone(unread.reason([("m.sv", "module m; endmodule\n")], "m.sv:1: ERROR: x"))
 
     def test_names_that_only_look_so(self) -> None:
-        for text in ("count c(.first(first), .last(l));", "logic [1:0] m [0:3];", "struct packed { logic a; } s;", "assign y = 4'(x);", "x = (a == b) ? c : d;"):
+        for text in ("count c(.first(first), .last(l));", "logic [1:0] m [0:3];", "struct packed { logic a; } s;", "assign y = 4'(x);", "x = (a == b) ? c : d;", "xor x (a[0], b);"):
             self.assertEqual(list(unread.reasons(text)), [], text)
-        for text in ("s = s.next();", "logic [1:0][0:3] m;", "struct { logic a; } s;", "assign y = int'(x);", "x = a ==? b;", "assign (weak1, weak0) f = b;"):
+        for text in ("s = s.next();", "logic [1:0][0:3] m;", "struct { logic a; } s;", "assign y = int'(x);", "x = a ==? b;", "assign (weak1, weak0) f = b;", "xor x [1:0] (a, b, c);"):
             self.assertEqual(len(list(unread.reasons(text))), 1, text)
+
+    def test_names_within_a_part(self) -> None:
+        said = ["a/m.sv:25: Warning: Identifier `\\part.bad' is implicitly declared.", "m.sv:9: Warning: Identifier `\\bad' is implicitly declared."]
+        self.assertEqual([one.partition(":2")[0] for one in unread.within_parts(said)], ["part.bad (m.sv"])
 
     def test_latch_of_a_combinational_block(self) -> None:
         error = "yosys refuses it: ERROR: Latch inferred for signal `\\m.\\flip' from always_comb process `\\m.$proc$/a/m.sv:0$19'."

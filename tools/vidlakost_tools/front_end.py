@@ -104,8 +104,6 @@ def sources_of(files: list[str], options: dict[str, Any], folder: pathlib.Path) 
         return yosys.read(files, options, folder)
     except ToolError as error:
         missing = re.search(r"Module `\\(\S+)' referenced in module `\\(\S+)'", str(error))
-        if "not empty: $*" in str(error):
-            raise ToolError("a module has a name that begins with $, as Yosys' own cells have, and would take their place", 1) from error
         twice = re.search(r"Re-definition of (?:cell/)?module [`]?\\?([^'!]+)", str(error))
         if missing:
             cells = ", and no cell with a function for each output in the libraries" if "--liberty" in options else ""

@@ -183,6 +183,7 @@ FILES: Dict[str, str] = {
     "member_written.v": with_member("i").replace("kept.expected <= state", "for (i = 0; i < 2; i = i + 1) kept.expected[i] <= state"),
     "ram_cell.v": RAM_CELL,
     "nothing.v": "module m(input clk);\nendmodule\n",
+    "dollar.v": "module \\$paramod$x\\part (input a, output y);\n  assign y = a;\nendmodule\n",
     "unclosed.v": "module m(input clk);" + "(*a" * 8000 + "\n",
 }
 
@@ -199,7 +200,7 @@ def clocked(name: str, status: int, out: str, error: str) -> Tuple[str, List[str
 CALLS: List[Tuple[str, List[str], int, str, str]] = [
     audited("rows_apart.v", 0, EXACT, ""),
     audited("rows_of_one_word.v", 0, EXACT, ""),
-    audited("rows_meet.v", 1, "  wdata hangs on rows_that_overlap (rows_meet.v:45)", ""),
+    audited("rows_meet.v", 1, "  wdata hangs on rows_that_overlap (rows_meet.v:45), of which more than one holds, and any may be taken", ""),
     audited("comment_apart.v", 0, EXACT, "audit: Warning: Encountered `"),
     audited("comment_meet.v", 1, "  wdata hangs on rows_that_overlap (comment_meet.v:45)", "audit: Warning: Encountered `"),
     audited("priority_rows.v", 0, EXACT, ""),
@@ -220,7 +221,8 @@ CALLS: List[Tuple[str, List[str], int, str, str]] = [
     audited("kept_twice.v", 1, "audit: refused", "audit: 'kept' (kept_twice.v:41 and kept_twice.v:42): two blocks write"),
     audited("set_twice.v", 1, "audit: refused", "audit: wrong (set_twice.v:22 and set_twice.v:38): two blocks set it"),
     audited("list_short.v", 0, EXACT, "audit: 'list_short.v':38: the block reads reset, and does not wait for it"),
-    audited("list_whole.v", 0, EXACT, ""),
+    audited("list_short.v", 1, "a simulator may read the sources otherwise", "audit: 'list_short.v':38", "--strict"),
+    audited("list_whole.v", 0, EXACT, "", "--strict"),
     audited("read_early.v", 0, EXACT, "audit: 'read_early.v':22: the block reads now before it sets it"),
     audited("read_late.v", 0, EXACT, ""),
     ("yosys", ["tools/plain", "out.v", "read_early.v"], 0, "", "plain: 'read_early.v':22: the block reads now"),
@@ -271,5 +273,6 @@ CALLS: List[Tuple[str, List[str], int, str, str]] = [
     ("yosys", ["tools/formal", "pinned.v", *TEST, "--pins", "pinned.pins"], 0, "each port is in each cycle", ""),
     ("yosys", ["tools/plain", "out.v", "nothing.v"], 1, "", "plain: no module of the sources has anything in it"),
     audited("nothing.v", 1, "audit: refused", "audit: no module of the sources has anything in it"),
+    ("yosys", ["tools/plain", "out.v", "dollar.v"], 1, "", "plain: 'dollar.v':1: '$paramod$x"),
     ("yosys", ["tools/plain", "out.v", "unclosed.v"], 1, "", "plain: yosys refuses it: unclosed.v:1: ERROR"),
 ]

@@ -30,6 +30,7 @@ FORMS = [
     (r"\b(?:parameter|localparam)\s+type\b", "Yosys doesn't read `{0}`; a typedef says the same"),
     (r"\biff\b", "Yosys doesn't read `{0}`; an `if` within the block says the same"),
     (r"\bassign\s*\(\s*(?:(?:strong|pull|weak)[01]|supply[01]|highz[01])\b", "Yosys reads no strengths; a choice says which driver is taken"),
+    (r"\b(?:x?n?or|n?and|not|buf)\s+(?:\w+\s*)?\[", "Yosys doesn't read an array of gates ({0}); an `assign` of the words says the same"),
     (r"\bprimitive\b", "Yosys doesn't read `{0}`; a module with an `assign` or a block says the same"),
     (r"\b(?:assert|assume|cover)\s+property\s*\(\s*@", "Yosys reads no property of a clock; `ifndef SYNTHESIS round it leaves it to a simulator"),
     (r"\b(?:real|realtime|shortreal|string|event|chandle)\b", "Yosys doesn't read `{0}`, of which no hardware is made"),
@@ -59,3 +60,11 @@ def latch(error: str) -> str | None:
     match = re.search(r"Latch inferred for signal `\\(?:\S*?\.)?\\?([^\s']+)' from always_comb process `\S*\$proc\$(?:\S*/)?([^\s:/]+):", error)
     why = "an always_comb doesn't set it in every branch, and so it would be a latch; give it a default first"
     return f"{match[1]} ({match[2]}): {why}" if match else None
+
+
+def within_parts(said: Iterable[str]) -> Iterator[str]:
+    """What there is to warn of where a name reaches into a part: Yosys takes it for a signal of its own, which nothing drives."""
+    for line in said:
+        match = re.match(r"(?:.*/)?([^\s:/]+:\d+): Warning: Identifier `\\(\S+\.\S+)' is implicitly declared", line)
+        if match:
+            yield f"{match[2]} ({match[1]}): Yosys follows no name into a part, and takes it for open; a port of the part carries it"

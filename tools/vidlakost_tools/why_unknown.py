@@ -13,6 +13,9 @@ from vidlakost_tools.tool import progress
 # so many values are kept at most of a run
 KEPT = 8_000_000
 
+# what there is to do about rows of a case
+OVERLAP = ", of which more than one holds, and any may be taken; without the word that denies it the first is"
+
 
 @dataclasses.dataclass
 class Values:
@@ -117,8 +120,8 @@ class Search:
             return f"hangs on {name} of cycle {cycle}"
         cell = self.machine.driver.get(bit)
         if cell is None or cell["type"] == "$anyseq":
-            why = "of which more than one holds: any may be taken" if name == OVERLAP else "which nothing drives"
-            return f"hangs on {self.source(bit)}, {why}"
+            source = self.source(bit)
+            return f"hangs on {source}{OVERLAP if source.startswith('rows_that_overlap') else ', which nothing drives'}"
         if self.machine.is_register(cell) and cycle == self.first:
             since = "from the start" if cycle == 0 else f"since cycle {cycle} or longer"
             return f"hangs on {self.source(bit)}, which is open {since}"

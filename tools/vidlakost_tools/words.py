@@ -116,7 +116,7 @@ class Writer:
         ports = self.module["ports"]
         for port, said in ports.items():
             if said["direction"] == "inout":
-                raise ToolError(f"the port {port} goes both ways, which the subset has not", 1)
+                raise ToolError(f"the port {port} goes both ways, which the subset has not; an output, or an input, says which way it goes", 1)
         self.used |= set(ports) | (self.pins.names() if self.pins else set())
         if self.pins:
             self.pinned_inputs(self.pins)

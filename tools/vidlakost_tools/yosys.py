@@ -589,6 +589,8 @@ def read(files: list[str], options: Mapping[str, Any], folder: pathlib.Path) -> 
     try:
         said = run(f"{reading}write_rtlil {quoted(raw)}\n", folder, "-q", "-E", str(folder / OPENED))
     except ToolError as error:
+        if "not empty: $*" in str(error):
+            raise ToolError(taken_name(files), 1) from error
         why = unread.reason([(file, blanked(source)[0]) for file, source in with_included(files)], str(error))
         if why is None:
             raise
@@ -615,7 +617,7 @@ def read(files: list[str], options: Mapping[str, Any], folder: pathlib.Path) -> 
         raise ToolError(twice, 1)
     # what is made of VHDL is no source of anybody's
     own = [(file, source) for file, source in with_included(files) if not is_in(folder, file)]
-    warnings = [*asks, *rewritten, *warnings_in(said)]
+    warnings = [*asks, *rewritten, *warnings_in(said), *unread.within_parts(said)]
     warnings += [one for file, source in own for one in simulation.warnings_of(file, source, blanked(source)[0])]
     warnings += dict.fromkeys(two_meanings.beyond_words(module))
     dropped = written_contents(module)
@@ -630,6 +632,14 @@ def read(files: list[str], options: Mapping[str, Any], folder: pathlib.Path) -> 
     script += f"techmap -map {quoted(far)} t:$shl t:$shr t:$sshl t:$sshr\n"
     script += f"techmap -max_iter 1 -map {quoted(zero)} {' '.join(f't:{kind}' for kind in DIVISIONS)}\ncheck -assert\n"
     return Sources(script, name, module, warnings, opened(folder))
+
+
+def taken_name(files: list[str]) -> str:
+    """What there is to say of a module that would take the place of one of Yosys' own cells or modules."""
+    found = [(file, source, match) for file, source in with_included(files) for match in re.finditer(r"\bmodule\s+\\(\$\S+)", source)]
+    places = [f"{shown(file)}:{source.count(chr(10), 0, match.start()) + 1}: {shown(match[1])}: " for file, source, match in found]
+    why = "a module has a name that begins with $, as Yosys' own cells have, and would take their place"
+    return f"{places[0] if places else ''}{why}; a netlist that is flattened has none, or another name says the same"
 
 
 def is_in(folder: pathlib.Path, file: str) -> bool:
