@@ -12,7 +12,7 @@ import socket
 import subprocess
 import sys
 import time
-from typing import Any, Iterator
+from typing import Any, Callable, Iterator
 
 from vidlakost_tools.program import ROOT
 from vidlakost_tools.selftest_bench import Bench
@@ -24,6 +24,18 @@ MARKUP = '{any(w0)}<img src=x onerror="document.title=1"><script>document.title=
 JSON = "application/json"
 # of the kit's Python a browser's driver may be unknown, where it is the system's that knows it
 INTERPRETERS = [sys.executable, "/usr/bin/python3"]
+# how long something may take on a machine under load
+SECONDS = 120.0
+
+
+def comes(holds: Callable[[], object]) -> bool:
+    """Whether something holds before long."""
+    until = time.monotonic() + SECONDS
+    while time.monotonic() < until:
+        if holds():
+            return True
+        time.sleep(0.05)
+    return False
 
 
 class Served:
@@ -84,7 +96,7 @@ def serving(bench: Bench, *words: str) -> Iterator[Served]:
         yield Served(process)
     finally:
         process.send_signal(signal.SIGINT)
-        _, said = process.communicate(timeout=20)
+        _, said = process.communicate(timeout=SECONDS)
         bench.is_so((process.returncode, said) == (0, ""), f"explore ends with {process.returncode} and says {said!r}")
 
 
@@ -296,10 +308,8 @@ def begun(bench: Bench) -> None:
     (bench.folder / "browser").write_text(script)
     bench.environment["BROWSER"] = "sh browser %s"
     with serving(bench, "--open") as served:
-        until, opened = time.monotonic() + 10, bench.folder / "opened"
-        while time.monotonic() < until and not opened.exists():
-            time.sleep(0.05)
-        told = opened.read_text() if opened.exists() else ""
+        opened = bench.folder / "opened"
+        told = opened.read_text() if comes(opened.exists) else ""
         bench.is_so(told.startswith("-rw-------") and served.address in told, f"the browser is given {told!r}")
         bench.is_so(served.token not in words_of_all(), "the words of a call tell the token")
         taken = bench.run(["tools/explore", "--port", str(served.port)])

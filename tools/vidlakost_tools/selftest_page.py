@@ -68,7 +68,7 @@ def carried(it: Looker) -> None:
     it.look("and the same memory", lambda: "little" in it.by_id("memory-text").get_attribute("value"))
     it.look("the list is ticked", lambda: it.by_id("class-SF").is_selected() and not it.by_id("class-DRF").is_selected())
     it.browser.execute_script("location.hash = '#march=any(w0)%3Bany(r0)&list=SF%0A%3C0w1/0/-%3E'")
-    it.look("another address opens anew", lambda: "A covers 0 of 3 in 2n" in it.text("summary"))
+    it.look("another address opens anew", lambda: "A covers 1 of 3 in 2n" in it.text("summary"))
     it.look("with its list", lambda: it.by_id("list").get_attribute("value") == "SF\n<0w1/0/->")
     it.browser.get("about:blank")
     it.browser.get(address)

@@ -8,16 +8,16 @@ import time
 from typing import Any
 
 from vidlakost_tools.selftest_bench import Bench
-from vidlakost_tools.selftest_explore import MARCH, Served, serving
+from vidlakost_tools.selftest_explore import MARCH, SECONDS, Served, comes, serving
 
 SEARCH: dict[str, Any] = {"list": "TF\n", "decoder": False, "linked": False}
 SHORTEST = "length 5n, shortest: a search of all shorter ones finds none"
 LONG_SEARCH: dict[str, Any] = {**SEARCH, "list": "all\n", "linked": True}
 
 
-def heard(served: Served, begun: dict[str, Any], seconds: float = 30.0) -> dict[str, Any]:
+def heard(served: Served, begun: dict[str, Any]) -> dict[str, Any]:
     """What a search ends with."""
-    until, told = time.monotonic() + seconds, begun
+    until, told = time.monotonic() + SECONDS, begun
     while time.monotonic() < until and told.get("ended") is None and told.get("broken") is None and "search" in told:
         time.sleep(0.1)
         told = served.ask("found", {"search": begun["search"]})
@@ -57,17 +57,16 @@ def searches(bench: Bench, served: Served) -> None:
     first = served.ask("find", LONG_SEARCH)
     second = served.ask("find", LONG_SEARCH)
     bench.is_so(served.ask("found", {"search": first["search"]}) == {"status": 400}, "two searches run at once")
-    until = time.monotonic() + 60
+    until = time.monotonic() + SECONDS
     while time.monotonic() < until and served.ask("found", {"search": second["search"]})["march"] is None:
         time.sleep(0.1)
     count = len(running(served))
     bench.is_so(count == 1, f"{count} searches run")
     served.ask("stop", {"search": second["search"]})
-    told = heard(served, second, 30)
+    told = heard(served, second)
     length = (told["ended"] or {"length": ""})["length"]
     bench.is_so("shortest found" in length, f"a search that is stopped is told as {told}")
-    time.sleep(1)
-    bench.is_so(running(served) == [], "a search that is over runs on")
+    bench.is_so(comes(lambda: not running(served)), "a search that is over runs on")
 
 
 def wrong_searches(bench: Bench, served: Served) -> None:
@@ -93,7 +92,7 @@ def by_http(bench: Bench) -> None:
         wrong_searches(bench, served)
         served.ask("find", LONG_SEARCH)
         left = running(served)
-    bench.is_so(len(left) == 1 and not left[0].exists(), f"the searches {left} run on when explore has ended")
+    bench.is_so(len(left) == 1 and comes(lambda: not left[0].exists()), f"the searches {left} run on when explore has ended")
 
 
 PARTS = [by_http]

@@ -30,8 +30,8 @@ from vidlakost_tools.tool import Refused
 # an object of JSON
 Object = Dict[str, Any]
 
-# how long a call of a program may take that answers in milliseconds
-SECONDS = 10.0
+# how long a call of the program may take, which answers in milliseconds where the machine is calm
+SECONDS = 60.0
 LONGEST_LINE = 400
 DYNAMIC = ["DYN1", "DYN2"]
 # what stands for the classes in a list, where it isn't the name itself

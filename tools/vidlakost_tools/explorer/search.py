@@ -22,7 +22,7 @@ from vidlakost_tools.report import judged
 LETTERS = "ABCD"
 # how long a process may still run behind its own bound, and how much it may say
 LATE_SECONDS, MOST_BYTES = 10, 1 << 20
-BROKE_OFF = "the search broke off without an answer"
+BROKE_OFF = "the search broke off without an answer of the program"
 
 
 class Search:
@@ -64,7 +64,7 @@ class Search:
         self.kill()
         self.process.wait()
         if not self.is_over:
-            self.told["broken"] = BROKE_OFF
+            self.told["broken"] = BROKE_OFF if self.told["march"] is None else f"{BROKE_OFF} on {self.told['march']}"
         self.timer.cancel()
         self.folder.__exit__()
 

@@ -23,7 +23,7 @@ from vidlakost_tools.program import settle
 from vidlakost_tools.tool import ToolError
 
 # how long a search may take, and then the program with its march
-SECONDS, LAST_SECONDS = 60, 20
+SECONDS, LAST_SECONDS = 60, 60
 # how much memory it may take: no bound of the system's, since the program reserves more than it takes
 MEMORY_KIB = 2 << 20
 # the name of the list in the folder, as answers have it
@@ -97,7 +97,7 @@ def found(asked: Any) -> None:
 def main(arguments: List[str]) -> int:
     bounded()
     try:
-        settle(10.0)
+        settle(LAST_SECONDS)
         found(json.loads(arguments[0]))
     except BrokenPipeError:
         # nobody hears it any more, and nothing is written at exit
