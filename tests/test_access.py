@@ -7,7 +7,7 @@ import re
 import tempfile
 import unittest
 
-from vidlakost_tools import access_block, apb, log_window, signoff, standards, stil, tap, tester, vhdl_text
+from vidlakost_tools import access_block, apb, log_window, signoff, standards, tap, tester, vhdl_text
 from vidlakost_tools.access_block import Target, Unit
 from vidlakost_tools.fail_log import Entry, read_log
 from vidlakost_tools.march import elements_of
@@ -69,6 +69,15 @@ class Register(unittest.TestCase):
         self.assertEqual(lines[:2], ["done", "cycle 7 expected 5 returned 4"])
         self.assertEqual(lines[-4:], ["index 0 row 0", "address 0", "bits 0", "columns 0"])
 
+    def test_a_scan_behind_segment_insertion_bits(self) -> None:
+        """44 bits of the register, above them that of the self-test, which is 1, and that of the log."""
+        target = dataclasses.replace(self.target, has_sib=True)
+        lines = tester.of_register(target, [elements_of(MARCH)], "14500000007f", 2)
+        self.assertEqual(lines[:2], ["done", "cycle 7 expected 5 returned 4"])
+        for text in ("4500000007f", "04500000007f", "24500000007f", "34500000007f", "0014500000007f"):
+            with self.assertRaises(ToolError, msg=text):
+                tester.of_register(target, [elements_of(MARCH)], text, 1)
+
     def test_what_can_be_no_register(self) -> None:
         for text in ("", "x", "2", "b", "100000000000", "5500000007f", "4400000007f", "4500000008f"):
             with self.assertRaises(ToolError, msg=text):
@@ -83,21 +92,6 @@ class Waits(unittest.TestCase):
             said = re.search(r"^RUNTEST IDLE (\S+) SEC;\nRUNTEST IDLE 16 TCK;$", text, re.MULTILINE)
             assert said is not None
             self.assertGreaterEqual(int(1e6 * float(said[1])) * mhz, cycles)
-
-
-class Stil(unittest.TestCase):
-    def setUp(self) -> None:
-        self.target = access_block.of_memory(memory(), 41)
-        self.text = stil.stil(self.target)
-
-    def test_the_vectors_come_back(self) -> None:
-        self.assertEqual(stil.read_vectors(self.text), list(stil.vectors(self.target)))
-
-    def test_what_is_spoilt_is_refused_or_another(self) -> None:
-        for old, new in (("STIL 1.0", "STIL 9"), ("tck + tms", "tms + tck"), ("P1", "Q1"), ("Loop 5 {", "Loop 5 "), ("\n}\n", "\n")):
-            with self.assertRaises(ToolError, msg=old):
-                stil.read_vectors(self.text[::-1].replace(old[::-1], new[::-1], 1)[::-1])
-        self.assertNotEqual(stil.read_vectors(self.text.replace("Loop 57", "Loop 56")), list(stil.vectors(self.target)))
 
 
 class LogWindow(unittest.TestCase):

@@ -12,6 +12,8 @@ from vidlakost_tools.text import read_described, statements
 from vidlakost_tools.tool import ToolError
 from vidlakost_tools.verilog import ranged
 
+# the identity of a TAP for which nobody names another
+IDENTITY = 0x10000A01
 SIGNALS = ("rdata", "en", "we", "addr", "wdata")
 
 
@@ -45,7 +47,8 @@ class Unit:
 @dataclasses.dataclass
 class Target:
     """What is tested: one memory, or the memories of a chip, the module of the self-test, the cycle of `done` where the march is
-    known, and how many wrong reads a log keeps that a bus reads, where one does."""
+    known, and how many wrong reads a log keeps that a bus reads, where one does. Of a TAP the identity, and whether its registers
+    stand behind segment insertion bits."""
 
     name: str
     top: str
@@ -53,6 +56,8 @@ class Target:
     is_chip: bool
     done: int | None = None
     depth: int | None = None
+    identity: int = IDENTITY
+    has_sib: bool = False
 
     @property
     def word(self) -> int:

@@ -4,6 +4,7 @@ from __future__ import annotations
 
 import dataclasses
 
+from vidlakost_tools import network
 from vidlakost_tools.access_block import Port, Target, extended, zero
 from vidlakost_tools.verilog import ranged
 
@@ -168,10 +169,6 @@ APB_DECLARED = "  integer entry;\n  integer entries;\n  integer of_unit;\n  reg 
 
 # ---- the register of a TAP
 
-# the instruction, and the places of what is in front of the words
-OPCODE, VALID, LAST, MORE, CYCLE = 0x9, 0, 1, 2, 3
-
-
 def fields(target: Target) -> list[tuple[str, int, str]]:
     """The parts of the register from its lowest bit on: name, width and what is captured."""
     words = [(name, target.word, f"(log_here ? log_{name} : {zero(target.word)})") for name in ("expected", "returned")]
@@ -186,9 +183,11 @@ def length(target: Target) -> int:
 
 def tap_parts(target: Target) -> dict[str, str]:
     """What a TAP has for the log; nothing where there is none."""
-    names = ("log_held", "log_name", "log_capture", "log_shift", "log_reset", "log_update", "log_out")
+    names = ("log_held", "log_name", "log_capture", "log_shift", "log_reset", "log_step", "log_update", "log_out")
     if target.depth is None:
         return dict.fromkeys(names, "")
+    # behind a segment insertion bit there is no instruction of its own
+    own = "" if target.has_sib else "{}"
     bits, top = target.unit_bits, length(target) - 1
     captured = ", ".join(source for _, _, source in reversed(fields(target)))
     is_end = f" & log_unit == {bits}'d{target.count - 1}" if target.is_chip else ""
@@ -199,14 +198,13 @@ def tap_parts(target: Target) -> dict[str, str]:
     step += [f"      if (log_ends && !log_last) log_unit <= log_unit + {bits}'d1;"] if target.is_chip else []
     return {
         "log_held": "\n".join([*held, ""]),
-        "log_name": ", LOG = 4'h9",
+        "log_name": own.format(", LOG = 4'h9"),
         "log_capture": f"      log_data <= {{{captured}}};\n",
-        "log_shift": f"        LOG: log_data <= {{tdi, log_data[{top}:1]}};\n",
+        "log_shift": own.format(f"        LOG: log_data <= {{tdi, log_data[{top}:1]}};\n"),
         "log_reset": "\n".join([*reset, ""]),
-        "log_update": "\n".join(
-            ["    else if (state == UPDATE_DR && instruction == LOG) begin", *step, "    end", ""]
-        ),
-        "log_out": "        LOG: out <= log_data[0];\n",
+        "log_step": "\n".join([*step, ""]),
+        "log_update": own.format("\n".join(["    else if (state == UPDATE_DR && instruction == LOG) begin", *step, "    end", ""])),
+        "log_out": own.format("        LOG: out <= log_data[0];\n"),
         "log_wires": "\n".join(
             [
                 "  assign log_pick = log_at;",
@@ -220,37 +218,47 @@ def tap_parts(target: Target) -> dict[str, str]:
 
 TAP_READS = """      if (round == 0) begin
         // the entries of the log, one in each scan
-        instruct(4'h9);
+        {begin}
         heard = 0;
         while (heard[{last}] !== 1'b1) begin
-          shift({length}, 0);
+          shift({length}, {word});
           if (heard[{valid}]) $display("{form}cycle %0d expected %h returned %h"{unit}, heard[{cycle}], heard[{wanted}], heard[{got}]);
           if (heard[{more}]) more_came = 1'b1;
         end
         if (more_came) $display("more");
-        instruct(4'h8);
+        {end}
       end
 """
 
 
+def scan_length(target: Target) -> int:
+    """How many bits a scan of the log has: behind its segment insertion bit also this bit and that of the self-test, the lowest."""
+    return length(target) + (2 if target.has_sib else 0)
+
+
 def places(target: Target) -> dict[str, str]:
-    """The bits of each part of the register."""
-    found, low = {}, 0
+    """The bits of each part of the register in a scan."""
+    found, low = {}, 1 if target.has_sib else 0
     for name, width, _ in fields(target):
         found[name] = f"{low + width - 1}:{low}" if width > 1 else str(low)
         low += width
     return found
 
 
-def tap_reads(target: Target) -> str:
-    """What the testbench of a TAP reads of the log."""
+def tap_reads(target: Target, size: int, width: int) -> str:
+    """What the testbench of a TAP reads of the log, where a scan of its register has so many bits, and a word has `width`."""
     if target.depth is None:
         return ""
-    at = places(target)
+    at, scan = places(target), scan_length(target)
+    begin, word, end = "instruct(4'h9);", "0", "instruct(4'h8);"
+    if target.has_sib:
+        is_open = network.constant(width, 1 << scan - 1)
+        begin = f"shift({network.whole(target, size)}, {network.constant(width, network.to_log(size))});"
+        word, end = is_open, f"shift({scan}, {network.constant(width, 1)});"
     form, unit = ("unit %0d ", f", heard[{at['unit']}]") if target.is_chip else ("", "")
     return TAP_READS.format(
-        length=length(target), last=LAST, valid=VALID, more=MORE, cycle=at["cycle"], wanted=at["expected"],
-        got=at["returned"], form=form, unit=unit,
+        length=scan, last=at["last"], valid=at["valid"], more=at["more"], cycle=at["cycle"], wanted=at["expected"],
+        got=at["returned"], form=form, unit=unit, begin=begin, word=word, end=end,
     )
 
 
@@ -259,7 +267,7 @@ TCL = """# Runs the self-test of {name} by OpenOCD, and prints its log as `vidla
 #   openocd -f {name}.cfg -c "source {name}_log.tcl" -c run_and_read -c shutdown
 proc run_and_read {{}} {{
   irscan bist.tap 0x8
-  drscan bist.tap {stopped}
+{open}  drscan bist.tap {stopped}
   runtest 16
   drscan bist.tap {started}
   set polls 0
@@ -274,33 +282,40 @@ proc run_and_read {{}} {{
   read_log
 }}
 proc read_log {{}} {{
-  irscan bist.tap 0x9
+  {to_log}
   set more 0
   for {{set scan 0}} {{$scan < {most}}} {{incr scan}} {{
     set entry [drscan bist.tap {fields}]
-    if {{[format %d 0x[lindex $entry 0]] != 0}} {{
-      puts stdout "{unit}cycle [format %d 0x[lindex $entry 3]] expected [lindex $entry 4] returned [lindex $entry 5]"
+    if {{[format %d 0x[lindex $entry {at_valid}]] != 0}} {{
+      puts stdout "{unit}cycle [format %d 0x[lindex $entry {at_cycle}]] expected [lindex $entry {at_expected}] returned [lindex $entry {at_returned}]"
     }}
-    if {{[format %d 0x[lindex $entry 2]] != 0}} {{ set more 1 }}
-    if {{[format %d 0x[lindex $entry 1]] != 0}} {{ break }}
+    if {{[format %d 0x[lindex $entry {at_more}]] != 0}} {{ set more 1 }}
+    if {{[format %d 0x[lindex $entry {at_last}]] != 0}} {{ break }}
   }}
   if {{$more}} {{ puts stdout "more" }}
-  irscan bist.tap 0x8
+  {to_end}
 }}
 """
 
 
 def tcl(target: Target, widths: list[int]) -> str:
     """The procedures for OpenOCD; the register of BIST has parts of these widths, the first of which is `start`."""
-    scans = " ".join(f"{width} 0" for _, width, _ in fields(target))
-    unit = 'unit [format %d 0x[lindex $entry 6]] ' if target.is_chip else ""
-    rest = " ".join(f"{width} 0" for width in widths[1:])
+    scans, rest = (" ".join(f"{one} 0" for one in some) for some in ([one for _, one, _ in fields(target)], widths[1:]))
+    first = 1 if target.has_sib else 0
+    at = {f"at_{name}": str(first + place) for place, (name, _, _) in enumerate(fields(target))}
+    unit = f"unit [format %d 0x[lindex $entry {at['at_unit']}]] " if target.is_chip else ""
+    # behind the parts of the register stand the bits of the network, and round those of the log
+    own, of_log = (" 1 1 1 0", "1 0 {} 1 1") if target.has_sib else ("", "{}")
     return TCL.format(
         name=target.name,
-        stopped=f"1 0 {rest}",
-        started=f"1 1 {rest}",
+        open="  drscan bist.tap 2 1\n" if target.has_sib else "",
+        stopped=f"1 0 {rest}{own}",
+        started=f"1 1 {rest}{own}",
         polls=target.length // 1000 + 1000,
-        fields=scans,
+        to_log=f"drscan bist.tap 1 1 {rest} 1 0 1 1" if target.has_sib else "irscan bist.tap 0x9",
+        to_end=f"drscan bist.tap 1 1 {scans} 1 0" if target.has_sib else "irscan bist.tap 0x8",
+        fields=of_log.format(scans),
         most=target.count * depth_of(target),
         unit=unit,
+        **at,
     )

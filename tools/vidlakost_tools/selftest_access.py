@@ -1,14 +1,15 @@
 """What `vidlakost selftest` asks of the tools that start a test from outside and tell what it found."""
 from __future__ import annotations
 
+import pathlib
 import re
 import shutil
 import socket
 import subprocess
-import time
 
 from vidlakost_tools.selftest_bench import Bench
 from vidlakost_tools.selftest_cases import FILES
+from vidlakost_tools.selftest_explore import comes
 
 MARCH = "{any(w0);up(r0,w1);up(r1,w0);down(r0,w1);down(r1,w0);any(r0)}"
 LATE = (
@@ -152,11 +153,17 @@ CALLS = [
 PLANTED = [(3, 0, 1, 6), (4, 4, 0, 0), (1, 2, 1, 5)]
 
 
-def compiled(bench: Bench, folder: str) -> None:
-    """A folder with the self-test of late and what stands round it."""
+def stands(bench: Bench, folder: str, words: list[str]) -> None:
+    """A folder with the self-test of late and a TAP before it."""
     (bench.folder / folder).mkdir(exist_ok=True)
     bench.run(["./vidlakost", "compile", "access.m", "late.mem", "empty.list", f"{folder}/late_bist.v", "late.report"])
-    bench.run(["tools/access", "late.mem", folder, "--apb", "--jtag", "--log", "3", "--march", "access.m"])
+    done = bench.run(["tools/access", "late.mem", folder, "--jtag", "--march", "access.m", *words])
+    bench.is_so(not done.returncode, f"access {words}: {done.stderr}")
+
+
+def compiled(bench: Bench, folder: str) -> None:
+    """A folder with the self-test of late and all that stands round it."""
+    stands(bench, folder, ["--apb", "--log", "3"])
     bench.run(["tools/share", "late.mem", "2", folder])
 
 
@@ -256,13 +263,19 @@ def in_openocd(bench: Bench) -> None:
     bench.is_so("index 6 address 3 bit 0 wrong 3" in told, f"openocd, the log: {said}{told}")
 
 
-def played(bench: Bench, command: str, planted: list[str]) -> str:
+def is_listened(port: int) -> bool:
+    """Whether somebody listens at a port of this machine, which a connection would disturb."""
+    rows = pathlib.Path("/proc/net/tcp").read_text().splitlines()
+    return any(row.split()[1].endswith(f":{port:04X}") and row.split()[3] == "0A" for row in rows[1:])
+
+
+def played(bench: Bench, command: str, planted: list[str], folder: str = "board") -> str:
     """What OpenOCD says of a command, before a model with a planted fault."""
-    config, port = bench.folder / "board" / "late.cfg", free_port()
+    config, port = bench.folder / folder / "late.cfg", free_port()
     config.write_text(re.sub(r"port \d+\n", f"port {port}\n", config.read_text(), count=1))
-    model = subprocess.Popen(["built/Vboard", str(port), *planted], cwd=bench.folder / "board")
-    time.sleep(0.5)
-    said = bench.run(["bash", "-c", f"cd board && timeout 60 openocd -f late.cfg -c '{command}' -c shutdown 2>&1"]).stdout
+    model = subprocess.Popen(["built/Vboard", str(port), *planted], cwd=bench.folder / folder)
+    bench.is_so(comes(lambda: is_listened(port)), f"built/Vboard does not listen at port {port}")
+    said = bench.run(["bash", "-c", f"cd {folder} && timeout 300 openocd -f late.cfg -c '{command}' -c shutdown 2>&1"]).stdout
     model.terminate()
     model.wait()
     return said

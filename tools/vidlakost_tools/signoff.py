@@ -176,7 +176,7 @@ def tester_page(words: list[str], mhz: float) -> str:
         "<h2>What is tested, and where the clock may be stopped</h2>",
         table(["unit", "memory", "words", "bits", "march", "start", "cycles of pauses"], rows),
         "<h2>The instructions of the TAP</h2>",
-        f"<p>The instruction register has {tap.IR_BITS} bits, and the identity is {tap.IDCODE:08X}. Test-Logic-Reset ends a "
+        f"<p>The instruction register has {tap.IR_BITS} bits, and the identity is {target.identity:08X} unless `--idcode` named another. Test-Logic-Reset ends a "
         "test.</p>",
         table(["opcode", "instruction", ""], [list(row) for row in tap.OPCODES]),
         "<h2>The register of the TAP, instruction BIST, lowest bit first</h2>",

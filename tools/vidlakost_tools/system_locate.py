@@ -1,6 +1,7 @@
 """Which read of which memory a cycle of the test of a whole chip belongs to."""
 from __future__ import annotations
 
+import dataclasses
 from typing import Iterator
 
 from vidlakost_tools import collar_lanes, tester
@@ -41,9 +42,9 @@ def in_system(system: System, cycle: int, part: Part, words: list[str], mux: int
     yield from tester.of_read(read_of(unit.elements, part.memory, local), unit.elements, part.memory, words, mux)
 
 
-def register(system: System, text: str, mux: int) -> list[str]:
+def register(system: System, text: str, mux: int, has_sib: bool = False) -> list[str]:
     """What the register of the TAP says."""
-    target = of_system(system)
+    target = dataclasses.replace(of_system(system), has_sib=has_sib)
     found = tester.register_of(target, text)
     lines = list(tester.state_lines(found, target))
     if not found["seen"]:

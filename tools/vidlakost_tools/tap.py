@@ -1,22 +1,20 @@
-"""The self-test behind a TAP of IEEE 1149.1: the block and its testbench, and what tells a tester of it: SVF, BSDL,
-ICL, PDL."""
+"""The self-test behind a TAP of IEEE 1149.1: the block and its testbench, and a model that OpenOCD plays to."""
 from __future__ import annotations
 
 import dataclasses
 
-from vidlakost_tools import log_window
+from vidlakost_tools import log_window, network
 from vidlakost_tools.access_bench import most, testbench
 from vidlakost_tools.access_block import Port, Target, extended, header, inside, links, model_links, zero
 from vidlakost_tools.bench_end import FINISH
 
-IDCODE = 0x10000A01
 IR_BITS = 4
 OPCODES = (
     ("0000", "EXTEST", "a boundary register of one internal cell"),
     ("0001", "SAMPLE, PRELOAD", "the same"),
     ("0010", "IDCODE", "32 bits"),
-    ("1000", "BIST", "the register below"),
-    ("1001", "LOG", "with --log: an entry of the log in each scan"),
+    ("1000", "BIST", "the register below; with --sib behind its segment insertion bit"),
+    ("1001", "LOG", "with --log and without --sib: an entry of the log in each scan"),
     ("1111", "BYPASS", "one bit, as all others"),
 )
 
@@ -64,8 +62,8 @@ def length(target: Target) -> int:
 
 TAP = """// A TAP of IEEE 1149.1 for the self-test of {name}. The instruction register has 4 bits:
 //   0000 EXTEST, 0001 SAMPLE and PRELOAD, of a boundary register of one internal cell, since there are no pads here
-//   0010 IDCODE, 1000 BIST, all others BYPASS
-// The register of BIST has {length} bits, the lowest first:
+//   0010 IDCODE, 1000 BIST, {more}all others BYPASS
+// The register of {whose} has {length} bits, the lowest first:
 {table}
 {log}// A test runs while `start` is 1. trst_n is 0 at power-up; Test-Logic-Reset ends a test."""
 BODY = """  localparam RESET = 4'd0, IDLE = 4'd1, SELECT_DR = 4'd2, CAPTURE_DR = 4'd3, SHIFT_DR = 4'd4, EXIT1_DR = 4'd5,
@@ -82,7 +80,7 @@ BODY = """  localparam RESET = 4'd0, IDLE = 4'd1, SELECT_DR = 4'd2, CAPTURE_DR =
   reg want;
   reg out;
   reg drives;
-{held}{log_held}{inside}{log_wires}  always @(posedge tck or negedge trst_n)
+{held}{log_held}{inside}{log_wires}{sib_held}  always @(posedge tck or negedge trst_n)
     if (!trst_n) state <= RESET;
     else
       case (state)
@@ -116,8 +114,7 @@ BODY = """  localparam RESET = 4'd0, IDLE = 4'd1, SELECT_DR = 4'd2, CAPTURE_DR =
       case (instruction)
         EXTEST, SAMPLE: boundary <= tdi;
         IDCODE: identity <= {{tdi, identity[31:1]}};
-        BIST: data <= {{tdi, data[{last}:1]}};
-{log_shift}        default: bypass <= tdi;
+{data_shift}{log_shift}        default: bypass <= tdi;
       endcase
   end
   always @(negedge tck or negedge trst_n)
@@ -130,17 +127,14 @@ BODY = """  localparam RESET = 4'd0, IDLE = 4'd1, SELECT_DR = 4'd2, CAPTURE_DR =
 {reset}{log_reset}    end else if (state == UPDATE_IR) begin
       instruction <= shifted;
 {log_reset}    end
-    else if (state == UPDATE_DR && instruction == BIST) begin
-      want <= data[0];
-{update}    end
-{log_update}  always @(negedge tck) begin
+{data_update}{log_update}  always @(negedge tck) begin
     drives <= state == SHIFT_IR || state == SHIFT_DR;
     if (state == SHIFT_IR) out <= shifted[0];
     else
       case (instruction)
         EXTEST, SAMPLE: out <= boundary;
         IDCODE: out <= identity[0];
-        BIST: out <= data[0];
+        BIST: out <= {data_out};
 {log_out}        default: out <= bypass;
       endcase
   end
@@ -159,19 +153,26 @@ def block(target: Target) -> str:
     """The module NAME_tap."""
     ways = {True: ", written", False: ""}
     table = "\n".join(f"//   {part.bits:12} {part.name}{ways[part.writable]}" for part in parts(target))
-    log = f"// With the instruction 1001, LOG, each scan of {log_window.length(target)} bits tells an entry of the log and goes on.\n" if target.depth else ""
-    about = TAP.format(name=target.name, length=length(target), table=table, log=log)
+    has_log = target.depth is not None and not target.has_sib
+    log_size = log_window.length(target) if target.depth is not None else 0
+    about = TAP.format(
+        name=target.name, length=length(target), table=table, log=network.about(target, log_size),
+        more="1001 LOG, " if has_log else "",
+        whose="the self-test" if target.has_sib else "BIST",
+    )
     ports = [*pins(), Port("input", "clk"), *target.ports(), Port("output", "test")]
     ignore = parts(target)[-1]
+    log = {"log_wires": "", **log_window.tap_parts(target)}
+    update = f"      ignore <= data{ignore.bits};\n" if target.is_chip else ""
     body = BODY.format(
         last=length(target) - 1,
         held=f"  reg {Port('', 'ignore', target.count).declared().strip()};\n" if target.is_chip else "",
         inside=inside(target, "tck", "trst_n") + log_window.inside(target),
-        **{"log_wires": "", **log_window.tap_parts(target)},
-        identity=IDCODE,
+        **log,
+        **network.tap_parts(target, length(target) - 1, log, log_size - 1, update),
+        identity=target.identity,
         captured=", ".join(part.source for part in reversed(parts(target))),
         reset=f"      ignore <= {zero(target.count)};\n" if target.is_chip else "",
-        update=f"      ignore <= data{ignore.bits};\n" if target.is_chip else "",
     )
     return header(about, f"{target.name}_tap", ports, before=target.conditional()) + body
 
@@ -203,10 +204,10 @@ BENCH = """
     end
   endtask
   // so many bits through the register of the instruction, the first one lowest
-  task shift(input integer count, input [{last}:0] word);
+  task shift(input integer count, input [{top}:0] word);
     integer i;
     begin
-      heard = {length}'d0;
+      heard = {width}'d0;
       turn(1'b1, 1'b0);
       turn(1'b0, 1'b0);
       turn(1'b0, 1'b0);
@@ -226,19 +227,19 @@ BENCH = """
     trst_n = 1'b1;
     repeat (5) turn(1'b1, 1'b0);
     turn(1'b0, 1'b0);
-    shift(32, {length}'d0);
+    shift(32, {width}'d0);
     if (heard[31:0] !== 32'h{identity:08x}) $fatal(1, "{name}: the identity is %h", heard[31:0]);
     instruct(4'hf);
-    shift(4, {length}'d5);
+    shift(4, {width}'d5);
     if (heard[3:0] !== 4'ha) $fatal(1, "{name}: the bypass gives %b", heard[3:0]);
     instruct(4'h8);
-    for (round = 0; round < 2; round = round + 1) begin
+{open}    for (round = 0; round < 2; round = round + 1) begin
       // the second start comes right behind the end of the first
-      shift({length}, {length}'d1);
-      waited = 0;
-      heard = {length}'d0;
+      shift({scan}, {started});
+{closed}      waited = 0;
+      heard = {width}'d0;
       while (heard[1] !== 1'b1) begin
-        shift({length}, {length}'d1);
+        shift({scan}, {started});
         waited = waited + 1;
         if (waited > {most}) $fatal(1, "{name}: done did not come");
       end
@@ -250,7 +251,7 @@ BENCH = """
       whose = {whose};
       told(round);
       if (round == 0) $display("tdr {digits}", heard{whole});
-{log}      shift({length}, {length}'d0);
+{log}      shift({scan}, {stopped});
     end
     """ + FINISH + """
   end
@@ -263,16 +264,22 @@ def bench(target: Target) -> str:
     declared = "".join(f"  reg {name} = 1'b0;\n" for name in ("tck", "tms", "tdi"))
     declared += "  reg trst_n = 1'b1;\n  wire tdo;\n  wire tdo_en;\n"
     declared += "  reg more_came = 1'b0;\n" if target.depth else ""
-    top = max(length(target), log_window.length(target) if target.depth else 0) - 1
+    size = length(target)
+    scan = network.whole(target, size)
+    width = max(scan, log_window.scan_length(target) if target.depth else 0)
     link = f"  {target.name}_tap dut({target.bench_links()}{links(pins())},\n    .clk(clk), {links(target.ports())}, .test(test));\n"
     body = BENCH.format(
         name=target.name,
-        last=length(target) - 1,
-        top=top,
-        whole=f"[{length(target) - 1}:0]" if top > length(target) - 1 else "",
-        log=log_window.tap_reads(target),
-        length=length(target),
-        identity=IDCODE,
+        top=width - 1,
+        width=width,
+        scan=scan,
+        started=network.constant(width, network.opened(target, size, 1)),
+        stopped=network.constant(width, network.opened(target, size, 0)),
+        open=network.bench_open(target, width),
+        closed=network.bench_closed(target, size, width),
+        whole=f"[{size - 1}:0]" if width > size else "",
+        log=log_window.tap_reads(target, size, width),
+        identity=target.identity,
         most=most(target),
         failing=at["failing" if target.is_chip else "fail"],
         wanted=at["expected"],
@@ -391,4 +398,4 @@ def socket(target: Target) -> str:
 
 
 def config(target: Target) -> str:
-    return CONFIG.format(name=target.name, identity=IDCODE)
+    return CONFIG.format(name=target.name, identity=target.identity)

@@ -1,6 +1,7 @@
 """What a tester brings back, as a read of a memory: a cycle and the bits of `fail`, or the register of the TAP."""
 from __future__ import annotations
 
+import dataclasses
 import re
 from typing import Iterator
 
@@ -100,11 +101,17 @@ def of_read(read: Read, elements: list[Element], memory: Memory, words: list[str
 
 
 def register_of(target: Target, text: str) -> dict[str, int]:
-    """The parts of the register."""
-    value = word_of(text, length(target), "the register")
-    digits, wanted = len(re.sub("^0[xX]", "", text)), -(-length(target) // 4)
-    if digits != wanted:
-        raise ToolError(f"the register is hexadecimal and has {wanted} digits, and {shown(text)} has {digits}: is it whole?")
+    """The parts of the register; behind a segment insertion bit a scan has this bit above it, and perhaps that of a log."""
+    size = length(target)
+    value = word_of(text, size + 2 if target.has_sib else size, "the register")
+    sizes = (size + 1, size + 2) if target.has_sib else (size,)
+    digits, wanted = len(re.sub("^0[xX]", "", text)), sorted({-(-bits // 4) for bits in sizes})
+    if digits not in wanted:
+        told = " or ".join(map(str, wanted))
+        raise ToolError(f"the register is hexadecimal and has {told} digits, and {shown(text)} has {digits}: is it whole?")
+    if target.has_sib and value >> size != 1:
+        why = "while the register is in the path, and all above it are 0: is it another scan?"
+        raise ToolError(f"bit {size} of the scan is 1 {why}")
     return {part.name: value >> part.low & (1 << part.width) - 1 for part in parts(target)}
 
 
@@ -145,9 +152,11 @@ def of_register(target: Target, marches: list[list[Element]], text: str, mux: in
     return [*lines, *of_read(read, marches[number], unit.memory, words, mux)]
 
 
-def chip_register(chip: Chip, text: str, mux: int) -> list[str]:
-    return of_register(access_block.of_chip(chip), [unit.elements for unit in chip.units], text, mux)
+def chip_register(chip: Chip, text: str, mux: int, has_sib: bool = False) -> list[str]:
+    target = dataclasses.replace(access_block.of_chip(chip), has_sib=has_sib)
+    return of_register(target, [unit.elements for unit in chip.units], text, mux)
 
 
-def memory_register(elements: list[Element], memory: Memory, text: str, mux: int) -> list[str]:
-    return of_register(access_block.of_memory(memory, None), [elements], text, mux)
+def memory_register(elements: list[Element], memory: Memory, text: str, mux: int, has_sib: bool = False) -> list[str]:
+    target = dataclasses.replace(access_block.of_memory(memory, None), has_sib=has_sib)
+    return of_register(target, [elements], text, mux)

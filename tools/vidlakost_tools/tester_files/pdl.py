@@ -1,0 +1,104 @@
+"""PDL (IEEE 1687), level 0: procedures on the registers of a module."""
+from __future__ import annotations
+
+import dataclasses
+import re
+from typing import Dict, List, Tuple
+
+from vidlakost_tools.tool import ToolError
+
+LEXEME = re.compile(r'[ \t]+|#[^\n]*|(?P<text>"[^"\n]*")|(?P<end>[;\n])|(?P<mark>[{}])|(?P<word>[^\s{};"]+)')
+NUMBER = re.compile(r"0b([01_]+)|0x([0-9a-fA-F_]+)|([0-9]+)")
+# of each command the forms of its words
+COMMANDS: Dict[str, List[str]] = {
+    "iWrite": [r"[A-Za-z][\w.]*", "0b[01_]+|0x[0-9a-fA-F_]+|[0-9]+"],
+    "iRead": [r"[A-Za-z][\w.]*", f"({NUMBER.pattern})?"],
+    "iApply": [],
+    "iRunLoop": ["[1-9][0-9]*", "-tck"],
+    "iNote": ["-(comment|status)", '".*"'],
+}
+
+
+@dataclasses.dataclass(frozen=True)
+class Command:
+    name: str
+    words: Tuple[str, ...]
+
+    @property
+    def value(self) -> int | None:
+        """The number of a write or a read, where it has one."""
+        match = NUMBER.fullmatch(self.words[1]) if len(self.words) > 1 else None
+        if match is None:
+            return None
+        digits = next(group for group in match.groups() if group is not None).replace("_", "")
+        return int(digits, {"0b": 2, "0x": 16}.get(self.words[1][:2], 10))
+
+
+# of each module its procedures, by their names
+Procedures = Dict[str, Dict[str, List[Command]]]
+
+
+def tokens(text: str) -> list[str]:
+    found, at = [], 0
+    while at < len(text):
+        match = LEXEME.match(text, at)
+        if match is None:
+            raise ToolError(f"PDL: line {text.count(chr(10), 0, at) + 1}: {text[at]!r} begins no word")
+        at = match.end()
+        if match.lastgroup:
+            found.append(";" if match.lastgroup == "end" else match[0])
+    return found
+
+
+def commands(text: str) -> list[list[str]]:
+    """The words of each command; a brace is one of its own."""
+    found: list[list[str]] = []
+    words: list[str] = []
+    for token in tokens(text):
+        if token == ";":
+            found += [words] if words else []
+            words = []
+        else:
+            words.append(token)
+    if words:
+        raise ToolError("PDL: the text ends within a command")
+    return found
+
+
+def command_of(words: list[str]) -> Command:
+    """A command whose words have its forms."""
+    name, *rest = words
+    forms = COMMANDS.get(name)
+    if forms is None:
+        raise ToolError(f"PDL: {name} is no command of level 0")
+    padded = rest + [""] * (len(forms) - len(rest))
+    if len(rest) > len(forms) or not all(re.fullmatch(form, word) for form, word in zip(forms, padded)):
+        raise ToolError(f"PDL: {' '.join(words)} is not as {name} is written")
+    return Command(name, tuple(rest))
+
+
+def read(text: str) -> Procedures:
+    """The procedures of a text."""
+    found: Procedures = {}
+    given = commands(text)
+    if not given or given[0] != ["iPDLLevel", "0", "-version", "STD_1687_2014"]:
+        raise ToolError("PDL: the text does not begin with iPDLLevel 0 -version STD_1687_2014")
+    module, proc = "", None  # type: str, List[Command] | None
+    for words in given[1:]:
+        if proc is not None:
+            if words == ["}"]:
+                proc = None
+            else:
+                proc.append(command_of(words))
+        elif words[0] == "iProcsForModule" and len(words) == 2:
+            module = words[1]
+            if module in found:
+                raise ToolError(f"PDL: the procedures of {module} are there twice")
+            found[module] = {}
+        elif words[0] == "iProc" and words[2:] == ["{", "}", "{"] and module and words[1] not in found[module]:
+            proc = found[module].setdefault(words[1], [])
+        else:
+            raise ToolError(f"PDL: {' '.join(words)} can't stand where it does")
+    if proc is not None:
+        raise ToolError("PDL: a procedure has no end")
+    return found
