@@ -8,7 +8,7 @@ import unittest
 from typing import Any
 from unittest import mock
 
-from vidlakost_tools import audit_pins, clock_tree, fail_search, lanes, model_checker, replayed, splits, yosys
+from vidlakost_tools import audit_pins, cells, clock_tree, fail_search, lanes, model_checker, replayed, splits, yosys
 from vidlakost_tools.audit_pins import Pin, Pins
 from vidlakost_tools.audit_random import agree
 from vidlakost_tools.audit_wave import code_of, shown, write_save
@@ -308,6 +308,16 @@ class Replays(unittest.TestCase):
                 told = fail_search.look_at(machine, plan, remembers(), lanes.Clock(60))
             self.assertEqual(told.found.kind, "differs" if said else "unknown")
             self.assertEqual("so it is no finding" in told.how, not said)
+
+
+class Places(unittest.TestCase):
+    def test_register_of_vhdl_has_its_name_there(self) -> None:
+        nets = {"n6": net(5), "n7_q": {**net(5), "attributes": {"src": "vhdl.v:24"}}, "index": {**net(5), "attributes": {"src": "walk.vhd:9.3-9.8"}}}
+        register = {**cell("$dff", Q=[5], D=[6]), "attributes": {"src": "/tmp/x/vhdl.v:24.3"}}
+        self.assertEqual(cells.place_of({"netnames": nets}, register), "index, walk.vhd:9")
+        self.assertEqual(cells.place_of({"netnames": {"n7_q": nets["n7_q"]}}, register), "n7_q, vhdl.v:24")
+        plain = {**register, "attributes": {"src": "/a/m.v:4.3|m.v:9"}}
+        self.assertEqual(cells.place_of({"netnames": {"q": {**net(5), "attributes": {"src": "m.v:2"}}}}, plain), "q, m.v:4")
 
 
 class Texts(unittest.TestCase):

@@ -100,7 +100,7 @@ def joins(folder: pathlib.Path) -> list[Figure]:
 
 def sources(folder: pathlib.Path) -> list[Figure]:
     """What `plain` makes of random sources beside Icarus, which clocks the sources; as they are, and one place changed."""
-    return [*counted("bench/sources"), *counted("bench/sources", "--damaged", "1", "100")]
+    return [*counted("bench/sources"), *counted("bench/sources", "--damaged", "1", "300")]
 
 
 def selftest(folder: pathlib.Path) -> list[Figure]:

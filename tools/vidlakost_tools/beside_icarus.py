@@ -106,6 +106,7 @@ class Beside:
     pins: Pins | None
     memory: Memory
     cells: str = ""
+    cycles: int = CYCLES
 
     def known(self) -> str:
         """The models of known cells. Icarus reads no number that a port has where nothing is connected; x it is then."""
@@ -169,8 +170,8 @@ class Beside:
             latency=self.memory.latency,
             registers="\n".join(f"    made.{one.name} = {{$urandom, $urandom}};" for one in self.plain.registers),
             same="\n".join(same),
-            cycles=CYCLES,
-            starts=CYCLES // 2 if self.is_whole(same) else 0,
+            cycles=self.cycles,
+            starts=self.cycles // 2 if self.is_whole(same) else 0,
             length=LENGTH,
             compares="\n".join(f'      compare(dut_{port}, made_{port}, "{port}");' for port in outputs),
         )
@@ -259,10 +260,10 @@ def beside(asked: Beside) -> str:
         words += [str(folder / part) for part in ("bench.v", "made.v", "cells.v")] + files
         compiled(words, folder, asked.bench, asked.same())
         _, said = call(["vvp", "-n", str(folder / "run")], folder)
-    return found_in(said)
+    return found_in(said, asked.cycles)
 
 
-def found_in(said: str) -> str:
+def found_in(said: str, cycles: int) -> str:
     """What the last line of the run says."""
     last = (said.strip().splitlines() or [""])[-1]
     differs = re.search(r"^\s*differs (\w+) (\d+) (\S) (\S)$", said, re.MULTILINE)
@@ -274,4 +275,4 @@ def found_in(said: str) -> str:
     if equal is None:
         raise ToolError(f"the run by Icarus came to no end: {shown(last)}", 1)
     open_at = "" if equal[1] == "-1" else f"; from cycle {equal[1]} on a port is unknown to Icarus in some of them"
-    return f"beside Icarus: equal in {CYCLES} cycles{open_at}"
+    return f"beside Icarus: equal in {cycles} cycles{open_at}"

@@ -23,9 +23,17 @@ def place_of(module: dict[str, Any], cell: dict[str, Any]) -> str:
     """The signal that a cell drives, and where it stands in the sources."""
     driven = {bit for pin, bits in cell["connections"].items() if pin in ("Q", "Y", "RD_DATA") for bit in bits}
     names = [name for name, net in module["netnames"].items() if not net["hide_name"] and driven & set(net["bits"])]
-    nets = [module["netnames"][name]["attributes"].get("src") for name in names]
-    where = cell["attributes"].get("src") or next(filter(None, nets), None)
+    places = {name: module["netnames"][name]["attributes"].get("src", "") for name in names}
+    # a name of the sources, before one that stands in what is made of them alone
+    names.sort(key=lambda name: (not places[name] or is_made(places[name]), re.fullmatch(r"n\d+_[a-z]", name) is not None))
+    found = [place for place in (cell["attributes"].get("src", ""), *map(places.__getitem__, names)) if place]
+    where = next((place for place in found if not is_made(place)), found[0] if found else "")
     return ", ".join([*names[:1], *([short(where)] if where else [])])
+
+
+def is_made(source: str) -> bool:
+    """Whether a place is in the text that is made of sources in VHDL."""
+    return short(source).startswith("vhdl.v:")
 
 
 def short(source: str) -> str:
