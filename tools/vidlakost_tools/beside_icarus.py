@@ -210,7 +210,8 @@ def call(words: list[str], folder: pathlib.Path) -> tuple[int, str]:
                 check=False,
             )
         except subprocess.TimeoutExpired as error:
-            raise ToolError(f"Icarus took longer than {SECONDS} seconds, and was ended", 1) from error
+            why = "a block that wakes itself without end would look so"
+            raise ToolError(f"Icarus took longer than {SECONDS} seconds, and was ended; {why}", 1) from error
     said = out.read_bytes().decode("utf-8", "replace")
     return done.returncode, re.sub(rf"{re.escape(str(folder))}/(?:given\d+/)?", "", said)
 
