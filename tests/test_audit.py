@@ -73,6 +73,9 @@ class Words(unittest.TestCase):
         value = value_of("$and", 4, A=["1", 3, 4, "0"], B=[9, 8, 7, 6])
         self.assertEqual(value, "({1'b0, a[2:1], 1'b1} & {b[0], b[1], b[2], b[3]})")
 
+    def test_register_without_a_number_is_any(self) -> None:
+        self.assertEqual(replayed.ports_at(remembers(), Case(0, [0], {0}, {"dut.lost": [1]}))["fail"], 1)
+
     def test_what_nothing_drives_is_open(self) -> None:
         made = cell("$not", A=[50], Y=[20])
         writer = Writer(module({"one": made}, a=port("input", 2)), None, None)

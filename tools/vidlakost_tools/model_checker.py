@@ -25,13 +25,13 @@ ROW = re.compile(r"^\s*(\d+)\s+\\(\S+)\s+\S+\s+\S+\s+([01]+)\s*$", re.MULTILINE)
 def differs_within(
     steps: int, begin: str, folder: pathlib.Path, seconds: float | None = None, more: Sequence[str] = ()
 ) -> Case | None:
-    """A cycle among the first so many in which a module differs, with the numbers of some more signals of it; None where there is
-    none. `begin` is the script that reads it. What the passes leave undriven, or make an `x` of, `sat` would take for 0, so it
+    """A cycle among the first so many in which a module differs, with the numbers of some more signals of it, as far as it hangs on
+    them; None where there is none. `begin` is the script that reads it. What the passes leave undriven, or make an `x` of, `sat` would take for 0, so it
     is opened before it."""
     said = yosys.run(
         f"{begin}read_verilog -sv {yosys.quoted(folder / 'judge.v')}\nhierarchy -check -top judge\nproc\nflatten\n"
         f"check -assert\n{yosys.OPEN}memory_map\n{yosys.OPEN}async2sync\nsetattr -unset init w:*\nopt -keepdc -fine\n{yosys.OPEN}"
-        f"sat -seq {steps} -set-at 1 step 0 -prove ok 1 -show {','.join(['cycle', 'ok', 'rdata', 'again', *more])}\n",
+        f"sat -seq {steps} -set-at 1 step 0 -prove ok 1 -show cycle,ok,rdata,again{' -show-public' if more else ''}\n",
         folder,
         "-Q",
         "-T",

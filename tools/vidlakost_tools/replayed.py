@@ -42,8 +42,11 @@ def inputs_of(plain: Plain, case: Case) -> Iterator[Numbers]:
 def ports_at(plain: Plain, case: Case) -> Numbers:
     """The numbers of all names in the cycle of a case, None where one is open."""
     run = with_text(plain.text(), open_run.read_module)
-    told = {name: case.numbers.get(DUT + name) for name in run.registers}
-    first: Dict[str, Optional[int]] = {name: found[0] if found else None for name, found in told.items()}
+    first: Dict[str, Optional[int]] = {}
+    for name in run.registers:
+        # a case doesn't hang on a register without a number, so that any is right
+        found = case.numbers.get(DUT + name)
+        first[name] = found[0] if found else None if name in plain.opens else 0
     return next(itertools.islice(open_run.clocked(run, first, inputs_of(plain, case)), case.cycle, None))
 
 

@@ -88,6 +88,8 @@ def for_ice40(source: str, out: str, *options: str) -> List[str]:
 
 
 COMPILE = "./vidlakost compile examples/mats_plus.m examples/foreign/four.mem nothing.list own.v own.report"
+WRONG_WORD = "./vidlakost compile pairs.m pairs.mem nothing.list pairs.v pairs.report && "
+WRONG_WORD += "sed 's/value1 <= (reset/value1 <= (visit/' pairs.v > pairs_wrong.v && tools/formal pairs_wrong.v pairs.m pairs.mem"
 RAM_CELL = "module ram_cell(input clk, output y);\n  SB_RAM40_4K ram(.RCLK(clk), .RDATA(y));\nendmodule\n"
 PINNED = RIGHT + """module pinned(input ck, rst_n, mode, input [1:0] q, output cen, wen, output [1:0] a, d, output ready, error, busy);
   wire en, we;
@@ -160,6 +162,8 @@ FILES: Dict[str, str] = {
     "pinned.v": PINNED,
     "pinned.pins": "clk ~ck\nreset ~rst_n\nrdata q\nen ~cen\nwe ~wen\naddr a\nwdata d\ndone ready\nfail error\ntie mode 1\nopen busy\n",
     "unique_if.v": RIGHT.replace("        if (&word) next_state = READ_UP;", "        unique if (&word) next_state = READ_UP; else next_state = FILL;"),
+    "pairs.m": "{up(w1);up(r1,r1)}\n",
+    "pairs.mem": "memory 2\nname m\nwords 2\nbits 4\nlatency 2\n",
     "returns.v": changed((FAIL, "  function said(input x);\n    return x;\n  endfunction\n  assign fail = said(wrong) & ~reset;\n")),
     "says.v": changed((FAIL, "  function said(input x);\n    said = x;\n  endfunction\n  assign fail = said(wrong) & ~reset;\n")),
     "says_not.v": changed((FAIL, "  function said(input x);\n    said = ~x;\n  endfunction\n  assign fail = said(wrong) & ~reset;\n")),
@@ -269,6 +273,8 @@ CALLS: List[Tuple[str, List[str], int, str, str]] = [
     ("yosys", ["tools/plain", "out.v", "ram_cell.v", "--cells", "ice40"], 1, "", "plain: ram_cell has a part SB_RAM40_4K, which is no"),
     ("yosys", ["tools/plain", "out.v", "ram_cell.v", "--cells", "ice"], 2, "", "plain: --cells knows ice40"),
     ("yosys", ["tools/formal", "counts.v", *TEST], 0, "each port is in each cycle as it has to be\n", ""),
+    # of the second word another one is expected, whose first answer comes in cycle 7; some registers become constants
+    ("yosys", ["bash", "-c", WRONG_WORD], 1, "differs in cycle 8\n", "nothing.list: warning: the list holds no primitive"),
     ("yosys", ["tools/formal", *IDLE], 1, "differs in cycle 1\n", ""),
     ("yosys", ["tools/formal", "pinned.v", *TEST, "--pins", "pinned.pins"], 0, "each port is in each cycle", ""),
     ("yosys", ["tools/plain", "out.v", "nothing.v"], 1, "", "plain: no module of the sources has anything in it"),
