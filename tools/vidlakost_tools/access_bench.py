@@ -64,7 +64,7 @@ def testbench(target: Target, kind: str, how: str, half: int, declared: str, lin
         one=f"{target.count}'d1",
         none=zero(target.count),
         word_one=f"{target.word}'d1",
-        links=link + target.beside(),
+        links=link + target.beside() + target.ends(kind),
         body=body,
         unit_form=" unit %0d" if target.is_chip else "",
         unit_value=", whose" if target.is_chip else "",

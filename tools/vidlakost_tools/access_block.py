@@ -130,6 +130,10 @@ class Target:
         """What stands beside the module under test, and has faults planted in it."""
         return model_links(self)
 
+    def ends(self, kind: str) -> str:
+        """What looks at both ends of the pins that go through the module under test, which is of this kind."""
+        return ""
+
     def how_planted(self) -> str:
         """The words of a call that plants a fault."""
         which = " +unit=U" if self.is_chip else ""

@@ -5,6 +5,7 @@ from __future__ import annotations
 import dataclasses
 import pathlib
 import re
+from typing import Iterator
 
 from vidlakost_tools import collar_planted, system_text
 from vidlakost_tools.access_block import Port, Target, Unit, links
@@ -15,9 +16,37 @@ from vidlakost_tools.soc import System
 from vidlakost_tools.system_steps import cycles
 from vidlakost_tools.text import LARGE_BYTES, lines_of, read_described, read_text
 from vidlakost_tools.tool import ToolError
+from vidlakost_tools.verilog import ranged
 
 # a net inside a module that is written
 INNER = re.compile(r"^ +(?:reg|wire) (?:\[\d+:0\] )?(\w+);", re.MULTILINE)
+ENDS = """
+  // each bit of each pin by itself, and each two bits of the outputs apart, before the first edge of the clock
+  wire [{ins} - 1:0] pins_inside = {arrived};
+  wire [{outs} - 1:0] outs_outside = {seen};
+  wire [{outs} - 1:0] outs_inside = {said};
+  integer pin;
+  integer inverse;
+  task outputs_looked_at;
+    if (outs_outside !== outs_inside)
+      $fatal(1, "{name}: inside the outputs are %b, and at the chip they are %b", outs_inside, outs_outside);
+  endtask
+  initial begin
+    for (pin = 0; pin < {ins}; pin = pin + 1)
+      for (inverse = 0; inverse < 2; inverse = inverse + 1) begin
+        pins = {{{ins}{{inverse == 1}}}} ^ ({ins}'d1 << pin);
+        #0;
+        if (pins_inside !== pins)
+          $fatal(1, "{name}: the pins of the chip are %b, and inside they are %b", pins, pins_inside);
+      end
+    pins = {ins}'d0;
+    // a simulator that forces no net of another module looks at the inputs alone
+`ifndef VERILATOR
+{forced}
+{released}
+`endif
+  end
+"""
 ABOUT = """//   +planted +unit=U +bit=B   each word that memory U answers has bit B wrong"""
 
 
@@ -93,13 +122,39 @@ class SystemTarget(Target):
         return f"`define {DEFINE}\n`timescale 1ns / 1ps\n"
 
     def bench_nets(self) -> str:
-        """The chip's pins, at rest."""
-        found = []
-        for port in self.ports():
-            rest = f" = {port.width}'d0" if port.direction == "input" else ""
-            found.append(f"  wire {f'[{port.width - 1}:0] ' if port.width > 1 else ''}{port.name}{rest};")
+        """The chip's pins; the inputs are at rest but for a moment at the begin."""
+        inputs, outputs = self.by_way("input"), self.by_way("output")
+        found = [f"  reg [{width_of(inputs) - 1}:0] pins = {width_of(inputs)}'d0;"]
+        found += [f"  wire {ranged(port.width)}{port.name} = pins[{high}:{low}];" for port, high, low in placed(inputs)]
+        found += [f"  wire {ranged(port.width)}{port.name};" for port in outputs]
         power = [f"`ifdef {POWER}", *(f"  wire {name} = 1'b1;" for name in self.supplies()), "`endif"]
         return "\n".join([*found, *(power if self.supplies() else [])])
+
+    def by_way(self, way: str) -> list[Port]:
+        return [port for port in self.ports() if port.direction == way]
+
+    def ends(self, kind: str) -> str:
+        """Before the clock's first edge each bit of each pin by itself, from the chip to the module inside and back."""
+        inside = "dut.self_test" if kind == "access" else "dut.tested.self_test"
+        inputs, outputs = self.by_way("input"), self.by_way("output")
+        # in each word the bits whose number has a 1 in some place, and then the others
+        outs, forced = width_of(outputs), []
+        words = [sum((bit >> place & 1) << bit for bit in range(outs)) for place in range(outs.bit_length())]
+        for word in [one for word in words for one in (word, (1 << outs) - 1 - word)]:
+            for port, _, low in placed(outputs):
+                bits = word >> low & (1 << port.width) - 1
+                forced.append(f"    force {inside}.{port.name} = {port.width}'h{bits:x};")
+            forced.append("    #0 outputs_looked_at;")
+        return ENDS.format(
+            name=self.name,
+            ins=width_of(inputs),
+            outs=outs,
+            arrived=joined([f"{inside}.{port.name}" for port in inputs]),
+            said=joined([f"{inside}.{port.name}" for port in outputs]),
+            seen=joined([port.name for port in outputs]),
+            forced="\n".join(forced),
+            released="\n".join(f"    release {inside}.{port.name};" for port in outputs),
+        )
 
     def bench_links(self) -> str:
         power = [f"`ifdef {POWER}", *(f"    .{name}({name})," for name in self.supplies()), "`endif"]
@@ -124,6 +179,23 @@ class SystemTarget(Target):
 
     def how_planted(self) -> str:
         return ABOUT
+
+
+def width_of(ports: list[Port]) -> int:
+    return sum(port.width for port in ports)
+
+
+def placed(ports: list[Port]) -> Iterator[tuple[Port, int, int]]:
+    """Each port with its highest and its lowest place where all of them stand in one vector, the first one lowest."""
+    low = 0
+    for port in ports:
+        yield port, low + port.width - 1, low
+        low += port.width
+
+
+def joined(names: list[str]) -> str:
+    """Nets in one vector, the first one lowest."""
+    return "{" + ", ".join(reversed(names)) + "}"
 
 
 def of_system(system: System) -> SystemTarget:
@@ -158,7 +230,7 @@ def files_of(folder: pathlib.Path, target: SystemTarget) -> list[str]:
     return [name for name in names if name != f"{target.top}_tb.sv"]
 
 
-def left_out(target: SystemTarget) -> list[str]:
+def left_out(target: Target) -> list[str]:
     """What is written of a memory and not of a whole chip, whose models stand in its folder."""
     name = target.name
     return [f"{name}_model.v", f"{name}_board.v", f"{name}_socket.cpp", f"{name}.cfg"]
