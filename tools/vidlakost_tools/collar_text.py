@@ -17,6 +17,8 @@ MARK = "// made by vidlakost"
 HEAD = "`timescale 1ns / 1ps\n`default_nettype none\n"
 FOOT = "`default_nettype wire\n"
 PLANTED = collar_planted.DEFINE
+# the kinds of a collar that has its controllers inside; `told` hands out the words that they write and read, too
+INSIDE = ("bist", "told")
 ABOUT = f"""{MARK} collar: the macro {{macro}} with the self-test of {{name}}, which has the macro while test is 1.
 """
 
@@ -57,10 +59,11 @@ def last_phase(macro: Macro) -> int:
 
 
 def own_ports(macro: Macro, word: Word, kind: str) -> list[Port]:
-    """The ports of the collar that are no pins: `kind` is bist, open, or a way of `vidlakost access`."""
+    """The ports of the collar that are no pins: `kind` is bist, told, open, or a way of `vidlakost access`."""
     scan = [Port("input", "scan_mode")] if macro.bypass else []
-    if kind == "bist":
-        return [Port("input", "clk"), Port("input", "test"), *scan, Port("output", "done"), Port("output", "fail")]
+    if kind in INSIDE:
+        told = [Port("output", name, word.bits) for name in ("given", "taken")] if kind == "told" else []
+        return [Port("input", "clk"), Port("input", "test"), *scan, Port("output", "done"), Port("output", "fail"), *told]
     if kind != "open":
         if len(word.memories) > 1 or macro.masks or macro.has_second:
             raise macro.refuse(0, "--through is of one memory, without masks and port")
@@ -121,6 +124,10 @@ class Collar:
         self.chosen: dict[int, str] = {}
         self.at: dict[int, str] = {}
 
+    @property
+    def has_controllers(self) -> bool:
+        return self.kind in INSIDE
+
     def net(self, name: str) -> str:
         """A net inside, or the port of that name."""
         return name if name in {port.name for port in self.own} else self.names.of(name)
@@ -143,7 +150,7 @@ class Collar:
         for half, memory in parts if self.kind != "open" else []:
             for name, width in (("en", 1), ("we", 1), ("addr", memory.width), ("wdata", memory.bits), ("rdata", memory.bits)):
                 self.declared(f"{half}_{name}", width)
-        if self.kind not in ("bist", "open"):
+        if self.kind not in (*INSIDE, "open"):
             self.declared("test", 1)
         first = parts[0][0]
         data = [self.net(f"{half}_wdata") for half, _ in reversed(parts)]
@@ -161,7 +168,7 @@ class Collar:
     def lane_machine(self, values: dict[str, str]) -> None:
         """The machine that tries the lanes, in place of the self-test while it goes."""
         word, macro = self.word, self.macro
-        if self.kind == "bist":
+        if self.has_controllers:
             for name in ("lanes_go", "lanes_over", "lanes_fail"):
                 self.declared(name, 1)
         go, ports = self.net("lanes_go"), [".clk(clk)"]
@@ -188,7 +195,7 @@ class Collar:
 
     def second(self) -> str:
         """Whether the session is that of the other port."""
-        if self.kind == "bist" and "second" not in self.names.given:
+        if self.has_controllers and "second" not in self.names.given:
             self.declared("second", 1)
         return self.net("second")
 
@@ -342,7 +349,7 @@ class Collar:
         """The self-tests, and the state of the whole."""
         if self.kind == "open":
             return
-        if self.kind != "bist":
+        if not self.has_controllers:
             bus = collar_bus.bus_of(of_memory(self.word.first, None), self.kind)
             own = ", ".join(f".{name}({self.net(f'bist_{name}')})" for name in ("rdata", "en", "we", "addr", "wdata"))
             self.lines += [
@@ -351,15 +358,19 @@ class Collar:
             ]
             return
         reset = self.phases() if self.macro.masks or self.macro.has_second else "!test"
-        first = 0
+        first, words = 0, []
         for half, memory in halves(self.word):
             given, taken = self.turned(half, memory.bits, first)
             first += memory.bits
+            words.append((given, taken))
             own = ", ".join(f".{name}({self.net(f'{half}_{name}')})" for name in ("en", "we", "addr"))
             own = f".rdata({taken}), {own}, .wdata({given})"
             over, bad = self.net(f"{half}_done"), self.net(f"{half}_fail")
             self.lines.append(f"  {memory.name}_bist {self.names.of(f'{half}_test')}(.clk(clk), .reset({reset}),")
             self.lines.append(f"    {own}, .done({over}), .fail({bad}));")
+        for name, parts in zip(("given", "taken"), zip(*words)) if self.kind == "told" else ():
+            value = parts[0] if len(parts) == 1 else "{" + ", ".join(reversed(parts)) + "}"
+            self.lines.append(f"  assign {name} = {value};")
 
     def turned(self, half: str, bits: int, first: int) -> tuple[str, str]:
         """The words that a self-test gives and takes, which a testbench can turn; `first` is the number of its lowest bit."""
@@ -371,7 +382,7 @@ class Collar:
 
     def states(self) -> None:
         """Declares what the self-tests say."""
-        if self.kind != "bist":
+        if not self.has_controllers:
             return
         parts = halves(self.word)
         over = [self.declared(f"{half}_done", 1) for half, _ in parts]
@@ -480,7 +491,7 @@ class Collar:
         self.pins()
         self.answers()
         self.states()
-        if self.kind == "bist" and (self.macro.masks or self.macro.has_second):
+        if self.has_controllers and (self.macro.masks or self.macro.has_second):
             self.lines += [f"  reg [2:0] {self.names.of('phase')};", f"  reg {self.names.of('kept')};"]
         self.controllers()
         placed = [*self.instance(), *Watch(self).text()]
@@ -502,7 +513,7 @@ def memory_name(macro: Macro, word: Word, kind: str) -> str:
 
 def collar(macro: Macro, word: Word, kind: str) -> str:
     """The file of the collar."""
-    if kind not in ("bist", "open", *collar_bus.KINDS.values()):
+    if kind not in (*INSIDE, "open", *collar_bus.KINDS.values()):
         raise ToolError(f"--through is one of {', '.join(collar_bus.KINDS)}")
     text = Collar(macro, word, kind).module()
     about = ABOUT.format(macro=macro.name, name=" and ".join(memory.name for memory in word.memories))

@@ -86,6 +86,14 @@ class Watch:
             pin = self.macro.answers(second)
             lines = self.compared(f"{pin.name} of the chip", pin.joined(), self.there(pin))
             looks += ["      if (!scan_mode) begin", *lines, "      end"] if self.macro.bypass else lines
+        return looks + (self.handed_out() if self.collar.kind == "told" else [])
+
+    def handed_out(self) -> list[str]:
+        """What is handed out of the words of the test is what stands at its own ports."""
+        looks = []
+        for name, port in (("given", "wdata"), ("taken", "rdata")):
+            words = [self.source(half, port) for half in reversed(self.halves())]
+            looks += self.compared(f"{name} of the collar", name, words[0] if len(words) == 1 else "{" + ", ".join(words) + "}")
         return looks
 
     def clocks(self) -> list[str]:
@@ -96,7 +104,9 @@ class Watch:
             if pin.kind == "clock2" or pin.kind == "clk" and pin.is_second:
                 looks += self.look(pin, f"({self.test} ? clk : {pin.name})")
                 wakes.append(pin.name)
-        return [f"  always @({' or '.join(wakes)}) begin", "    #1;", *looks, "  end"]
+        # before its first edges a collar that is started from another clock knows no test
+        known = [f"    if ({self.test} !== 1'bx) begin", *looks, "    end"]
+        return [f"  always @({' or '.join(wakes)}) begin", "    #1;", *known, "  end"]
 
     # ---- what is commanded
 
@@ -104,7 +114,7 @@ class Watch:
         """What a self-test commands: at its own port, or at the collar's where it stands elsewhere."""
         if self.collar.kind == "open":
             return self.collar.net(f"{half}_{name}")
-        instance = "bist" if self.collar.kind != "bist" else f"{half}_test"
+        instance = f"{half}_test" if self.collar.has_controllers else "bist"
         return f"{self.collar.names.of(instance)}.{name}"
 
     def commanded(self) -> dict[str, str]:

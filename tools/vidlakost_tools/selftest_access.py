@@ -48,6 +48,8 @@ READ_AT = ["tools/locate", "c.m", "s.mem", "6"]
 JOINS = "examples/joins/joins.chip"
 PINS = [f"examples/joins/{name}.pins" for name in ("masked", "left", "right", "both", "low", "kept", "late")]
 WHOLE = ["tools/locate", JOINS, *PINS, "--whole"]
+CAMERA, PLACES = "examples/in_place/camera.list", "examples/in_place/camera.places"
+PLACED = [f"examples/joins/{name}.pins" for name in ("late", "left", "low", "masked", "kept")]
 CALLS = [
     ("", [*READ_AT, "0", "1"], 0, "bits 0\n", ""),
     ("", [*READ_AT, "0", "0"], 2, "", "locate: 0 is expected and returned, so this read is not wrong"),
@@ -78,6 +80,13 @@ CALLS = [
     ("", ["tools/access", JOINS, *PINS, "acc5"], 2, "", "access: acc5 has no joins_system.v and files.f: it is the folder that"),
     ("", ["tools/access", "examples/joins/many.list", "acc5"], 2, "", "access: of a list the files of pins are wanted"),
     ("", ["tools/access", JOINS, *PINS, "acc5", "--log", "4"], 2, "", "access: --log is of a memory or a chip file alone"),
+    ("", ["tools/top", CAMERA, *PLACED, "placed1", "--in-place"], 0, "placed1/camera_access.v", "top: `? :` chooses the clock"),
+    ("", ["tools/top", CAMERA, *PLACED, "placed1", "--in-place", "--access"], 2, "", "top: --access is of a module that joins"),
+    ("", ["tools/access", CAMERA, *PLACED, "placed2", "--in-place", "--apb"], 0, "placed2/camera_apb.v", ""),
+    ("", ["tools/access", CAMERA, "placed2", "--in-place"], 2, "", "access: of a list the files of pins are wanted"),
+    ("", ["tools/places", PLACES, CAMERA, *PLACED, "placed3"], 2, "", "places: placed3 has no camera_access.v in its files.f"),
+    ("", ["tools/places", "access.m", CAMERA, *PLACED, "placed3"], 2, "", "places: access.m:1: this text begins with 'places 1'"),
+    ("", ["tools/places", PLACES, CAMERA], 2, "", "places: "),
     ("", ["tools/sdc", "examples/joins/many.list", "acc5", "--mhz", "50"], 2, "", "sdc: of a list the files of pins are wanted"),
     ("", ["tools/sdc", JOINS, *PINS, "acc5", "--mhz", "50", "--jtag"], 0, "acc5/joins_test.sdc", ""),
     ("", ["tools/schedule", JOINS, *PINS], 0, "cycles 430 to 492: the lanes of masked\n", ""),

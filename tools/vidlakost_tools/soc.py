@@ -244,8 +244,9 @@ def place_chip(system: System, path: str) -> None:
     raise ToolError(f"{path}: {apart}: write the units in the order {', '.join(part.name for part in found)}")
 
 
-def groups_of(system: System, collars: list[Placed]) -> list[list[Placed]]:
-    """These collars in groups that the budget has room for: the long tests first, each in the first group that has room."""
+def groups_of(system: System, collars: list[Placed], most: int = OF_CHIP) -> list[list[Placed]]:
+    """These collars in groups of so many memories at most that the budget has room for: the long tests first, each in the first
+    group that has room."""
     found: list[list[Placed]] = []
 
     def length(placed: Placed) -> int:
@@ -253,7 +254,7 @@ def groups_of(system: System, collars: list[Placed]) -> list[list[Placed]]:
 
     def has_room(group: list[Placed], placed: Placed) -> bool:
         parts = [part for one in [*group, placed] for part in one.parts]
-        return sum(part.unit.weight for part in parts) <= system.budget and len(parts) <= OF_CHIP
+        return sum(part.unit.weight for part in parts) <= system.budget and len(parts) <= most
 
     for placed in sorted(collars, key=length, reverse=True):
         group = next((group for group in found if has_room(group, placed)), None)

@@ -17,7 +17,7 @@ TASKS = {
         "vectors", "benchfault", "benchall", "testbench", "locate", "turn", "liberty", "collar", "hold", "summary",
     ],
     "Modules of others": ["audit", "check", "benchfile", "plain", "formal", "foreign"],
-    "Chips": ["chip", "schedule", "top", "flow"],
+    "Chips": ["chip", "schedule", "top", "places", "flow"],
     "Start, watch, diagnose": ["access", "sdc", "bitmap", "diagnosis", "share", "vhdl"],
     "Handing it on": ["release", "make"],
     "What the repository itself uses": INNER,
