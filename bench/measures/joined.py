@@ -17,6 +17,7 @@ from measures.damages import POWER, Damage
 from measures.parts import PROGRAM, ROOT
 
 CASE = ROOT / "examples" / "joins"
+PLACED = ROOT / "examples" / "in_place"
 # the words of the runs of a testbench
 RUNS: List[List[str]] = [[], ["+planted"]]
 # why a damage does no harm, by a part of the line that it leaves
@@ -24,9 +25,8 @@ REASONS: List[Tuple[str, str]] = []
 
 
 class Outcome(enum.Enum):
-    """What came of a damage: refused by a compiler, told by a run or by lint, proved harmless, harmless by a reason,
-    or none of
-    these."""
+    """What came of a damage: refused by a compiler, told by a run or by lint, proved harmless, harmless by a reason, or
+    none of these; or a call took too long, so that nothing is known."""
 
     TEXT = "refused"
     RUN = "told by a run"
@@ -34,20 +34,23 @@ class Outcome(enum.Enum):
     PROVED = "harmless"
     REASON = "harmless by a reason"
     UNTOLD = "real and untold"
+    LATE = "not looked at to the end"
+
+
+# how many seconds a call may take
+SECONDS = 900
 
 
 def called(words: List[str], folder: pathlib.Path) -> bool:
-    """Whether a call ends well, within a minute."""
-    try:
-        none = subprocess.DEVNULL
-        return subprocess.run(words, cwd=folder, stdout=none, stderr=none, timeout=120, check=False).returncode == 0
-    except subprocess.TimeoutExpired:
-        return False
+    """Whether a call ends well."""
+    none = subprocess.DEVNULL
+    return subprocess.run(words, cwd=folder, stdout=none, stderr=none, timeout=SECONDS, check=False).returncode == 0
 
 
 @dataclasses.dataclass
 class Place:
-    """A folder with a testbench that passes: its name, its top, and the files that were written."""
+    """A folder with a testbench that passes: its name, its top, the files that were written, and a call that looks at
+    them besides."""
 
     folder: pathlib.Path
     top: str
@@ -55,6 +58,7 @@ class Place:
     is_whole: bool
     runs: List[List[str]]
     listed: str = "files.f"
+    beside: List[str] = dataclasses.field(default_factory=list)
 
     def modules(self) -> List[pathlib.Path]:
         return sorted(path for path in self.folder.glob("*.v") if not path.name.endswith("_boxes.v"))
@@ -64,15 +68,23 @@ class Place:
 
     def outcome(self, damage: Damage) -> Outcome:
         """What comes of a damage."""
+        try:
+            return self.looked_at(damage)
+        except subprocess.TimeoutExpired:
+            return Outcome.LATE
+
+    def looked_at(self, damage: Damage) -> Outcome:
         with tempfile.TemporaryDirectory() as name:
             folder = pathlib.Path(name) / "made"
-            shutil.copytree(self.folder, folder)
+            shutil.copytree(self.folder, folder, symlinks=True)
             file = folder / damage.file
             file.write_text(damage.done_to(file.read_text(encoding="utf-8")), encoding="utf-8")
             power = [f"-D{POWER}"] if damage.is_power else []
             if not called(["iverilog", "-g2012", *power, "-o", "tb", "-c", self.listed], folder):
                 return Outcome.TEXT
             if not all(called(["vvp", "-n", "tb", *more], folder) for more in self.runs):
+                return Outcome.RUN
+            if self.beside and not called(self.beside, folder):
                 return Outcome.RUN
             if not self.is_linted(folder, power):
                 return Outcome.LINT
@@ -83,7 +95,7 @@ class Place:
     def is_linted(self, folder: pathlib.Path, power: List[str]) -> bool:
         """Whether Verilator's lint is silent."""
         files = [path.name for path in sorted(folder.glob("*.v")) if not path.name.endswith("_boxes.v")]
-        lint = ["verilator", "--lint-only", "-Wall", "-Wno-DECLFILENAME", *power]
+        lint = ["verilator", "--lint-only", "-Wall", "-Wno-DECLFILENAME", "-Wno-TIMESCALEMOD", *power]
         return called([*lint, "--top-module", self.top, *files], folder)
 
     def is_same(self, damage: Damage, folder: pathlib.Path) -> bool:
@@ -113,7 +125,8 @@ def made(words: List[object], folder: pathlib.Path) -> None:
     """A call of a tool that has to be done."""
     environment = {**os.environ, "VIDLAKOST_PROGRAM": PROGRAM}
     call = [sys.executable, *map(str, words)]
-    done = subprocess.run(call, cwd=ROOT, env=environment, stdout=subprocess.PIPE, stderr=subprocess.STDOUT, text=True, check=False)
+    pipe = subprocess.PIPE
+    done = subprocess.run(call, cwd=ROOT, env=environment, stdout=pipe, stderr=subprocess.STDOUT, text=True, check=False)
     if done.returncode:
         raise SystemExit(f"{' '.join(map(str, words))} ends with {done.returncode}: {done.stdout}")
 
@@ -126,6 +139,32 @@ def reached(folder: pathlib.Path, pins: List[pathlib.Path]) -> Place:
     bits = (7, 3, 2, 5, 1, 4, 0, 3)
     runs = [["+planted", f"+unit={unit}", f"+bit={bit}"] for unit, bit in enumerate(bits)]
     return Place(there, "joins_access", [there / "joins_access.v"], False, [[], *runs], "joins_access.f")
+
+
+def in_place(folder: pathlib.Path) -> List[Place]:
+    """A chip whose memories stay where they are, with the connections that an engineer makes, and each memory alone.
+    Beside the runs of the chip stands the proof that its use is what it was."""
+    there = folder / "in_place"
+    pins = sorted(path for path in CASE.glob("*.pins") if path.stem in ("late", "left", "low", "masked", "kept"))
+    words = [PLACED / "camera.list", *pins, there]
+    made([ROOT / "tools/top", *words, "--in-place"], folder)
+    made([ROOT / "tools/access", *words, "--in-place", "--jtag"], folder)
+    shutil.copy(PLACED / "camera.v", there)
+    text = (PLACED / "camera.places").read_text(encoding="utf-8")
+    text = text.replace("source examples/in_place/", "source ").replace("before examples", f"before {ROOT}/examples")
+    (there / "camera.places").write_text(text, encoding="utf-8")
+    # the names in the list begin at the root
+    (there / "examples").symlink_to(ROOT / "examples")
+    tool = [str(ROOT / "tools/places"), "camera.places", str(PLACED / "camera.list"), *map(str, pins), "."]
+    if not called([sys.executable, *tool], there):
+        raise SystemExit("places of the camera does not pass")
+    written = [there / "camera.v", there / "camera_access.v"]
+    found = [Place(there, "camera", written, False, RUNS, "camera_places.f", [sys.executable, *tool])]
+    for path in pins:
+        name = path.stem
+        written = [there / f"{name}_in_place.v"]
+        found.append(Place(there, f"{name}_in_place", written, False, RUNS, f"{name}_in_place.f"))
+    return found
 
 
 def places(folder: pathlib.Path) -> List[Place]:
@@ -145,9 +184,11 @@ def places(folder: pathlib.Path) -> List[Place]:
             if done.returncode > 1:
                 raise SystemExit(f"{' '.join(map(str, words))} ends with {done.returncode}")
         found.append(Place(there, f"{name}_collar", [there / f"{name}_collar.v"], False, RUNS))
-    found.append(reached(folder, pins))
+    found += [reached(folder, pins), *in_place(folder)]
     for place in found:
         called(["iverilog", "-g2012", "-o", "tb", "-c", place.listed], place.folder)
         if not all(called(["vvp", "-n", "tb", *more], place.folder) for more in place.runs):
             raise SystemExit(f"{place.top} does not pass")
+        if not place.is_linted(place.folder, []):
+            raise SystemExit(f"lint is not silent of {place.top}, so it tells nothing of a damage")
     return found
