@@ -88,4 +88,7 @@ def small(it: Looker) -> None:
         .filter((it) => it.getBoundingClientRect().right > document.documentElement.clientWidth + 1)
         .map((it) => it.outerHTML.slice(0, 60))"""
     it.look("nothing is beyond the edge at 375", lambda: it.browser.execute_script(beyond) == [])
+    cut = """return [...document.querySelectorAll("button")].filter((it) => it.scrollWidth > it.clientWidth + 1)
+        .map((it) => it.outerHTML.slice(0, 60))"""
+    it.look("no button is narrower than its text", lambda: it.browser.execute_script(cut) == [])
     it.browser.execute_cdp_cmd("Emulation.clearDeviceMetricsOverride", {})
