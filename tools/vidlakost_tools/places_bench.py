@@ -129,7 +129,7 @@ class ChipBench:
         if places.has_tap:
             at = {part.name: part.bits for part in tap.parts(target)}
             size = tap.length(target)
-            values.update(last=size - 1, length=size, rest=size - self.count, identity=tap.IDCODE)
+            values.update(last=size - 1, length=size, rest=size - self.count, identity=target.identity)
             values.update({name: at[name] for name in ("failing", "unit", "cycle")})
             values.update(wanted=at["expected"], got=at["returned"])
         return FIRST.format(cases="\n".join(cases), **values) + way.format(**values)

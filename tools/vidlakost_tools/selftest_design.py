@@ -17,7 +17,7 @@ FILES: Dict[str, str] = {
     "two.list": "<0w0w0;1/0/->\n",
     "pause.list": "SF\nTF\nDRF\n",
     # 1,024 primitives, which is the most
-    "many.list": "one\nCFst\ndyn1\n" * 22 + "<0/1/->\n" * 12,
+    "thousand.list": "one\nCFst\ndyn1\n" * 22 + "<0/1/->\n" * 12,
     "paused.m": "{del;any(w0);any(r0)}\n",
     "long.m": "{any(w0,r0,r0,r0)}\n",
     "eight.mem": "memory 1\nname eight\nwords 16\nbits 8\n",
@@ -76,7 +76,8 @@ def calls(bench: Bench) -> None:
 
 def large(bench: Bench) -> None:
     """A list of 1,024 items, each of whose primitives is looked at once."""
-    bench.look(["tools/design", "many.list", "--width", "20"], 0, "judge total 1024 covered 1024 escapes 0", "design: ")
+    (bench.folder / "thousand.list").write_text(FILES["thousand.list"])
+    bench.look(["tools/design", "thousand.list", "--width", "20"], 0, "judge total 1024 covered 1024 escapes 0", "design: ")
 
 
 def ended(bench: Bench) -> None:

@@ -215,7 +215,7 @@ def bounds(bench: Bench) -> None:
             done = bench.run(["timeout", "60", f"tools/{tool}", *words])
             bench.is_so(done.returncode == 2 and "the most that is read" in done.stderr, f"{call}: {done.returncode} {done.stderr[-300:]}")
     (bench.folder / "told.txt").write_text("cycle 1 " * 100000)
-    bench.look(["timeout", "10", "tools/bitmap", "told.txt", "c.m", "s.mem"], 2, "", "bitmap: told.txt:1: an entry is")
+    bench.look(["timeout", "60", "tools/bitmap", "told.txt", "c.m", "s.mem"], 2, "", "bitmap: told.txt:1: an entry is")
     for harm in ("\x1b[2J\x9b", "x" * 100000):
         (bench.folder / "told.txt").write_text(harm)
         for call in ECHOES:
