@@ -144,7 +144,9 @@ class Logs(unittest.TestCase):
         entry, same = "cycle 7 expected 0 returned 4\n", "cycle 7 expected 4 returned 4\n"
         twice, cut, old = entry + entry, entry + "cycle 9 expected 0 retur", "cycle 7 returned 4\n"
         wide = [entry.replace(word, "14") for word in ("4", " 0")]
-        for text in (twice, cut, "", "fail 1\n", *wide, entry.replace("7", "x"), same, old):
+        joined = [entry.strip() + " " + more for more in (entry.replace("7", "9"), "cycle 9 expected 0 retur\n")]
+        of_chip = "unit 1 " + entry
+        for text in (twice, cut, "", "fail 1\n", *wide, entry.replace("7", "x"), same, old, *joined, of_chip):
             with self.assertRaises(ToolError):
                 self.read(text)
 

@@ -151,7 +151,7 @@ def bench(target: Target, depth: int) -> str:
 MOST = 1 << 20
 LOG_BYTES = 1 << 26
 # the start of an entry is short, so that a long line is looked at once
-OF_UNIT = re.compile(r"\bunit ([0-9]{1,2}) cycle ")
+OF_UNIT = re.compile(r"\bunit ([0-9]{1,9}) cycle ")
 ENTRY = re.compile(r"\bcycle ([0-9]{1,10}) expected ([0-9a-fA-F]{1,16}) returned ([0-9a-fA-F]{1,16})\b")
 
 
@@ -164,16 +164,32 @@ class Entry:
     word: int
 
 
+def entry_in(line: str) -> re.Match[str] | None:
+    """The entry of a line, if it has one; a line with two, or with a part of another, is refused."""
+    match = ENTRY.search(line)
+    count = len(re.findall(r"\bcycle\b", line))
+    if count and match is None:
+        raise ToolError("an entry is 'cycle C expected X returned W'; the words are hexadecimal")
+    if count > 1:
+        raise ToolError(f"the line has the word cycle {count} times, and an entry stands in a line of its own")
+    return match
+
+
 def read_log(path: str, memory: Memory, unit: int | None = None) -> tuple[list[Entry], bool]:
-    """The entries of a log, of a chip those of a unit, and whether more came. A line has `cycle C expected X returned W`; other lines are left. They come in
-    the order of their cycles, and the last one may be cut off where a run was ended."""
+    """The entries of a log, of a chip those of a unit, and whether more came. A line has `cycle C expected X returned W`;
+    other lines are left. They come in the order of their cycles, and the last one may be cut off where a run was ended."""
     entries: list[Entry] = []
     more = False
     # a testbench of a bus says the first failure in front of the log
     said_before: Entry | None = None
     for count, line in enumerate(stream(path, LOG_BYTES), 1):
-        match, whose = ENTRY.search(line), OF_UNIT.search(line)
-        if whose and unit is not None and int(whose[1]) != unit:
+        try:
+            match, whose = entry_in(line), OF_UNIT.search(line)
+        except ToolError as error:
+            raise ToolError(f"{path}:{count}: {error}") from error
+        if whose and unit is None:
+            raise ToolError(f"{path}:{count}: this is the log of a chip: give its chip file, with --unit {whose[1]}")
+        if whose and int(whose[1]) != unit:
             continue
         if match:
             entry = Entry(int(match[1]), int(match[2], 16), int(match[3], 16))
@@ -193,8 +209,6 @@ def read_log(path: str, memory: Memory, unit: int | None = None) -> tuple[list[E
             entries.append(entry)
             if len(entries) > MOST:
                 raise ToolError(f"{path}:{count}: these are more than {MOST:,} wrong reads")
-        elif re.search(r"\bcycle\b", line):
-            raise ToolError(f"{path}:{count}: an entry is 'cycle C expected X returned W'; the words are hexadecimal")
         more = more or line.strip() == "more"
     if not entries:
         raise ToolError(f"{path}: no line has 'cycle C expected X returned W'")
