@@ -145,8 +145,8 @@ class Logs(unittest.TestCase):
         twice, cut, old = entry + entry, entry + "cycle 9 expected 0 retur", "cycle 7 returned 4\n"
         wide = [entry.replace(word, "14") for word in ("4", " 0")]
         joined = [entry.strip() + " " + more for more in (entry.replace("7", "9"), "cycle 9 expected 0 retur\n")]
-        of_chip = "unit 1 " + entry
-        for text in (twice, cut, "", "fail 1\n", *wide, entry.replace("7", "x"), same, old, *joined, of_chip):
+        of_chip, behind = "unit 1 " + entry, entry + "more\n" + entry.replace("7", "9")
+        for text in (twice, cut, "", "fail 1\n", *wide, entry.replace("7", "x"), same, old, *joined, of_chip, behind):
             with self.assertRaises(ToolError):
                 self.read(text)
 

@@ -192,6 +192,8 @@ def read_log(path: str, memory: Memory, unit: int | None = None) -> tuple[list[E
         if whose and int(whose[1]) != unit:
             continue
         if match:
+            if more and unit is None:
+                raise ToolError(f"{path}:{count}: an entry stands behind 'more': is this the log of two runs?")
             entry = Entry(int(match[1]), int(match[2], 16), int(match[3], 16))
             for word in match.group(2, 3):
                 if int(word, 16) >> memory.bits:
