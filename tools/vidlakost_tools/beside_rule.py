@@ -88,9 +88,9 @@ def told(asked: Clocked) -> str:
         for part, text in texts.items():
             (folder / part).write_text(text, encoding="utf-8")
         copies, _ = with_members(asked.beside.files, folder)
-        files = [*(str(folder / part) for part in ("bench.v", *texts)), *(os.path.abspath(copy) for copy in copies)]
+        files = [str(folder / part) for part in ("bench.v", *texts)] + [os.path.abspath(file) for file in copies]
         words = ["iverilog", "-g2012", "-s", "clocked", "-o", str(folder / "run"), *files]
         compiled(words, folder, asked.bench, asked.beside.same("judge.dut.", "n_"))
         _, said = call(["vvp", "-n", str(folder / "run")], folder)
-    found = re.findall(r"^(?:right|wrong) in .*$", said, re.MULTILINE)
-    return str(found[-1]) if found else f"no end: {said[-200:]}"
+    found: list[str] = re.findall(r"^(?:right|wrong) in .*$", said, re.MULTILINE)
+    return found[-1] if found else f"no end: {said[-200:]}"

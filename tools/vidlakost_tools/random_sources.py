@@ -157,6 +157,8 @@ def clocked(chance: random.Random, registers: list[Name], names: list[Name], fun
     start = " ".join(f"{one.name} <= {chance.getrandbits(one.width)};" for one in registers if chance.random() < 0.9)
     writer = Writer(chance, names, functions)
     body = " ".join(writer.statement(registers, "<=", 3) for _ in range(4))
+    # what nothing else sets would be an x for ever, of which a simulator makes a choice
+    start += "".join(f" {one.name} <= 0;" for one in registers if not re.search(rf"\b{one.name}(\[[^\]]*\])? <= ", f"{start} {body}"))
     edge = chance.choice(["posedge clk", "posedge clk", "posedge clk or posedge reset"])
     if "or" in edge:
         # each register is set by such a reset, or has a block of its own
