@@ -1,5 +1,6 @@
-"""The sources of a controller, clocked by Icarus beside a judge that knows the rule of the ports: from random registers, with right
-and wrong answers. What it tells stands apart from Yosys but for the names of registers that are set at first."""
+"""The sources of a controller, clocked by Icarus beside a judge that knows the rule of the ports: from random
+registers, with right and wrong answers. What it tells stands apart from Yosys but for the names of registers that are
+set at first."""
 from __future__ import annotations
 
 import dataclasses
@@ -57,7 +58,8 @@ BEHIND = 8
 
 @dataclasses.dataclass
 class Clocked:
-    """What is clocked: the sources with the module that Yosys makes of them, the test, and how many histories from which seed."""
+    """What is clocked: the sources with the module that Yosys makes of them, the test, and how many histories from
+    which seed."""
 
     beside: Beside
     cycles: list[Cycle]

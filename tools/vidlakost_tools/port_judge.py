@@ -1,5 +1,5 @@
-"""A judge of a whole self-test: a module beside it that says in each cycle whether its ports are as the list of its commands wants
-them, and `fail` as the words on `rdata`."""
+"""A judge of a whole self-test: a module beside it that says in each cycle whether its ports are as the list of its
+commands wants them, and `fail` as the words on `rdata`."""
 from __future__ import annotations
 
 from typing import List, Optional
@@ -72,8 +72,8 @@ endmodule
 
 
 def connected(pins: Pins | None, memory: Memory) -> tuple[str, str]:
-    """The pins of the self-test at the ports of the rule, and the wires of those that go out and are active low. A clock of which
-    the falling edge counts is settled before."""
+    """The pins of the self-test at the ports of the rule, and the wires of those that go out and are active low. A
+    clock of which the falling edge counts is settled before."""
     if pins is None:
         return ", ".join(f".{port}({port})" for port in (*INPUTS, *OUTPUTS)), ""
     widths = {port: width for _, port, width in ports_of(memory)}
@@ -93,7 +93,9 @@ def checker(memory: Memory, cycles: list[Cycle], module: str, resets: bool, give
     for cycle, command in enumerate(cycles):
         if command:
             kind, address, word = command
-            commands.append(f"      {cycle}: wanted = {{1'b1, 1'b{int(kind == 'w')}, {wide}'d{address}, {bits}'h{word}}};")
+            commands.append(
+                f"      {cycle}: wanted = {{1'b1, 1'b{int(kind == 'w')}, {wide}'d{address}, {bits}'h{word}}};"
+            )
             if kind == "r":
                 answers.append(f"      {cycle + memory.latency}: answer = {{1'b1, {bits}'h{word}}};")
     return JUDGE.format(

@@ -1,5 +1,5 @@
-"""A case of Yosys' model checker, clocked once more by plain Python from the text of the module: its numbers in the registers at
-first, and its words and resets in each cycle. It shares nothing with Yosys but that text."""
+"""A case of Yosys' model checker, clocked once more by plain Python from the text of the module: its numbers in the
+registers at first, and its words and resets in each cycle. It shares nothing with Yosys but that text."""
 from __future__ import annotations
 
 import dataclasses
@@ -18,8 +18,8 @@ DUT = "dut."
 
 @dataclasses.dataclass
 class Case:
-    """A cycle in which a judge finds something wrong, with the words on `rdata` to it that make it so, the cycles with a reset, and
-    the numbers of further signals in each cycle."""
+    """A cycle in which a judge finds something wrong, with the words on `rdata` to it that make it so, the cycles with
+    a reset, and the numbers of further signals in each cycle."""
 
     cycle: int
     words: List[int]
@@ -36,7 +36,11 @@ def inputs_of(plain: Plain, case: Case) -> Iterator[Numbers]:
     """What comes in in each cycle of a case; what nothing drives comes in too."""
     opens = {name: case.numbers[DUT + name] for name in plain.opens if DUT + name in case.numbers}
     for cycle, word in enumerate(case.words[: case.cycle + 1]):
-        yield {"reset": int(cycle in case.resets), "rdata": word, **{name: found[cycle] for name, found in opens.items()}}
+        yield {
+            "reset": int(cycle in case.resets),
+            "rdata": word,
+            **{name: found[cycle] for name, found in opens.items()},
+        }
 
 
 def ports_at(plain: Plain, case: Case) -> Numbers:

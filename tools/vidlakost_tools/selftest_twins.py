@@ -1,5 +1,5 @@
-"""The part of tools/selftest in which Icarus clocks right sources and their wrong twins by the rule of the ports: what `audit` says
-of each is seen by a simulator too."""
+"""The part of tools/selftest in which Icarus clocks right sources and their wrong twins by the rule of the ports: what
+`audit` says of each is seen by a simulator too."""
 from __future__ import annotations
 
 import pathlib
@@ -14,14 +14,54 @@ from vidlakost_tools.selftest_bench import Bench
 from vidlakost_tools.selftest_judges import FILES, STYLES, TEST, for_ice40, netlist
 from vidlakost_tools.tool import ToolError
 
-RIGHT = ["rows_apart.v", "rows_of_one_word.v", "comment_apart.v", "priority_rows.v", "full.v", "net_on.v", "kept.v", "kept_by_lanes.v"]
-RIGHT += ["list_whole.v", "read_late.v", "counts.v", "minus.v", "signed.v", "member.v", "says.v", "keeps_not.v", "turns.v"]
+RIGHT = [
+    "rows_apart.v",
+    "rows_of_one_word.v",
+    "comment_apart.v",
+    "priority_rows.v",
+    "full.v",
+    "net_on.v",
+    "kept.v",
+    "kept_by_lanes.v",
+]
+RIGHT += [
+    "list_whole.v",
+    "read_late.v",
+    "counts.v",
+    "minus.v",
+    "signed.v",
+    "member.v",
+    "says.v",
+    "keeps_not.v",
+    "turns.v",
+]
 # those that `audit` says to be wrong or unknown; of the last two it warns
-WRONG = ["rows_meet.v", "net_off.v", "counts_on.v", "minus_short.v", "signed_half.v", "member_beyond.v", "pipelined.v", "pipelined_forgets.v"]
+WRONG = [
+    "rows_meet.v",
+    "net_off.v",
+    "counts_on.v",
+    "minus_short.v",
+    "signed_half.v",
+    "member_beyond.v",
+    "pipelined.v",
+    "pipelined_forgets.v",
+]
 WRONG += ["says_not.v", "read_early.v", "delayed.v"]
 # netlists: of generic gates with an asynchronous reset, and of the cells of ice40
-GATES = {"counts.v": "right", "counts_on.v": "wrong", "minus.v": "right", "minus_short.v": "wrong", "signed.v": "right", "signed_half.v": "wrong"}
-ICE40 = {"counts.v": "right", "counts_on.v": "wrong", f"{STYLES}two_processes.v": "right", f"{STYLES}two_processes_forgets.v": "wrong"}
+GATES = {
+    "counts.v": "right",
+    "counts_on.v": "wrong",
+    "minus.v": "right",
+    "minus_short.v": "wrong",
+    "signed.v": "right",
+    "signed_half.v": "wrong",
+}
+ICE40 = {
+    "counts.v": "right",
+    "counts_on.v": "wrong",
+    f"{STYLES}two_processes.v": "right",
+    f"{STYLES}two_processes_forgets.v": "wrong",
+}
 
 
 def clocked(bench: Bench, file: str, options: Dict[str, str], said: str) -> None:

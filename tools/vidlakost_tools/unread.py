@@ -8,10 +8,16 @@ from typing import Iterable, Iterator
 from vidlakost_tools.text import shown
 
 FORMS = [
-    (r"\b(?:unique0?|priority)\s+if\b", "Yosys doesn't read `{0}`; without the first word it says the same to a simulator"),
+    (
+        r"\b(?:unique0?|priority)\s+if\b",
+        "Yosys doesn't read `{0}`; without the first word it says the same to a simulator",
+    ),
     (r"\bimport\s+\w+\s*::", "Yosys doesn't read `{0}`; write the package before each name, as pkg::NAME"),
     (r"\b(?:tri[01]|trireg)\b", "Yosys has no net that pulls ({0}); a choice says what it is while nothing drives it"),
-    (r"\bpull(?:up|down)\b", "Yosys has no gate that pulls ({0}); a choice says what the net is while nothing drives it"),
+    (
+        r"\bpull(?:up|down)\b",
+        "Yosys has no gate that pulls ({0}); a choice says what the net is while nothing drives it",
+    ),
     (r"\bdo\b", "Yosys doesn't read `{0}`; a `for` with a number of turns says the same"),
     (r"\bwhile\b", "Yosys reads `{0}` in constant functions alone; a `for` with a number of turns says the same"),
     (r"\bforeach\b", "Yosys doesn't read `{0}`; a `for` over the places says the same"),
@@ -20,23 +26,41 @@ FORMS = [
     (r"\bfunction\s+(?:automatic\s+)?void\b", "Yosys doesn't read `{0}`; a task says the same"),
     (r"\binside\b", "Yosys doesn't read `{0}`; comparisons with == say the same"),
     (r"[=!]=\?", "Yosys doesn't read {0}; a comparison of the bits that count says the same"),
-    (r"\b(?:logic|reg|wire|bit)(?:\s+(?:un)?signed)?\s*(?:\[[^\]]*\]\s*){2,}(?=\w)", "Yosys reads words of one range ({0}); one word, and parts of it as [i * W +: W], say the same"),
+    (
+        r"\b(?:logic|reg|wire|bit)(?:\s+(?:un)?signed)?\s*(?:\[[^\]]*\]\s*){2,}(?=\w)",
+        "Yosys reads words of one range ({0}); one word, and parts of it as [i * W +: W], say the same",
+    ),
     (r"\bstruct\s*\{", "Yosys reads packed structures alone; write `struct packed {{`"),
     (r"'\{", "Yosys doesn't read {0}; an assignment to each part says the same"),
-    (r"\b(?:int|integer|byte|shortint|longint)\s*'\s*\(", "Yosys doesn't read {0}); a cast to a number of bits, as 32'(x), is read"),
+    (
+        r"\b(?:int|integer|byte|shortint|longint)\s*'\s*\(",
+        "Yosys doesn't read {0}); a cast to a number of bits, as 32'(x), is read",
+    ),
     (r"\{\s*(?:<<|>>)", "Yosys doesn't read {0}; a concatenation of the bits says the same"),
     (r"\w\.(?:next|prev|first|last|num|name)\s*\(\s*\)", "Yosys doesn't read {0}; a case over the names says the same"),
     (r"\blet\b", "Yosys doesn't read `{0}`; a function says the same"),
     (r"\b(?:parameter|localparam)\s+type\b", "Yosys doesn't read `{0}`; a typedef says the same"),
     (r"\biff\b", "Yosys doesn't read `{0}`; an `if` within the block says the same"),
-    (r"\bassign\s*\(\s*(?:(?:strong|pull|weak)[01]|supply[01]|highz[01])\b", "Yosys reads no strengths; a choice says which driver is taken"),
-    (r"\b(?:x?n?or|n?and|not|buf)\s+(?:\w+\s*)?\[", "Yosys doesn't read an array of gates ({0}); an `assign` of the words says the same"),
+    (
+        r"\bassign\s*\(\s*(?:(?:strong|pull|weak)[01]|supply[01]|highz[01])\b",
+        "Yosys reads no strengths; a choice says which driver is taken",
+    ),
+    (
+        r"\b(?:x?n?or|n?and|not|buf)\s+(?:\w+\s*)?\[",
+        "Yosys doesn't read an array of gates ({0}); an `assign` of the words says the same",
+    ),
     (r"\bprimitive\b", "Yosys doesn't read `{0}`; a module with an `assign` or a block says the same"),
-    (r"\b(?:assert|assume|cover)\s+property\s*\(\s*@", "Yosys reads no property of a clock; `ifndef SYNTHESIS round it leaves it to a simulator"),
+    (
+        r"\b(?:assert|assume|cover)\s+property\s*\(\s*@",
+        "Yosys reads no property of a clock; `ifndef SYNTHESIS round it leaves it to a simulator",
+    ),
     (r"\b(?:real|realtime|shortreal|string|event|chandle)\b", "Yosys doesn't read `{0}`, of which no hardware is made"),
     (r"\b(?:fork|wait|deassign|force|release|final)\b", "Yosys doesn't read `{0}`, of which no hardware is made"),
     (r"\buwire\b", "Yosys doesn't read `{0}`; a `wire` is the same"),
-    (r"\b(?:r?[np]mos|r?cmos|r?tran(?:if[01])?)\b", "Yosys has no switches ({0}); a multiplexer says which driver is taken"),
+    (
+        r"\b(?:r?[np]mos|r?cmos|r?tran(?:if[01])?)\b",
+        "Yosys has no switches ({0}); a multiplexer says which driver is taken",
+    ),
 ]
 
 
@@ -48,7 +72,8 @@ def reasons(text: str) -> Iterator[tuple[int, str]]:
 
 
 def reason(sources: Iterable[tuple[str, str]], error: str) -> str | None:
-    """What there is to say of an error, of sources without comments: the form on the line that it names, or else the first of all."""
+    """What there is to say of an error, of sources without comments: the form on the line that it names, or else the
+    first of all."""
     found = [(pathlib.Path(file), line, why) for file, text in sources for line, why in reasons(text)]
     at = re.search(r"([^\s:/]+):(\d+): ERROR", error)
     there = [one for one in found if at and (one[0].name, str(one[1])) == (at[1], at[2])]
@@ -57,13 +82,17 @@ def reason(sources: Iterable[tuple[str, str]], error: str) -> str | None:
 
 def latch(error: str) -> str | None:
     """What there is to say where a block that says to be combinational keeps what a signal is."""
-    match = re.search(r"Latch inferred for signal `\\(?:\S*?\.)?\\?([^\s']+)' from always_comb process `\S*\$proc\$(?:\S*/)?([^\s:/]+):", error)
+    match = re.search(
+        r"Latch inferred for signal `\\(?:\S*?\.)?\\?([^\s']+)' from always_comb process `\S*\$proc\$(?:\S*/)?([^\s:/]+):",
+        error,
+    )
     why = "an always_comb doesn't set it in every branch, and so it would be a latch; give it a default first"
     return f"{match[1]} ({match[2]}): {why}" if match else None
 
 
 def within_parts(said: Iterable[str]) -> Iterator[str]:
-    """What there is to warn of where a name reaches into a part: Yosys takes it for a signal of its own, which nothing drives."""
+    """What there is to warn of where a name reaches into a part: Yosys takes it for a signal of its own, which nothing
+    drives."""
     for line in said:
         match = re.match(r"(?:.*/)?([^\s:/]+:\d+): Warning: Identifier `\\(\S+\.\S+)' is implicitly declared", line)
         if match:
