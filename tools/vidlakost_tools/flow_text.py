@@ -7,6 +7,8 @@ import os
 import pathlib
 import re
 
+from vidlakost_tools import system_text
+from vidlakost_tools.macro_pins import literal
 from vidlakost_tools.memory import Memory
 from vidlakost_tools.clock_mux import chosen_clocks
 from vidlakost_tools.collar_watch import GATES as GATES_DEFINE
@@ -81,15 +83,21 @@ sides = {{ rm -f run_*.log; for part in $(shares); do $(run) +planted +parts=$(P
 # to the cells of a library, where one is named, whose models Yosys makes of their functions; else to gates of its own
 CELLS := $(if $(LIBERTY),$(abspath $(LIBERTY)))
 MACRO_CELLS := $(if $(MACRO_LIBERTY),$(abspath $(MACRO_LIBERTY)))
-# without a library of the macros what they answer has no time, and OpenSTA says so
-untimed = "^Error|port .* not found$(if $(MACRO_CELLS),|^Warning)"
-mapped = $(if $(CELLS),dfflibmap -liberty $(CELLS); abc -liberty $(CELLS); clean)
+# without a library of the macros what they answer has no time, and OpenSTA says so; with one it may tell of the pins of the
+# macros in sta.known alone: those that are tied, and the clocks that the test chooses
+untimed = {{ grep -E "^Error|port .* not found" sta.txt || {{ test -n "$(MACRO_CELLS)" && {{ \
+  grep "^Warning" sta.txt | grep -vE "pins with multiple clocks|unconstrained endpoint" || \
+  grep "^  [^ ]" sta.txt | grep -vxF -f ../sta.known; }}; }}; }}
+# behind that Yosys is told which pins of the cells are outputs, or it would find that nothing drives what they drive
+mapped = $(if $(CELLS),dfflibmap -liberty $(CELLS); abc -liberty $(CELLS); clean; read_liberty -lib -ignore_miss_func $(CELLS))
 counted = stat $(if $(CELLS),-liberty $(CELLS))
 modelled = $(if $(CELLS),read_liberty -ignore_miss_func $(CELLS); write_verilog -noattr cells.v)
+# a flip-flop begins with a bit by chance: gates of a few kinds hand an unknown one on where the module does not
+drawn = sed -i 's/^  reg \\([A-Za-z_0-9]*\\);/  reg \\1 = $$random;/' cells.v
 # the netlist of the module $(1), of the files $(2) beside the boxes $(3): simulated as the module was, but for what is planted
 netlist = yosys -q -p "read_verilog $(SYNTH_MORE) -lib $(3); read_verilog $(SYNTH_MORE) $(2); synth -flatten -top $(1); $(mapped); \
   check -assert; write_verilog -noattr $(1)_gates.v" >gates.log 2>&1 && \
-  $(if $(CELLS),yosys -q -p "$(modelled)" >>gates.log 2>&1,true) || {{ tail -n 5 gates.log; exit 1; }}
+  $(if $(CELLS),yosys -q -p "$(modelled)" >>gates.log 2>&1 && $(drawn),true) || {{ tail -n 5 gates.log; exit 1; }}
 
 reports: {reports} reports.html{testers}
 collars: {collars}
@@ -182,7 +190,7 @@ else
 	  {{ for file in $(CELLS) $(MACRO_CELLS); do echo "read_liberty $$file"; done; \\
 	  printf '%s\\n' "read_verilog {name}_access_gates.v" "link_design {name}_access" "read_sdc {name}_test.sdc" \\
 	  "check_setup -verbose" "report_checks -format summary"; }} >sta.tcl && \\
-	  sta -no_splash -exit sta.tcl >sta.txt 2>&1 && ! grep -E $(untimed) sta.txt || {{ tail -n 5 sta.log sta.txt; exit 1; }}) && \\
+	  sta -no_splash -exit sta.tcl >sta.txt 2>&1 && ! $(untimed) || {{ tail -n 5 sta.log sta.txt; exit 1; }}) && \\
 	  $(call done,$@,{written} $(CELLS) $(MACRO_CELLS) $@); }}
 endif
 """
@@ -326,6 +334,19 @@ class Flow:
             models="".join(f" --model {self.beside(file)}" for file in self.vendors),
             modules=" ".join(modules),
         )
+
+    def known(self) -> str:
+        """The pins of macros of which OpenSTA tells and has to: no path goes to one that is tied, and two clocks to one that the
+        test chooses."""
+        made, found = system_text.Text(self.system), []
+        made.text()
+        for number, placed in enumerate(self.system.collars):
+            macro = f"  self_test.{made.collar_names[number]}.{made.memory_names[number]}"
+            for pin in placed.macro.of("tie"):
+                width = (literal(pin.value) or (1, 0))[0]
+                found += [f"{macro}/{pin.name}", *(f"{macro}/{pin.name}[{bit}]" for bit in range(width))]
+            found += [f"{macro}/{name}" for name in chosen_clocks(placed.macro)]
+        return "\n".join([MARK, *found, ""])
 
     def chips(self) -> list[tuple[str, str]]:
         """The pages for a tester, and the chip file of each."""
