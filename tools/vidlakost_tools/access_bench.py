@@ -29,7 +29,7 @@ module {name}_{kind}_tb;
     begin
       if (test !== 1'b1) $fatal(1, "{name}: test is %b while start is 1", test);
       if (state !== 4'h3 && state !== 4'hf) $fatal(1, "{name}: the state is %b", state);
-      if (failing !== (planted ? {one} << at_unit : {none}))
+      if (failing !== ({wanted_fails}))
         $fatal(1, "{name}: fail is %b, and %0d bits are stuck", failing, planted);
       if (planted && ((wanted ^ got) !== {word_one} << at_bit || whose !== at_unit))
         $fatal(1, "{name}: expected %h and returned %h of %0d, and bit %0d of %0d is wrong", wanted, got, whose, at_bit, at_unit);
@@ -61,8 +61,7 @@ def testbench(target: Target, kind: str, how: str, half: int, declared: str, lin
         top=41 + 2 * target.word,
         over=over(f"{target.name}_{kind}_tb"),
         planted=planted(f"{target.name}_{kind}_tb", sizes(target)),
-        one=f"{target.count}'d1",
-        none=zero(target.count),
+        wanted_fails=target.wanted_fails(),
         word_one=f"{target.word}'d1",
         links=link + target.beside() + target.ends(kind),
         body=body,
@@ -84,6 +83,10 @@ def most(target: Target) -> int:
     return len(it.backgrounds) * (256 * it.words + 64 * it.pause) + 100
 
 
+READ = """      when_read = cycle;
+      wanted = expected;
+      got = returned;
+      whose = {whose};"""
 ACCESS_BODY = """
   initial begin
     repeat (4) @(posedge clk);
@@ -98,12 +101,9 @@ ACCESS_BODY = """
       @(negedge clk);
       state = {{seen, {any}, done, test}};
       failing = fail;
-      when_read = cycle;
-      wanted = expected;
-      got = returned;
-      whose = {whose};
+{read}
       told(round);
-      #3 start = 1'b0;
+{each}      #3 start = 1'b0;
       repeat (8) @(posedge clk);
       if (done !== 1'b0 || seen !== 1'b0 || fail !== {none}) $fatal(1, "{name}: the state stays when start falls");
     end
@@ -117,13 +117,17 @@ def access_bench(target: Target) -> str:
     state = [Port("", "done"), Port("", "fail", target.count), Port("", "seen"), *target.result()]
     declared = "  reg start = 1'b0;\n" + "".join(f"  wire {ranged(port.width)}{port.name};\n" for port in state)
     choice = f", .ignore({zero(target.count)})" if target.is_chip else ""
+    if target.each:
+        choice = ", .ignore(ignored)"
+    read = READ.format(whose=extended("unit", target.unit_bits, 10) if target.is_chip else "10'd0")
     link = f"  {target.name}_access dut({target.bench_links()}.clk(clk), .start(start){choice}, {links(target.ports())},\n"
     link += f"    .test(test), {links(state)});\n"
     body = ACCESS_BODY.format(
         name=target.name,
         most=most(target) + 100,
         any=f"fail != {zero(target.count)}",
-        whose=extended("unit", target.unit_bits, 10) if target.is_chip else "10'd0",
+        read=read,
+        each=target.read_each("access", f"        #1;\n{read}\n"),
         none=zero(target.count),
     )
     return testbench(target, "access", "by a signal of another clock", 5, declared, link, body)

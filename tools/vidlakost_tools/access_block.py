@@ -58,6 +58,8 @@ class Target:
     depth: int | None = None
     identity: int = IDENTITY
     has_sib: bool = False
+    # whether the first failure of each memory is kept, and not that of all alone
+    each: bool = False
 
     @property
     def word(self) -> int:
@@ -132,6 +134,14 @@ class Target:
 
     def ends(self, kind: str) -> str:
         """What looks at both ends of the pins that go through the module under test, which is of this kind."""
+        return ""
+
+    def wanted_fails(self) -> str:
+        """The bits of fail that a testbench has to see."""
+        return f"planted ? {self.count}'d1 << at_unit : {zero(self.count)}"
+
+    def read_each(self, kind: str, read: str) -> str:
+        """What a testbench does to read the first failure of each memory; `read` are the statements that read what is told."""
         return ""
 
     def how_planted(self) -> str:
@@ -228,8 +238,57 @@ def returned_of(target: Target, number: int) -> str:
     return extended(f"answer{unit.suffix}", unit.memory.bits, target.word)
 
 
+def of_each(target: Target) -> list[str]:
+    """The registers of the first failure of each memory, and the choice of that which is told: the first one by its number that
+    failed and is not to be ignored. What is chosen stands still, so that ignore may be of any clock and change behind done."""
+    words = [(f"cycle_{at}", 32, "count") for at in range(target.count)]
+    for at, unit in enumerate(target.units):
+        bits, suffix = unit.memory.bits, unit.suffix
+        words += [(f"expected_{at}", bits, f"want{suffix}_{unit.memory.latency + 1}"), (f"returned_{at}", bits, f"answer{suffix}")]
+    lines = [f"  reg {ranged(width)}{name};" for name, width, _ in words]
+    lines += [
+        f"  reg {ranged(target.count)}kept;",
+        "  always @(posedge clk)",
+        "    if (!test) begin",
+        "      count <= 32'd0;",
+        "      done <= 1'b0;",
+        f"      failed <= {zero(target.count)};",
+        f"      kept <= {zero(target.count)};",
+        *(f"      {name} <= {zero(width)};" for name, width, _ in words),
+        "    end else begin",
+        "      count <= over ? count : count + 32'd1;",
+        "      done <= over;",
+        "      failed <= fail;",
+        "      kept <= kept | rises;",
+    ]
+    for at in range(target.count):
+        bit = f"rises[{at}]" if target.count > 1 else "rises"
+        lines.append(f"      if ({bit}) begin")
+        lines += [f"        {name} <= {value};" for name, _, value in words if name.rsplit("_", 1)[1] == str(at)]
+        lines.append("      end")
+    return [*lines, "    end", *told_of_each(target)]
+
+
+def told_of_each(target: Target) -> list[str]:
+    """Which of them is told."""
+    count, bits, last = target.count, target.unit_bits, target.count - 1
+    chosen_unit = "".join(f"open[{at}] ? {bits}'d{at} : " for at in range(last)) if count > 1 else ""
+    found = [
+        f"  wire {ranged(count)}open = kept & ~ignore;",
+        f"  assign seen = open != {zero(count)};",
+        f"  assign unit = {chosen_unit}{bits}'d{last};",
+    ]
+    for name, width in (("cycle", 32), ("expected", target.word), ("returned", target.word)):
+        of = [extended(f"{name}_{at}", width if name == "cycle" else unit.memory.bits, width) for at, unit in enumerate(target.units)]
+        choice = "".join(f"unit == {bits}'d{at} ? {one} : " for at, one in enumerate(of[:-1]))
+        found.append(f"  assign {name} = {choice}{of[-1]};")
+    return found
+
+
 def capture(target: Target) -> list[str]:
     """The registers of the first failure: they are written once, and hold until `test` falls."""
+    if target.each:
+        return of_each(target)
     values = [
         ("seen", 1, "1'b1"),
         ("cycle", 32, "count"),
@@ -278,10 +337,13 @@ def access(target: Target) -> str:
             "\n//   unit       whose failure it is"
             "\n//   ignore     a bit for each unit whose failures are not kept; it stays as it is while start is 1"
         )
+        if target.each:
+            about = about.replace("whose failures are not kept; it stays as it is while start is 1", "of whose failure nothing is told")
+            about = about.replace("whose failure it is", "whose failure it is: the first one, by its number, that failed")
     state = [Port("output", name) for name in ("test", "done", "fail", "seen")]
     state[2].width = target.count
     ports = [Port("input", "clk"), Port("input", "start"), *target.choice(), *target.ports(), *state, *target.result()]
-    kept = ("done", "seen", *(port.name for port in target.result()))
+    kept = ("done",) if target.each else ("done", "seen", *(port.name for port in target.result()))
     declared, moved = [], []
     for unit in target.units:
         more = pipeline(unit)
@@ -297,7 +359,7 @@ def access(target: Target) -> str:
         *declared,
         *([f"  reg {ranged(target.count)}failed;", f"  wire {ranged(target.count)}rises;"] if target.is_chip else []),
         "  assign test = start_2;",
-        *(["  assign rises = fail & ~failed & ~ignore;"] if target.is_chip else []),
+        *([f"  assign rises = fail & ~failed{'' if target.each else ' & ~ignore'};"] if target.is_chip else []),
         *target.self_test(),
         "  always @(posedge clk) begin",
         "    start_1 <= start;",

@@ -77,6 +77,7 @@ def registers(target: Target) -> list[Register]:
     bits = target.unit_bits
     whose = Field("unit", 0, bits, f"(is_seen ? unit : {zero(bits)})", "whose failure it is")
     loose = "a bit for each unit whose failures are not kept; it stays while START is 1"
+    loose = "a bit for each unit of whose failure nothing is told" if target.each else loose
     begin = Field("start", 0, 1, "want", "1 starts a test and keeps what it found; 0 ends it")
     return [
         Register("CONTROL", 0x00, [begin], True),
@@ -302,10 +303,8 @@ BODY = """
         if (waited > {most}) $fatal(1, "{name}: done did not come");
       end
       state = heard[3:0];
-{fails}      get(12'h010);
-      when_read = heard;
-{words}      told(round);
-{log}      put(12'h000, 32'd0);
+{fails}{read}      told(round);
+{each}{log}      put(12'h000, 32'd0);
     end
     """ + FINISH + """
   end
@@ -351,6 +350,8 @@ def bench(target: Target) -> str:
     # with a log the first address behind the window, or behind an entry of it
     beyond = "12'h028" if target.depth is None else f"12'h{0x800 + 32 * target.depth:x}" if target.depth < 64 else "12'hff4"
     log = log_window.apb_reads(target)
-    body = BODY.format(name=target.name, most=most(target), fails=read_fails(target), words=words, beyond=beyond, log=log)
+    read = f"      get(12'h010);\n      when_read = heard;\n{words}"
+    each = target.read_each("apb", read)
+    body = BODY.format(name=target.name, most=most(target), fails=read_fails(target), read=read, each=each, beyond=beyond, log=log)
     declared += log_window.APB_DECLARED if target.depth else ""
     return testbench(target, "apb", "by an APB3 bus", 5, declared, link, body)

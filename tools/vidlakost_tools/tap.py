@@ -179,6 +179,10 @@ def block(target: Target) -> str:
 
 # ---- the testbench
 
+READ = """      when_read = heard[35:4];
+      wanted = heard{wanted};
+      got = heard{got};
+      whose = {whose};"""
 BENCH = """
   reg [{top}:0] heard;
   task turn(input new_tms, input new_tdi);
@@ -245,12 +249,9 @@ BENCH = """
       end
       state = heard[3:0];
       failing = heard{failing};
-      when_read = heard[35:4];
-      wanted = heard{wanted};
-      got = heard{got};
-      whose = {whose};
+{read}
       told(round);
-      if (round == 0) $display("tdr {digits}", heard{whole});
+{each}      if (round == 0) $display("tdr {digits}", heard{whole});
 {log}      shift({scan}, {stopped});
     end
     """ + FINISH + """
@@ -268,7 +269,12 @@ def bench(target: Target) -> str:
     scan = network.whole(target, size)
     width = max(scan, log_window.scan_length(target) if target.depth else 0)
     link = f"  {target.name}_tap dut({target.bench_links()}{links(pins())},\n    .clk(clk), {links(target.ports())}, .test(test));\n"
+    whose = extended(f"heard{at['unit']}", target.unit_bits, 10) if target.is_chip else "10'd0"
+    read = READ.format(wanted=at["expected"], got=at["returned"], whose=whose)
+    again = f"            shift({length(target)}, {{ignored, {length(target) - target.count}'d1}});\n" * 2
     body = BENCH.format(
+        read=read,
+        each=target.read_each("tap", read).replace("        shift_ignored;\n", again),
         name=target.name,
         top=width - 1,
         width=width,
@@ -282,9 +288,6 @@ def bench(target: Target) -> str:
         identity=target.identity,
         most=most(target),
         failing=at["failing" if target.is_chip else "fail"],
-        wanted=at["expected"],
-        got=at["returned"],
-        whose=extended(f"heard{at['unit']}", target.unit_bits, 10) if target.is_chip else "10'd0",
         digits="%h",
     )
     return testbench(target, "tap", "by JTAG", 5, declared, link, body)
