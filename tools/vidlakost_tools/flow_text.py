@@ -86,7 +86,7 @@ MACRO_CELLS := $(if $(MACRO_LIBERTY),$(abspath $(MACRO_LIBERTY)))
 # without a library of the macros what they answer has no time, and OpenSTA says so; with one it may tell of the pins of the
 # macros in sta.known alone: those that are tied, and the clocks that the test chooses
 untimed = {{ grep -E "^Error|port .* not found" sta.txt || {{ test -n "$(MACRO_CELLS)" && {{ \
-  grep "^Warning" sta.txt | grep -vE "pins with multiple clocks|unconstrained endpoint" || \
+  grep "^Warning" sta.txt | grep -vE "pins? with multiple clocks|unconstrained endpoint" || \
   grep "^  [^ ]" sta.txt | grep -vxF -f ../sta.known; }}; }}; }}
 # behind that Yosys is told which pins of the cells are outputs, or it would find that nothing drives what they drive
 mapped = $(if $(CELLS),dfflibmap -liberty $(CELLS); abc -liberty $(CELLS); clean; read_liberty -lib -ignore_miss_func $(CELLS))
