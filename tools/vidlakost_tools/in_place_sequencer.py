@@ -5,6 +5,7 @@ from __future__ import annotations
 import dataclasses
 
 from vidlakost_tools.access_block import Port, Target, Unit, header, zero
+from vidlakost_tools.collar_planted import also
 from vidlakost_tools.collar_text import PLANTED, last_phase
 from vidlakost_tools.in_place_text import CYCLE
 from vidlakost_tools.soc import Placed, System, groups_of
@@ -233,8 +234,7 @@ class Sequencer:
         for number in range(self.count):
             value = f"{{{self.bit('steps', number)}, {self.bit('begun', number)}}}"
             probe = f"probe[{2 * number + 1}:{2 * number}]"
-            lines += [f"`ifdef {PLANTED}", f"  assign to_{number} = probed ? {probe} : {value};"]
-            lines += ["`else", f"  assign to_{number} = {value};", "`endif"]
+            lines += also(f"  assign to_{number} = {value}", f"& {{2{{~probed}}}} | {{2{{probed}}}} & {probe}")
         return lines
 
     def synchronised(self) -> list[str]:

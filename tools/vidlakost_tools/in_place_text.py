@@ -121,13 +121,7 @@ class InPlace:
         names, last = self.names, length_of(self.word) - 1
         told = f"{names.of('end_3')} ? {names.of('first')}[{last}] : {names.of('test')}"
         value = f"{{{told}, {names.of('failed')} & ~{names.of('step_3')}, {names.of('end_2')}}}"
-        return [
-            f"`ifdef {PLANTED}",
-            f"  assign bist_out = probed ? probe : {value};",
-            "`else",
-            f"  assign bist_out = {value};",
-            "`endif",
-        ]
+        return collar_planted.also(f"  assign bist_out = {value}", "& {3{~probed}} | {3{probed}} & probe")
 
     def planted(self) -> list[str]:
         """What a testbench sets inside."""
