@@ -17,13 +17,13 @@ LINKS = "LF"
 TITLE = """
 ## What papers say
 
-What the authors of some marches say that these cover, beside the verdicts. Where the two differ, the last column has the least array in which the march passes, as the report has it. The texts of March RAW, March RAW1, March SL, March ABL and IFA-13n are written from memory, and may not be those of their authors.
+What the authors of some marches say that these cover, beside the verdicts. Where the two differ, the last column has the least array in which the march passes, as in the report. The texts of March RAW, March RAW1, March SL, March ABL and IFA-13n are written from memory, and may not be those of their authors.
 
 | March | Said to cover | Covered | Escape |
 |---|---|---|---|
 """
 NOTE = """
-March RAW misses a primitive at the border of two elements. Where its first element goes down, that ends with a write of 0 at address 0, and the next element begins there with a read of 0. The two act together: the cell goes to 1, and the read still answers 0. The write of 0 that comes next repairs it. In the element that ends there later, the aggressor above holds 1. With `up(w0)` as its first element March RAW covers all 24.
+March RAW misses a primitive at the border of two elements. If its first element goes down, it ends with a write of 0 at address 0, and the next element begins there with a read of 0. The two act together: the cell goes to 1, and the read still answers 0. The next write of 0 repairs it. In the element that ends there later, the aggressor above holds 1. With `up(w0)` as its first element March RAW covers all 24.
 """
 
 

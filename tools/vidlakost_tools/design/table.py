@@ -24,13 +24,13 @@ TITLE = "## Shortest marches"
 INTRODUCTION = f"""
 {TITLE}
 
-How short a march of a list can be, as `vidlakost design` finds it: `examples/shortest` has the marches, each of which the program says to cover its list. Where the length is the least one, the search tried all shorter marches, and none covers the static primitives of the list and what it loses over pauses. That is a test of the search, and not a proof. Elsewhere the table has the shortest march that was found, and how long one is at least. AF has the faults of the address decoder, LF the linked faults. The last column has the shortest march of the literature that is here and covers the same.
+How short a march of a list can be, as `vidlakost design` finds it. `examples/shortest` has the marches; the program says of each that it covers its list. Where the length is the least one, the search tried all shorter marches, and none covers the static primitives of the list and what it loses over pauses. That is a test of the search, and not a proof. Elsewhere the table has the shortest march that was found, and how long one is at least. AF has the faults of the address decoder, LF the linked faults. The last column has the shortest march of the literature here that covers the same.
 
 | List | Length | At least | March | Of the literature |
 |---|---|---|---|---|
 """
 SAME = """
-The next table has for each march of the literature the shortest one that was found to cover the same unlinked faults: static, over a pause, of two operations, and of the address decoder where all five are. Several of these marches were made for linked faults or stuck-open cells, which no list has, and a shorter one then loses what they were made for.
+The next table has, for each march of the literature, the shortest one that was found to cover the same unlinked faults: static, over a pause, of two operations, and of the address decoder where all five are. Several of these marches were made for linked faults or stuck-open cells, which no list has. A shorter one then loses what they were made for.
 
 | March | Length | Shortest | At least | March of the same |
 |---|---|---|---|---|
