@@ -147,7 +147,7 @@ CALLS: List[Tuple[str, List[str], int, str, str]] = [
     ("", ["tools/hold", "blind.m", "pause.mem", "holds"], 0, "holds/p_hold.v", "hold: no pause is followed by a read"),
     ("", ["tools/hold", "c.m", "pause.mem", "holds"], 2, "", "hold: c.m: the march has no pause"),
     ("", ["tools/hold", "hold.m", "pause.mem", "mine"], 2, "", "hold: mine/p_hold.v is there and was not written by vidlakost"),
-    ("", ["tools/flow", "two.chip", "flow"], 0, "flow/Makefile\nflow/faults.list\n", ""),
+    ("", ["tools/flow", "two.chip", "flow"], 0, "flow/Makefile\nflow/sta.known\nflow/faults.list\n", ""),
     ("", ["tools/flow", "two.chip", "s.pins", "t.pins", "flow", "--list", "tf.list"], 0, "flow/Makefile\n", ""),
     ("", ["tools/flow", "two.chip", "s.pins", "t.pins", "mine"], 2, "", "flow: mine/Makefile is there and was not written by"),
     ("", ["tools/flow", "apart.chip", "flow"], 2, "", "flow: apart.chip: lo and hi are parts of one word"),
