@@ -222,16 +222,16 @@ def of_several(bench: Bench) -> None:
     if not shutil.which("iverilog"):
         return
     (bench.folder / "several").mkdir()
-    (bench.folder / "wide.mem").write_text("memory 1\nname wide\nwords 4\nbits 7\n")
-    units = "unit 2 access.m late.mem\nunit 2 access.m wide.mem\n"
-    (bench.folder / "two.chip").write_text(f"chip 1\nname two\nbudget 3\n{units}")
-    bench.run(["./vidlakost", "chip", "two.chip", "several/two.v"])
-    done = bench.run(["tools/access", "two.chip", "several", "--jtag", "--sib", "--log", "4"])
+    (bench.folder / "taps.mem").write_text("memory 1\nname wide\nwords 4\nbits 7\n")
+    units = "unit 2 access.m late.mem\nunit 2 access.m taps.mem\n"
+    (bench.folder / "taps.chip").write_text(f"chip 1\nname two\nbudget 3\n{units}")
+    bench.run(["./vidlakost", "chip", "taps.chip", "several/two.v"])
+    done = bench.run(["tools/access", "taps.chip", "several", "--jtag", "--sib", "--log", "4"])
     bench.is_so(not done.returncode, f"several: {done.stderr}")
     files = "two_tap_tb.sv two_tap.v two_sib.v two_cross.v two_access.v late_log.v wide_log.v two_model.v two.v"
     passed(bench, "several", files, "two_tap_tb", "", "fail 00\n")
     read = passed(bench, "several", files, "two_tap_tb", "+planted +unit=1 +address=2 +bit=6 +value=1", "unit 1 cycle ")
-    told = bench.run(["tools/locate", "two.chip", "--chip", "--tdr", read]).stdout
+    told = bench.run(["tools/locate", "taps.chip", "--chip", "--tdr", read]).stdout
     bench.is_so("fail 1 wide\n" in told and "address 2\nbits 6\n" in told, f"several: {told}")
     bench.run(["tools/top", JOINS, *PINS, "joined", "--access"])
     done = bench.run(["tools/access", JOINS, *PINS, "joined", "--jtag", "--sib"])
@@ -263,8 +263,8 @@ def by_openocd(bench: Bench, folder: str) -> None:
     said = played(bench, "source late_log.tcl; run_and_read", ["0", "3", "0", "1"], folder)
     holds = "\nmore\n" in said and said.count("cycle ") == 3
     bench.is_so(holds, f"openocd, the log behind segment insertion bits: {said}")
-    (bench.folder / "late.log").write_text(said)
-    told = bench.run(["tools/bitmap", "late.log", "access.m", "late.mem"]).stdout
+    (bench.folder / "taps.log").write_text(said)
+    told = bench.run(["tools/bitmap", "taps.log", "access.m", "late.mem"]).stdout
     bench.is_so("index 6 address 3 bit 0 wrong 3" in told, f"openocd, the log: {said}{told}")
 
 
