@@ -75,12 +75,12 @@ def faults(folder: pathlib.Path) -> list[Figure]:
 
 def interop(folder: pathlib.Path) -> list[Figure]:
     """Modules and chips in Icarus, Verilator and Yosys."""
-    return counted("tools/interop")
+    return counted("dev/interop")
 
 
 def foreign(folder: pathlib.Path) -> list[Figure]:
     """`check` beside its plain model, on the modules of random marches and memories, as they are and changed."""
-    return counted("tools/foreign", "--random", "700")
+    return counted("dev/foreign", "--random", "700")
 
 
 def formal(folder: pathlib.Path) -> list[Figure]:
@@ -105,7 +105,7 @@ def sources(folder: pathlib.Path) -> list[Figure]:
 
 def selftest(folder: pathlib.Path) -> list[Figure]:
     """Right, wrong and hostile input for the launcher and the tools."""
-    return counted("tools/selftest")
+    return counted("python3 -m tests.integration")
 
 
 def gate(folder: pathlib.Path) -> list[Figure]:

@@ -6,7 +6,7 @@ import sys
 
 from measures import flow
 from measures.parts import MATS, ROOT, SS, C, Figure, Skipped, asked, memory_text, timed, want, write
-from vidlakost_tools.yosys import gates_of
+from vidlakost_tools.verilog.yosys import gates_of
 
 PAUSED = "{any(w0);del;any(r0,w1);del;any(r1)}"
 GRAY = "".join(f"scramble a{i} = p{i} ^ p{i + 1}\n" for i in range(9)) + "scramble a9 = p9 ^ 1\n"

@@ -8,31 +8,30 @@ from vidlakost_tools.program import ROOT, command_table
 from vidlakost_tools.text import read_text
 
 TOOLS = ROOT / "tools"
-# what the repository itself uses
-INNER = ["selftest", "guide", "gallery", "pictures", "interop", "manual", "trusted", "unproved"]
+# names that a tool had before
+OLD = {"replay": "trace"}
 TASKS = {
     "To begin with": ["judge", "compile", "bench", "show", "explain"],
-    "Marches and their escapes": ["explore", "design", "decoder", "linked", "inword", "sim", "replay", "trace", "report", "compare"],
+    "Marches and their escapes": ["explore", "design", "decoder", "linked", "inword", "sim", "trace", "report", "compare"],
     "A module beside its memory": [
         "vectors", "benchfault", "benchall", "testbench", "locate", "turn", "liberty", "collar", "hold", "summary",
     ],
-    "Modules of others": ["audit", "check", "benchfile", "plain", "formal", "foreign"],
+    "Modules of others": ["audit", "check", "benchfile", "plain", "formal"],
     "Chips": ["chip", "schedule", "top", "places", "flow"],
     "Start, watch, diagnose": ["access", "sdc", "bitmap", "diagnosis", "share", "vhdl"],
     "Handing it on": ["release", "make"],
-    "What the repository itself uses": INNER,
 }
 
 
 def tools() -> list[str]:
-    """The tools that are here."""
+    """The tools that are here, by their own names."""
     names = sorted(path.name for path in TOOLS.iterdir() if path.is_file() and os.access(path, os.X_OK))
-    return [name for name in names if re.fullmatch("[a-z]+", name)]
+    return [name for name in names if re.fullmatch("[a-z]+", name) and name not in OLD]
 
 
 def doc_of(tool: str) -> str:
     """The description at the head of a tool."""
-    found = re.search(r'^"""(.*?)"""', read_text(TOOLS / tool), re.MULTILINE | re.DOTALL)
+    found = re.search(r'^"""(.*?)"""', read_text(TOOLS / "vidlakost_tools" / "commands" / f"{OLD.get(tool, tool)}.py"), re.MULTILINE | re.DOTALL)
     return found[1] if found else ""
 
 
@@ -51,4 +50,4 @@ def by_task() -> list[tuple[str, list[str]]]:
     listed = [(title, [name for name in names if name in known]) for title, names in TASKS.items()]
     named = {name for _, names in listed for name in names}
     rest = [name for name in known if name not in named]
-    return [(title, names) for title, names in [*listed[:-1], ("Further", rest), listed[-1]] if names]
+    return [(title, names) for title, names in [*listed, ("Further", rest)] if names]

@@ -197,7 +197,7 @@ def tell(line: str) -> None:
 def explain(words: list[str], said: str, status: int) -> None:
     """The explanation of a refusal on standard error, unless VIDLAKOST_EXPLAIN=0 asks for silence."""
     if os.environ.get("VIDLAKOST_EXPLAIN") != "0":
-        from vidlakost_tools import diagnose
+        from vidlakost_tools.refusals import explained as diagnose
 
         for line in diagnose.lines(words, said, status):
             tell(line)

@@ -4,18 +4,18 @@ from __future__ import annotations
 import dataclasses
 from typing import List, Optional
 
-from vidlakost_tools.decoder import decoded
 from vidlakost_tools.design import backgrounds
 from vidlakost_tools.design.finder import Finder
 from vidlakost_tools.design.parts import Part, elements_from, text_of
 from vidlakost_tools.design.wishes import Clock, Words
-from vidlakost_tools.in_word import judged_in_word
-from vidlakost_tools.linked import linked
-from vidlakost_tools.march import Element
-from vidlakost_tools.memory import read_memory, with_backgrounds
 from vidlakost_tools.program import with_text
-from vidlakost_tools.report import judged
 from vidlakost_tools.text import read_described
+from vidlakost_tools.texts.decoder import decoded
+from vidlakost_tools.texts.in_word import judged_in_word
+from vidlakost_tools.texts.linked import linked
+from vidlakost_tools.texts.march import Element
+from vidlakost_tools.texts.memory import read_memory, with_backgrounds
+from vidlakost_tools.texts.report import judged
 from vidlakost_tools.tool import telling
 
 

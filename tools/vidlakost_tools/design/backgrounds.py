@@ -8,10 +8,10 @@ import math
 import random
 from typing import Dict, List, Sequence, Tuple
 
-from vidlakost_tools.faults import Primitive, read_primitive
-from vidlakost_tools.in_word import CONTENTS, Couple
-from vidlakost_tools.march import Element
-from vidlakost_tools.memory import Memory, logarithmic
+from vidlakost_tools.texts.faults import Primitive, read_primitive
+from vidlakost_tools.texts.in_word import CONTENTS, Couple
+from vidlakost_tools.texts.march import Element
+from vidlakost_tools.texts.memory import Memory, logarithmic
 
 # how many changes of a column a walk tries, times the bits of a word
 CHANGES = 240_000

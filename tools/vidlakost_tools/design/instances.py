@@ -5,7 +5,7 @@ import dataclasses
 import itertools
 from typing import Iterable, Optional, Sequence
 
-from vidlakost_tools.faults import Primitive, read_primitive
+from vidlakost_tools.texts.faults import Primitive, read_primitive
 
 # a read expects what was written last, so its bit need not be said
 READ = "r"

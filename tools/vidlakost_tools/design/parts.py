@@ -7,7 +7,7 @@ from typing import Iterator, List, NamedTuple, Sequence
 
 from vidlakost_tools.design.instances import READ, left_by
 from vidlakost_tools.design.survivors import Operations, Survivors, bare
-from vidlakost_tools.march import Element
+from vidlakost_tools.texts.march import Element
 
 
 class Part(NamedTuple):

@@ -7,7 +7,7 @@ from vidlakost_tools.design.answers import Answers, Said
 from vidlakost_tools.design.finder import Progress
 from vidlakost_tools.design.parts import Parts, elements_from, text_of
 from vidlakost_tools.design.wishes import Clock
-from vidlakost_tools.march import Element, length_of
+from vidlakost_tools.texts.march import Element, length_of
 from vidlakost_tools.tool import tell
 
 CLEAR = "\r\033[K"

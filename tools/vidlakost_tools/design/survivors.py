@@ -9,7 +9,7 @@ import itertools
 from typing import Callable, Dict, List, Sequence, Tuple
 
 from vidlakost_tools.design.instances import READ, DecoderInstance, Instance, left_by
-from vidlakost_tools.march import Element
+from vidlakost_tools.texts.march import Element
 
 Operations = Tuple[str, ...]
 # the instances whose victim may hold what it has to, those whose may hold the other bit, and the same of those that wait

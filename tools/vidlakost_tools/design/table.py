@@ -6,12 +6,12 @@ import functools
 import pathlib
 from typing import Iterator, List, Sequence, Set
 
-from vidlakost_tools.decoder import decoded
-from vidlakost_tools.linked import linked
-from vidlakost_tools.march import elements_of, length_of
 from vidlakost_tools.program import ROOT, with_text
-from vidlakost_tools.report import Report, judged
 from vidlakost_tools.text import lines_of, read_text
+from vidlakost_tools.texts.decoder import decoded
+from vidlakost_tools.texts.linked import linked
+from vidlakost_tools.texts.march import elements_of, length_of
+from vidlakost_tools.texts.report import Report, judged
 from vidlakost_tools.tool import ToolError
 
 FILE = ROOT / "examples" / "shortest"

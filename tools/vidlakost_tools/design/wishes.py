@@ -9,13 +9,13 @@ from vidlakost_tools.design.finder import Wish
 from vidlakost_tools.design.instances import Instance, decoder_instances, instances_of, linked_instances
 from vidlakost_tools.design.parts import Limits, Parts, parts_of, text_of
 from vidlakost_tools.design.reach import ENOUGH, can_cover
-from vidlakost_tools.in_word import judged_in_word
-from vidlakost_tools.linked import linked
-from vidlakost_tools.march import march_of
-from vidlakost_tools.memory import Memory, read_memory
 from vidlakost_tools.program import ROOT, with_text
-from vidlakost_tools.report import judged
 from vidlakost_tools.text import shown
+from vidlakost_tools.texts.in_word import judged_in_word
+from vidlakost_tools.texts.linked import linked
+from vidlakost_tools.texts.march import march_of
+from vidlakost_tools.texts.memory import Memory, read_memory
+from vidlakost_tools.texts.report import judged
 from vidlakost_tools.tool import ToolError, number_of
 
 # a march that any reader takes, for calls that ask about a list alone

@@ -9,8 +9,8 @@ from vidlakost_tools.diagnosis import addressing, cells, lines
 from vidlakost_tools.diagnosis.candidate import Candidate, Log
 from vidlakost_tools.diagnosis.cells import Fault
 from vidlakost_tools.diagnosis.evidence import Evidence, Test
-from vidlakost_tools.march import Element
-from vidlakost_tools.memory import Memory
+from vidlakost_tools.texts.march import Element
+from vidlakost_tools.texts.memory import Memory
 
 # of how many wrong cells each is looked at by itself, and how many candidates are told apart
 ALONE, APART = 8, 200

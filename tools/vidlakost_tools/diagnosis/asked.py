@@ -4,17 +4,17 @@ from __future__ import annotations
 import dataclasses
 from typing import Any, List, Sequence, Tuple
 
-from vidlakost_tools.chip import read_chip
+from vidlakost_tools.access.log import read_log
 from vidlakost_tools.diagnosis.cells import Fault
 from vidlakost_tools.diagnosis.evidence import Evidence, Test, evidence_of
-from vidlakost_tools.fail_log import read_log
-from vidlakost_tools.march import Element, march_of
-from vidlakost_tools.memory import Memory, read_memory
+from vidlakost_tools.diagnosis.tester import check_expected
 from vidlakost_tools.program import with_text
-from vidlakost_tools.reads import Read
-from vidlakost_tools.report import judged
-from vidlakost_tools.tester import check_expected
 from vidlakost_tools.text import Path
+from vidlakost_tools.texts.chip import read_chip
+from vidlakost_tools.texts.march import Element, march_of
+from vidlakost_tools.texts.memory import Memory, read_memory
+from vidlakost_tools.texts.reads import Read
+from vidlakost_tools.texts.report import judged
 from vidlakost_tools.tool import ToolError, number_of, usage_of
 
 # what is looked for where no list is given: all static primitives, and losses over a pause

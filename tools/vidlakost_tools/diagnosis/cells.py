@@ -8,8 +8,8 @@ from typing import FrozenSet, Iterator, Sequence, Tuple
 
 from vidlakost_tools.diagnosis.candidate import Candidate, Log, Shape
 from vidlakost_tools.diagnosis.evidence import Evidence, Pass, Test
-from vidlakost_tools.faults import Array, Primitive, read_primitive
-from vidlakost_tools.in_word import CONTENTS, Couple
+from vidlakost_tools.texts.faults import Array, Primitive, read_primitive
+from vidlakost_tools.texts.in_word import CONTENTS, Couple
 
 
 @dataclasses.dataclass(frozen=True)

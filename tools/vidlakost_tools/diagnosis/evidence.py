@@ -5,10 +5,10 @@ import bisect
 import dataclasses
 from typing import Dict, Sequence, Tuple
 
-from vidlakost_tools.fail_log import Entry
-from vidlakost_tools.march import Element
-from vidlakost_tools.memory import Memory
-from vidlakost_tools.reads import Read, read_of, spans
+from vidlakost_tools.access.log import Entry
+from vidlakost_tools.texts.march import Element
+from vidlakost_tools.texts.memory import Memory
+from vidlakost_tools.texts.reads import Read, read_of, spans
 
 # of the reads of a word that are wrong, by their number, the bits that are
 Wrong = Dict[int, int]

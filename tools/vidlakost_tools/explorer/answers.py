@@ -13,18 +13,20 @@ import re
 import tempfile
 from typing import Any, Callable, Dict, Sequence
 
-from vidlakost_tools import cycles_picture, decoder, diagnose, in_word, linked, reasons
-from vidlakost_tools.decoder import DecoderReport, DecoderVerdict, decoded
 from vidlakost_tools.explorer.caught import Catch, catches
-from vidlakost_tools.faults import Step
-from vidlakost_tools.finding import CLASSES, SHOWN, Trier, word_start
-from vidlakost_tools.linked import LinkedReport, LinkedStep, LinkVerdict
-from vidlakost_tools.march import Element, length_of, march_of
-from vidlakost_tools.memory import Memory, read_memory
-from vidlakost_tools.old_names import apart
+from vidlakost_tools.pages import cycles_picture
 from vidlakost_tools.program import FORMATS, ROOT, ask, is_proved, run, settle, version, with_text
-from vidlakost_tools.report import Report, Verdict, judged, read_report
+from vidlakost_tools.refusals import explained as diagnose
+from vidlakost_tools.refusals.finding import CLASSES, SHOWN, Trier, word_start
 from vidlakost_tools.text import lines_of, read_text
+from vidlakost_tools.texts import decoder, in_word, linked, reasons
+from vidlakost_tools.texts.decoder import DecoderReport, DecoderVerdict, decoded
+from vidlakost_tools.texts.faults import Step
+from vidlakost_tools.texts.linked import LinkVerdict, LinkedReport, LinkedStep
+from vidlakost_tools.texts.march import Element, length_of, march_of
+from vidlakost_tools.texts.memory import Memory, read_memory
+from vidlakost_tools.texts.old_names import apart
+from vidlakost_tools.texts.report import Report, Verdict, judged, read_report
 from vidlakost_tools.tool import Refused
 
 # an object of JSON

@@ -4,9 +4,9 @@ from __future__ import annotations
 import dataclasses
 from typing import Iterator, List
 
-from vidlakost_tools.faults import Step
-from vidlakost_tools.march import Element
-from vidlakost_tools.report import Verdict
+from vidlakost_tools.texts.faults import Step
+from vidlakost_tools.texts.march import Element
+from vidlakost_tools.texts.report import Verdict
 
 CONTENT = "00"
 WAYS = {"up": "u", "down": "d", "any": "u", "del": "u"}

@@ -8,16 +8,16 @@ import json
 import pathlib
 import re
 
-from vidlakost_tools.decoder import DecoderReport, decoded
 from vidlakost_tools.explorer import answers
 from vidlakost_tools.explorer.answers import Object
 from vidlakost_tools.explorer.caught import catches
 from vidlakost_tools.explorer.server import Page
-from vidlakost_tools.in_word import InWordReport
-from vidlakost_tools.linked import LinkedReport, linked
-from vidlakost_tools.memory import parse_memory
-from vidlakost_tools.report import Report, judged
 from vidlakost_tools.text import read_text
+from vidlakost_tools.texts.decoder import DecoderReport, decoded
+from vidlakost_tools.texts.in_word import InWordReport
+from vidlakost_tools.texts.linked import LinkedReport, linked
+from vidlakost_tools.texts.memory import parse_memory
+from vidlakost_tools.texts.report import Report, judged
 from vidlakost_tools.tool import Refused
 
 PAGE = pathlib.Path(__file__).resolve().parent / "page"

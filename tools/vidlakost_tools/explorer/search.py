@@ -16,8 +16,8 @@ from typing import Any, Optional
 from vidlakost_tools import program
 from vidlakost_tools.explorer import search_run
 from vidlakost_tools.explorer.answers import Folder, Object, Wrong, refusable, text_in
-from vidlakost_tools.march import march_of
-from vidlakost_tools.report import judged
+from vidlakost_tools.texts.march import march_of
+from vidlakost_tools.texts.report import judged
 
 LETTERS = "ABCD"
 # how long a process may still run behind its own bound, and how much it may say

@@ -18,8 +18,8 @@ from vidlakost_tools.design.finder import TRIED, Finder, Progress
 from vidlakost_tools.design.parts import Parts, elements_from, text_of
 from vidlakost_tools.design.shown import told
 from vidlakost_tools.design.wishes import Words, wish_of
-from vidlakost_tools.march import length_of
 from vidlakost_tools.program import settle
+from vidlakost_tools.texts.march import length_of
 from vidlakost_tools.tool import ToolError
 
 # how long a search may take, and then the program with its march

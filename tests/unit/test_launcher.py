@@ -1,0 +1,195 @@
+"""Which program the launcher takes, in a checkout of one crate: `python3 -m unittest discover -s tests/unit -t .`."""
+from __future__ import annotations
+
+import os
+import pathlib
+import resource
+import shutil
+import subprocess
+import tempfile
+import unittest
+
+from vidlakost_tools.program import ROOT
+
+PROGRAM = "#!/bin/sh\necho total 1\n"
+# a kit whose `run` leaves a program, and does something more
+KIT = """#!/bin/sh
+if [ "$1" = version ]; then echo kit 1; exit; fi
+mkdir -p out
+printf '#!/bin/sh\\necho proved\\n' >out/bist_cli
+chmod +x out/bist_cli
+{}
+"""
+
+
+class Launcher(unittest.TestCase):
+    def setUp(self) -> None:
+        self.place = tempfile.TemporaryDirectory()
+        # a name that is more to a shell than itself
+        self.root = pathlib.Path(self.place.name) / "a [b]* $c"
+        self.root.mkdir()
+        shutil.copy(ROOT / "vidlakost", self.root / "vidlakost")
+        (self.root / "crates.txt").write_text("bist_cli:\n")
+        for part, name in (("src", "lib.rt"), ("src", "more.rt"), ("specs", "Lib.antt"), ("proofs", "Lemma.antt")):
+            path = self.root / "crates" / "bist_cli" / part / name
+            path.parent.mkdir(parents=True, exist_ok=True)
+            path.write_text(f"{name}\n")
+        self.source = self.root / "crates" / "bist_cli" / "src" / "lib.rt"
+        self.build = self.root / "build"
+        self.program = self.build / "vidlakost"
+        self.kit("")
+
+    def tearDown(self) -> None:
+        self.place.cleanup()
+
+    def kit(self, more: str) -> None:
+        path = self.root / "bin" / "rt"
+        path.parent.mkdir(exist_ok=True)
+        path.write_text(KIT.format(more))
+        path.chmod(0o755)
+
+    def call(self, *words: str, umask: int = 0o022, files: int = 0, **changed: str) -> subprocess.CompletedProcess[str]:
+        kept = {name: value for name, value in os.environ.items() if not name.startswith("VIDLAKOST")}
+
+        def prepare() -> None:
+            os.umask(umask)
+            if files:
+                resource.setrlimit(resource.RLIMIT_NOFILE, (files, files))
+
+        return subprocess.run(
+            ["bash", str(self.root / "vidlakost"), *words],
+            cwd=self.root,
+            env={**kept, "PATH": f"{self.root / 'bin'}:{kept['PATH']}", "VIDLAKOST_EXPLAIN": "0", **changed},
+            stdin=subprocess.DEVNULL,
+            stdout=subprocess.PIPE,
+            stderr=subprocess.PIPE,
+            text=True,
+            preexec_fn=prepare,
+            check=False,
+        )
+
+    def prove(self) -> None:
+        done = self.call("--prove")
+        self.assertEqual(done.returncode, 0, done.stderr)
+
+    def is_taken(self) -> bool:
+        return self.call("--program").stdout == f"{self.program}\n"
+
+    def age(self) -> None:
+        """Dates the sources long ago, so that their dates are kept beside the program."""
+        for path in self.root.glob("crates/*/*/*"):
+            os.utime(path, (1, 1))
+
+    def test_a_proved_program_is_taken(self) -> None:
+        self.assertFalse(self.is_taken())
+        self.prove()
+        self.assertTrue(self.is_taken())
+        self.assertEqual(self.call("bench").stdout, "proved\n")
+
+    def test_another_source_of_an_older_date_is_not_what_was_proved(self) -> None:
+        self.prove()
+        self.age()
+        self.assertTrue(self.is_taken())
+        before = self.source.stat()
+        for text in ("bil.rt\n", "another length\n"):
+            self.source.write_text(text)
+            os.utime(self.source, ns=(before.st_atime_ns, before.st_mtime_ns))
+            self.assertFalse(self.is_taken(), text)
+            self.assertIn("not known to be proved of these sources", self.call("--program").stderr)
+        self.source.write_text("lib.rt\n")
+        self.assertTrue(self.is_taken())
+
+    def test_a_source_that_is_gone_or_new_is_seen(self) -> None:
+        self.prove()
+        self.source.rename(self.source.with_name("other.rt"))
+        self.assertFalse(self.is_taken())
+        self.source.with_name("other.rt").rename(self.source)
+        self.assertTrue(self.is_taken())
+        (self.root / "crates.txt").write_text("bist_cli: more\n")
+        self.assertFalse(self.is_taken())
+
+    def test_dates_and_proofs_alone_change_nothing(self) -> None:
+        self.prove()
+        self.source.touch()
+        (self.root / "crates" / "bist_cli" / "proofs" / "Lemma.antt").write_text("another\n")
+        self.assertTrue(self.is_taken())
+
+    def test_without_its_kit_nothing_is_proved(self) -> None:
+        self.prove()
+        kit = self.build / "kit"
+        lines = kit.read_text().splitlines()
+        wrong: list[list[str]] = [[], lines[:2], [lines[0], lines[1], "sources 0"], ["0", *lines[1:]]]
+        for told in wrong:
+            kit.write_text("".join(f"{line}\n" for line in told))
+            self.assertFalse(self.is_taken(), told)
+        kit.unlink()
+        self.assertFalse(self.is_taken())
+
+    def test_another_program_is_not_the_proved_one(self) -> None:
+        self.prove()
+        self.age()
+        self.assertTrue(self.is_taken())
+        self.program.write_text(PROGRAM)
+        self.assertFalse(self.is_taken())
+
+    def test_what_others_may_write_is_not_taken(self) -> None:
+        self.prove()
+        for loose in (self.program, self.build / "kit", self.build):
+            mode = loose.stat().st_mode
+            for more in (0o002, 0o020):
+                loose.chmod(mode | more)
+                self.assertFalse(self.is_taken(), loose)
+                self.assertIn("others may write the program", self.call("--stale", "bench").stderr)
+            loose.chmod(mode)
+        self.assertTrue(self.is_taken())
+
+    @unittest.skipIf(os.geteuid(), "only root gives files away")
+    def test_what_is_somebody_elses_is_not_taken(self) -> None:
+        self.prove()
+        for path in (self.program, self.build / "kit", self.build):
+            os.chown(path, 65534, 65534)
+            self.assertFalse(self.is_taken(), path)
+            os.chown(path, 0, 0)
+        self.assertTrue(self.is_taken())
+
+    def test_what_is_proved_is_ones_own_under_any_umask(self) -> None:
+        self.assertEqual(self.call("--prove", umask=0).returncode, 0)
+        for path in (self.build, self.program):
+            self.assertEqual(path.stat().st_mode & 0o777, 0o700, path)
+        self.assertTrue(self.is_taken())
+
+    def test_a_source_that_changes_meanwhile_is_told(self) -> None:
+        self.kit("echo more >>src/lib.rt")
+        done = self.call("--prove")
+        self.assertEqual(done.returncode, 125)
+        self.assertIn("a source was changed meanwhile", done.stderr)
+        self.assertFalse(self.program.exists())
+
+    def test_a_named_program_is_a_file(self) -> None:
+        self.assertEqual(self.call("bench", VIDLAKOST_PROGRAM="printf").returncode, 125)
+        path = self.root / "printf"
+        path.write_text(PROGRAM)
+        path.chmod(0o755)
+        self.assertEqual(self.call("bench", VIDLAKOST_PROGRAM="printf").stdout, "total 1\n")
+
+    def test_it_does_not_run_itself(self) -> None:
+        for name in ("vidlakost", str(self.root / "vidlakost"), "link"):
+            if name == "link":
+                (self.root / name).symlink_to("vidlakost")
+            done = self.call("bench", VIDLAKOST_PROGRAM=name)
+            self.assertEqual((done.returncode, "the launcher itself" in done.stderr), (125, True), done.stderr)
+
+    def test_few_files(self) -> None:
+        self.program.parent.mkdir()
+        self.program.write_text(PROGRAM)
+        self.program.chmod(0o755)
+        for files in range(4, 24):
+            done = self.call("bench", files=files, VIDLAKOST_PROGRAM="build/vidlakost")
+            if done.returncode != 0:
+                self.assertEqual(done.returncode, 125, files)
+                self.assertIn("vidlakost: too few files may be open at once", done.stderr)
+        self.assertEqual(done.returncode, 0, done.stderr)
+
+
+if __name__ == "__main__":
+    unittest.main()

@@ -1,0 +1,177 @@
+"""Memory cells of libraries, port lists of Verilog, and what pins are by their names."""
+from __future__ import annotations
+
+import unittest
+
+from vidlakost_tools.collar import pin_names
+from vidlakost_tools.collar.liberty import Found, memory_cell
+from vidlakost_tools.collar.port_list import Ports, Sum
+from vidlakost_tools.collar.vendor import modules_in
+from vidlakost_tools.tool import ToolError
+
+CELL = """library(l) { /* cell(ram) { } */
+  type (word) { bit_width : 8; bit_from : 7; bit_to : 0; }
+  cell(other) { ff(IQ) { x : "}"; } }
+  cell(ram) {
+    memory() { type : ram; address_width : 4; word_width : 8; }
+    bus(q) { bus_type : word; direction : output; memory_read() { address : a; }
+      pin(q[7:0]) { timing() { related_pin : "ck"; timing_type : falling_edge; cell_rise(t) { values("0.1, \\
+        0.2"); } } } }
+    bus(d) { bus_type : word; direction : input; memory_write() { address : a; clocked_on : ck; } }
+    bus(a) { direction : input; bus_type : address;
+    }
+    type(address) { base_type : array; bit_from : 0; bit_to : 3; }
+    pin(ck) { direction : input; clock : true; }
+    pin(csb) { direction : input; }
+    pin(cen) { direction : input; }
+    pin("odd\nmacro evil") { direction : input; }
+    pg_pin(vss) { pg_type : primary_ground; }
+  } }
+"""
+
+
+class Libraries(unittest.TestCase):
+    def test_a_memory_cell(self) -> None:
+        address, word, pins = memory_cell("l.lib", CELL, "ram")
+        self.assertEqual((address, word), (4, 8))
+        lines, left = pin_names.pins("ram", pins)
+        told = ["macro ram", "rdata q 8  # changes at the falling edge of ck", "wdata d 8", "addr a 4", "clk ck"]
+        self.assertEqual(lines[:6], [*told, "#? en ~csb  # by its name, active low"])
+        self.assertEqual((lines[6], left), ("power vss 0", 2))
+        self.assertTrue(all(line.startswith("# ") and "\n" not in line for line in lines[7:]))
+
+    def test_a_bundle_is_no_pin(self) -> None:
+        text = CELL.replace("pin(cen)", "bundle(we) { members(we0, we1); direction : input; } pin(cen)")
+        lines, left = pin_names.pins("ram", memory_cell("l.lib", text, "ram")[2])
+        self.assertIn("# we, an input of ? bits: tie we WIDTH'h0, or pass we WIDTH", lines)
+        self.assertEqual(left, 3)
+
+    def refusal(self, old: str, new: str) -> str:
+        """What is said of the library with a part changed."""
+        self.assertIn(old, CELL)
+        with self.assertRaises(ToolError) as told:
+            memory_cell("l.lib", CELL.replace(old, new, 1), "ram")
+        return str(told.exception)
+
+    def test_widths_that_contradict_the_buses(self) -> None:
+        for width in (3, 5):
+            told = self.refusal("address_width : 4", f"address_width : {width}")
+            self.assertEqual(told, f"l.lib:5: address_width is {width}, and 'a' on line 10 has 4 bits")
+        told = self.refusal("word_width : 8", "word_width : 16")
+        self.assertEqual(told, "l.lib:5: word_width is 16, and 'q' on line 6 has 8 bits")
+        told = self.refusal("bus_type : word; direction : input", "bus_type : address; direction : input")
+        self.assertEqual(told, "l.lib:5: word_width is 8, and 'd' on line 9 has 4 bits")
+
+    def test_what_is_no_ram(self) -> None:
+        self.assertEqual(self.refusal("type : ram", "type : rom"), "l.lib:5: the memory is a 'rom', and no ram")
+
+    def test_two_of_one_name(self) -> None:
+        more = "cell(other) { ff(IQ)"
+        told = self.refusal(more, f"type(word) {{ bit_width : 9; }} {more}")
+        self.assertEqual(told, "l.lib:3: the type 'word' has 8 bits by line 2, and 9 here")
+        memory_cell("l.lib", CELL.replace(more, f"type(word) {{ bit_width : 8; }} {more}"), "ram")
+        self.assertIn("has a bit_width of 8, and bits from 6 to 0", self.refusal("bit_from : 7", "bit_from : 6"))
+        self.assertIn("'csb' stands twice; line 14 has it", self.refusal("pin(cen)", "pin(csb)"))
+        self.assertIn("word_width is 8 by line 5, and 9 here", self.refusal("word_width : 8;", "word_width : 8; word_width : 9;"))
+        self.assertIn("a second group memory(); the first stands on line 5", self.refusal("bus(q)", "memory() { type : ram; } bus(q)"))
+
+    def test_an_address_that_is_no_pin(self) -> None:
+        told = self.refusal("memory_write() { address : a;", "memory_write() { address : b;")
+        self.assertEqual(told, "l.lib:9: the address of 'd' is 'b', which is no pin")
+
+    def test_names_alone_wait(self) -> None:
+        for name in ("me", "mea", "meb", "MEA"):
+            pins = memory_cell("l.lib", CELL.replace("pin(cen)", f"pin({name})"), "ram")[2]
+            lines, _ = pin_names.pins("ram", pins)
+            self.assertFalse([line for line in lines if name in line.split()[1:] and not line.startswith("# ")], lines)
+            self.assertIn(f"en {name}", pin_names.pins("ram", pins, {name: "en"})[0])
+        pins = memory_cell("l.lib", CELL, "ram")[2]
+        self.assertIn("en ~csb", pin_names.pins("ram", pins, {"csb": "~en"})[0])
+
+    def test_what_is_no_library(self) -> None:
+        for text in ("", "library", "library(l){", 'library(l){ x"', "library(l){ a b }", CELL.replace("memory()", "memories()")):
+            with self.assertRaises(ToolError, msg=text):
+                memory_cell("l.lib", text, "ram")
+        with self.assertRaises(ToolError):
+            memory_cell("l.lib", CELL, "none")
+        with self.assertRaises(ToolError):
+            memory_cell("l.lib", CELL.replace("cell(other)", "cell(ram)"), "ram")
+        with self.assertRaises(ToolError):
+            memory_cell("l.lib", CELL.replace("address_width : 4", "address_width : 40"), "ram")
+        with self.assertRaises(ToolError):
+            memory_cell("l.lib", "library(l){" + "type(a){" * 100, "ram")
+
+
+class Lists(unittest.TestCase):
+    def read(self, text: str, module: str = "m") -> list[tuple[str, str, int]]:
+        return [(pin.name, pin.way, pin.width) for pin in Ports("m.v", text, module).ports()]
+
+    def test_the_new_style(self) -> None:
+        text = "module m #(parameter int W = 2*(3+1), localparam H = W/2) (input wire [W-1:0] a, b, (* keep *) output reg q = 1'b0"
+        found = [("a", "input", 8), ("b", "input", 8), ("q", "output", 1), ("r", "output", 4)]
+        self.assertEqual(self.read(text + ", output [H-1:0] r); endmodule"), found)
+
+    def test_types_behind_commas(self) -> None:
+        text = "module m(input a, wire [3:0] b, other.way x, output logic q); always @(*) q = a; endmodule // (* *)"
+        found = [("a", "input", 1), ("b", "input", 4)]
+        self.assertEqual(self.read(text)[:2], found)
+        self.assertEqual([name for name, _, _ in self.read("module n; always @(*) x; endmodule module m(input z); endmodule")], ["z"])
+
+    def test_the_old_style(self) -> None:
+        text = "module m(a, q\n`ifdef P\n, v\n`endif\n); parameter A = 3, W = A*2; inout v; input [W-1:0] a; output q; function f; input z; f = z;"
+        self.assertEqual(sorted(self.read(text + " endfunction endmodule")), [("a", "input", 6), ("q", "output", 1), ("v", "inout", 1)])
+
+    def test_what_is_not_known(self) -> None:
+        self.assertEqual(self.read("module m(input [W:0] a, input [9999:0] b); endmodule"), [("a", "input", 0), ("b", "input", 0)])
+        for text in ("", "// module m\n", '"module m"', "module m(input a); endmodule module m(input b); endmodule"):
+            with self.assertRaises(ToolError, msg=text):
+                self.read(text)
+
+    def test_what_a_process_waits_for_is_no_attribute(self) -> None:
+        text = "module one(input a, output reg b); always @(*) b = a; endmodule\n"
+        self.assertEqual(self.read(text + text.replace("one", "m")), [("a", "input", 1), ("b", "output", 1)])
+
+    def test_what_does_not_end_is_read_once(self) -> None:
+        for more in ("(* x ", "/* x "):
+            self.assertEqual(self.read("module m(input a); endmodule " + more * 100000), [("a", "input", 1)])
+            self.assertEqual(modules_in("module m; endmodule " + "/* x " * 100000), ["m"])
+
+    def test_many_ports_and_a_long_body(self) -> None:
+        text = f"module m({', '.join(f'p{one}' for one in range(5000))}); {'wire w; ' * 20000} endmodule"
+        self.assertEqual(self.read(text), [])
+
+    def test_what_stops_early(self) -> None:
+        for text in ("module m #(parameter A = 1; ", "module m #(", "module m(input [", "module m(a); parameter"):
+            with self.assertRaises(ToolError, msg=text):
+                self.read(text)
+
+    def test_sums(self) -> None:
+        found = [Sum(text.split()).value() for text in ("1 + 2 * 3", "( 8 - 1 ) // 2", "4 // 0", "1 +", ") 1", "2 3")]
+        self.assertEqual(found, [7, 3, None, None, None, None])
+
+    def test_modules_outside_of_comments(self) -> None:
+        text = '// module a\n/* module b */ module /* */ c; "module d"; endmodule macromodule e; endmodule `define module f'
+        self.assertEqual(modules_in(text), ["c", "e"])
+
+
+class Usual(unittest.TestCase):
+    def lines(self, *names: str) -> list[str]:
+        pins = [Found(name, "output" if name.lower()[-1] in "qo" else "input", 4 if len(name) == 1 else 1) for name in names]
+        return pin_names.pins("m", pins)[0][1:]
+
+    def test_ports_by_their_names(self) -> None:
+        lines = self.lines("A_ADDR", "A_DI", "A_DO", "B_ADDR", "B_DO", "A_CLK", "B_CLK")
+        told = ["addr A_ADDR", "wdata A_DI", "rdata A_DO", "port addr B_ADDR", "port rdata B_DO", "clk A_CLK", "port clk B_CLK"]
+        self.assertEqual([line.split("  #")[0] for line in lines], [f"#? {line}" for line in told])
+
+    def test_an_address_for_each_way(self) -> None:
+        lines = self.lines("WADDR", "WDATA", "RADDR", "dout", "WCLK", "RCLK")
+        self.assertEqual(lines[0].split("  #")[0], "#? waddr WADDR")
+        self.assertIn("#? clock2 RCLK", lines)
+
+    def test_names_that_mean_either(self) -> None:
+        self.assertIn("en ~CEN where it is active low, or en CEN", self.lines("A", "CEN")[1])
+
+
+if __name__ == "__main__":
+    unittest.main()

@@ -1,0 +1,64 @@
+"""Models of macros beside the pins that are told of them: `python3 -m unittest discover -s tests/unit -t .`."""
+from __future__ import annotations
+
+import pathlib
+import tempfile
+import unittest
+
+from vidlakost_tools.collar.pins import Word, read_macro
+from vidlakost_tools.collar.vendor import refuse_other_ports
+from vidlakost_tools.texts.memory import parse_memory
+from vidlakost_tools.tool import ToolError
+
+MEMORY = "memory 1\nname s\nwords {words}\nbits {bits}\n"
+PINS = "macro ram\nparameter TWICE 8\nclk ck\nen ~ce\nwe ~wen\naddr a\nwdata d\nrdata q\ntie t 2'h0\nopen o\nout p 3\n"
+HEADS = {
+    "ansi": "module ram(input ck, ce, wen, input [{a}-1:0] a, input [{d}-1:0] d, output [{q}-1:0] q, input [1:0] t, output o, output [2:0] p);",
+    "older": "module ram(ck, ce, wen, a, d, q, t, o, p);\n  input ck, ce, wen; input [{a}-1:0] a; input [{d}-1:0] d;\n"
+    "  output [{q}-1:0] q; input [1:0] t; output o; output [2:0] p;",
+    "parameters": "module ram #(parameter A = {a}, parameter D = {d} - 1)(input ck, ce, wen, input [A-1:0] a, input [D:0] d, "
+    "output [{q}-1:0] q, input [1:0] t, output o, output [2:0] p);",
+}
+
+
+class Widths(unittest.TestCase):
+    def refusal(self, head: str, words: int = 8, bits: int = 4, pins: str = PINS) -> str:
+        """Why a model is refused; nothing where it is taken."""
+        with tempfile.TemporaryDirectory() as name:
+            folder = pathlib.Path(name)
+            (folder / "ram.v").write_text(f"{head}\nendmodule\n")
+            (folder / "ram.pins").write_text(pins)
+            word = Word([parse_memory(MEMORY.format(words=words, bits=bits))])
+            try:
+                refuse_other_ports(read_macro(str(folder / "ram.pins"), word), str(folder / "ram.v"))
+            except ToolError as error:
+                return str(error).replace(f"{folder}/", "")
+        return ""
+
+    def test_a_model_of_its_size_is_taken(self) -> None:
+        for style, head in HEADS.items():
+            self.assertEqual(self.refusal(head.format(a=3, d=4, q=4)), "", style)
+
+    def test_a_model_of_another_size_is_not(self) -> None:
+        for style, head in HEADS.items():
+            for a, d, q in ((4, 4, 4), (2, 4, 4), (3, 8, 8), (3, 4, 8), (3, 8, 4), (4, 8, 8)):
+                self.assertIn("by the pins and the description", self.refusal(head.format(a=a, d=d, q=q)), (style, a, d, q))
+
+    def test_the_place_and_both_widths_are_told(self) -> None:
+        told = self.refusal(HEADS["ansi"].format(a=4, d=4, q=4))
+        self.assertEqual(told, "ram.pins:6: a has 4 bits in ram.v, and 3 by the pins and the description")
+
+    def test_further_pins_are_compared(self) -> None:
+        head = HEADS["ansi"].format(a=3, d=4, q=4)
+        self.assertIn("t has 3 bits", self.refusal(head.replace("[1:0] t", "[2:0] t")))
+        self.assertIn("p has 1 bits", self.refusal(head.replace("[2:0] p", "p")))
+        self.assertIn("ce is an output", self.refusal(head.replace("input ck, ce", "input ck, output ce, input z")))
+
+    def test_a_parameter_of_the_pins_is_the_models(self) -> None:
+        head = "module ram #(parameter TWICE = 4)(input ck, ce, wen, input [2:0] a, input [TWICE/2-1:0] d, output [3:0] q);"
+        self.assertEqual(self.refusal(head), "")
+        self.assertIn("d has 2 bits", self.refusal(head, pins=PINS.replace("parameter TWICE 8\n", "")))
+
+
+if __name__ == "__main__":
+    unittest.main()

@@ -1,0 +1,357 @@
+"""The self-test behind an APB3 bus: the block, its registers as a table and in SystemRDL, and its testbench."""
+from __future__ import annotations
+
+import dataclasses
+
+from vidlakost_tools.access import log_window
+from vidlakost_tools.access.bench import most, testbench
+from vidlakost_tools.access.block import Port, Target, extended, header, inside, links, zero
+from vidlakost_tools.verilog.bench_end import FINISH
+
+
+@dataclasses.dataclass
+class Field:
+    name: str
+    low: int
+    width: int
+    source: str
+    about: str
+
+
+@dataclasses.dataclass
+class Register:
+    """A register: its name, its address, its fields, and whether a bus may write it."""
+
+    name: str
+    at: int
+    fields: list[Field]
+    writable: bool = False
+
+    def value(self) -> str:
+        """What a read gives."""
+        used = sum(field.width for field in self.fields)
+        parts = [field.source for field in reversed(self.fields)]
+        whole = parts[0] if len(parts) == 1 else f"{{{', '.join(parts)}}}"
+        return extended(whole, used, 32)
+
+
+def parts_of(name: str, source: str, width: int, at: int, about: str) -> list[Register]:
+    """A word as one register or two, from its lower bits on."""
+    gated = f"(is_seen ? {source} : {zero(width)})"
+    if width <= 32:
+        return [Register(name, at, [Field(name.lower(), 0, width, gated, about)])]
+    low = Field(f"{name.lower()}_low", 0, 32, f"(is_seen ? {source}[31:0] : 32'd0)", f"{about}, its lower 32 bits")
+    high_bits = f"{source}[{width - 1}:32]" if width > 33 else f"{source}[32]"
+    high = Field(
+        f"{name.lower()}_high",
+        0,
+        width - 32,
+        f"(is_seen ? {high_bits} : {zero(width - 32)})",
+        f"{about}, its upper bits",
+    )
+    return [Register(f"{name}_LOW", at, [low]), Register(f"{name}_HIGH", at + 4, [high])]
+
+
+def in_words(name: str, at: int, further: int, source: str, count: int, about: str, writable: bool = False) -> list[Register]:
+    """A bit for each unit in one register, or in several of 32 bits; those behind the first stand at `further` and behind."""
+    field = source.split("_")[-1].replace("failed", "fail")
+    if count <= 32:
+        return [Register(name, at, [Field(field, 0, count, source, about)], writable)]
+    made = []
+    for number, low in enumerate(range(0, count, 32)):
+        width = min(32, count - low)
+        bits = f"{source}[{low + width - 1}:{low}]" if width > 1 else f"{source}[{low}]"
+        told = f"{about}: units {low} to {low + width - 1}"
+        place = further + 4 * (number - 1) if number else at
+        made.append(Register(f"{name}_{number}" if number else name, place, [Field(field, 0, width, bits, told)], writable))
+    return made
+
+
+def registers(target: Target) -> list[Register]:
+    state = [
+        Field("test", 0, 1, "has_test", "the start has arrived: the self-test has the memory"),
+        Field("done", 1, 1, "is_done", "the test is over; all else stands"),
+        Field("fail", 2, 1, f"(has_failed != {zero(target.count)})", "a read was wrong"),
+        Field("seen", 3, 1, "is_seen", "CYCLE, EXPECTED and RETURNED stand"),
+    ]
+    bits = target.unit_bits
+    whose = Field("unit", 0, bits, f"(is_seen ? unit : {zero(bits)})", "whose failure it is")
+    loose = "a bit for each unit whose failures are not kept; it stays while START is 1"
+    loose = "a bit for each unit of whose failure nothing is told" if target.each else loose
+    begin = Field("start", 0, 1, "want", "1 starts a test and keeps what it found; 0 ends it")
+    return [
+        Register("CONTROL", 0x00, [begin], True),
+        Register("STATUS", 0x04, state),
+        *in_words("FAIL", 0x08, 0x100, "has_failed", target.count, "a bit for each unit, the first one's lowest"),
+        *([Register("UNIT", 0x0C, [whose])] if target.is_chip else []),
+        *parts_of("CYCLE", "cycle", 32, 0x10, "of the first failure the cycle, as vidlakost locate takes it"),
+        *parts_of("EXPECTED", "expected", target.word, 0x14, "the word that the march expects"),
+        *parts_of("RETURNED", "returned", target.word, 0x1C, "the word that returned"),
+        *(in_words("IGNORE", 0x24, 0x200, "ignore", target.count, loose, True) if target.is_chip else []),
+        *(of_log(target) if target.depth else []),
+    ]
+
+
+def of_log(target: Target) -> list[Register]:
+    """The registers in front of the window of the log."""
+    count = Field("count", 0, 7, "log_count", "how many entries the log has; it stands when the test is done")
+    gap = Field("reserved", 7, 24, "24'd0", "0")
+    more = Field("more", 31, 1, "log_more", "wrong reads came when the log was full")
+    which = Field("log_unit", 0, target.unit_bits, "log_unit", "whose log stands in LOG and in the window")
+    return [
+        Register("LOG", 0x28, [count, gap, more]),
+        *([Register("LOG_UNIT", 0x2C, [which], True)] if target.is_chip else []),
+    ]
+
+
+APB = """// The self-test of {name} behind an APB3 bus; {name}_apb.md tells the registers. There are no wait states. A
+// transfer to an address that has no register, and a write to one that is only read, end with pslverr at 1 and change
+// nothing."""
+
+
+def bus() -> list[Port]:
+    return [
+        Port("input", "pclk"),
+        Port("input", "presetn"),
+        Port("input", "psel"),
+        Port("input", "penable"),
+        Port("input", "pwrite"),
+        Port("input", "paddr", 12),
+        Port("input", "pwdata", 32),
+        Port("output", "prdata", 32),
+        Port("output", "pready"),
+        Port("output", "pslverr"),
+    ]
+
+
+def written(register: Register) -> str:
+    """What a write to a register of bits does."""
+    field = register.fields[0]
+    pick = f"pwdata[{field.width - 1}:0]" if field.width > 1 else "pwdata[0]"
+    return f"      if (paddr == 12'h{register.at:03x}) {field.source} <= {pick};"
+
+
+def block(target: Target) -> str:
+    """The module NAME_apb."""
+    ports = [*bus(), Port("input", "clk"), *target.ports(), Port("output", "test")]
+    table = registers(target)
+    held = [f"  reg {Port('', 'ignore', target.count).declared().strip()};"] if target.is_chip else []
+    reset = [f"      ignore <= {zero(target.count)};"] if target.is_chip else []
+    more = [written(it) for it in table if it.name.startswith("IGNORE")]
+    if target.is_chip and target.depth:
+        bits = target.unit_bits
+        held.append(f"  reg {Port('', 'log_unit', bits).declared().strip()};")
+        reset.append(f"      log_unit <= {zero(bits)};")
+        more.append(f"      if (paddr == 12'h02c) log_unit <= pwdata{f'[{bits - 1}:0]' if bits > 1 else '[0]'};")
+    answer = [
+        "      case (paddr)",
+        *(f"        12'h{it.at:03x}: value <= {it.value()};" for it in table),
+        "        default: begin",
+        "          value <= 32'd0;",
+        "          is_there <= 1'b0;",
+        "        end",
+        "      endcase",
+    ]
+    used = min(32, max(1, target.count if target.is_chip else 1))
+    lines = [
+        "  reg want;",
+        *held,
+        "  reg [31:0] value;",
+        "  reg is_there;",
+        "  wire access_phase;",
+        "  wire unused;",
+        (inside(target, "pclk", "presetn") + log_window.inside(target)).rstrip("\n"),
+        *(["  assign log_pick = paddr[10:5];"] if target.depth else []),
+        f"  assign unused = &{{1'b0, pwdata[31:{used}]}};" if used < 32 else "  assign unused = 1'b0;",
+        "  assign access_phase = psel & penable;",
+        "  assign pready = access_phase;",
+        "  assign prdata = value;",
+        "  assign pslverr = access_phase & (!is_there | (pwrite & !writable));",
+        "  wire writable;",
+        "  assign writable = " + " | ".join(f"(paddr == 12'h{it.at:03x})" for it in table if it.writable) + ";",
+        "  always @(posedge pclk or negedge presetn)",
+        "    if (!presetn) begin",
+        "      want <= 1'b0;",
+        *reset,
+        "    end else if (access_phase & pwrite) begin",
+        "      if (paddr == 12'h000) want <= pwdata[0];",
+        *more,
+        "    end",
+        "  // a read is answered in its access phase with what stood in its setup phase",
+        "  always @(posedge pclk)",
+        "    if (psel & !penable) begin",
+        "      is_there <= 1'b1;",
+        *log_window.window(target, answer),
+        "    end",
+        "endmodule",
+    ]
+    # what is declared stands before what uses it
+    lines.remove("  wire writable;")
+    lines.insert(lines.index("  wire access_phase;"), "  wire writable;")
+    return header(APB.format(name=target.name), f"{target.name}_apb", ports, before=target.conditional()) + "\n".join(lines) + "\n"
+
+
+# ---- the registers in words
+
+
+def table(target: Target) -> str:
+    """The registers as a table of Markdown."""
+    rows = []
+    for it in registers(target):
+        for field in it.fields:
+            bits = f"{field.low}" if field.width == 1 else f"{field.low + field.width - 1}:{field.low}"
+            way = "read, write" if it.writable else "read"
+            rows.append(f"| 0x{it.at:02x} | {it.name} | {bits} | {field.name} | {way} | {field.about} |")
+    return "\n".join(
+        [
+            f"# The registers of {target.name}_apb",
+            "",
+            "| Address | Register | Bits | Field | | Meaning |",
+            "|---|---|---|---|---|---|",
+            *rows,
+            *log_window.table_rows(target),
+            "",
+            "All other bits are read as 0, and a write to them is without effect. Behind presetn all fields are 0.",
+            "",
+            "To test: write 1 to CONTROL, read STATUS until `done` is 1, read the rest, and write 0 to CONTROL. What",
+            "was found is kept while START is 1. A test that is not done in the cycles of `vidlakost summary` does not",
+            "end: its clock does not run, or the module is another. A 0 behind a 1 ends a test at once, and a 1 behind",
+            "that begins anew, however fast they come.",
+            "",
+        ]
+    )
+
+
+def system_rdl(target: Target) -> str:
+    """The registers in SystemRDL."""
+    lines = [f"addrmap {target.name}_apb {{", f'  name = "Self-test of {target.name}";', "  default regwidth = 32;"]
+    for it in registers(target):
+        lines.append("  reg {")
+        for field in it.fields:
+            access = "sw = rw; hw = r; reset = 0" if it.writable else "sw = r; hw = w"
+            bits = f"[{field.low + field.width - 1}:{field.low}]"
+            lines.append(f'    field {{ {access}; desc = "{field.about}"; }} {field.name}{bits};')
+        lines.append(f"  }} {it.name} @ 0x{it.at:02x};")
+    return "\n".join([*lines, *log_window.rdl(target), "};", ""])
+
+
+BODY = """
+  reg wrong;
+  integer waited_for;
+  reg [31:0] heard;
+  task transfer(input [11:0] where, input is_write, input [31:0] data);
+    begin
+      @(posedge pclk);
+      #1 psel = 1'b1;
+      paddr = where;
+      pwrite = is_write;
+      pwdata = data;
+      @(posedge pclk);
+      #1 penable = 1'b1;
+      @(negedge pclk);
+      waited_for = 0;
+      while (pready !== 1'b1) begin
+        @(negedge pclk);
+        waited_for = waited_for + 1;
+        if (waited_for > 1000) $fatal(1, "{name}: pready did not come at %h", where);
+      end
+      heard = prdata;
+      wrong = pslverr;
+      @(posedge pclk);
+      #1 psel = 1'b0;
+      penable = 1'b0;
+    end
+  endtask
+  task put(input [11:0] where, input [31:0] data);
+    begin
+      transfer(where, 1'b1, data);
+      if (wrong !== 1'b0) $fatal(1, "{name}: a write to %h is refused", where);
+    end
+  endtask
+  task get(input [11:0] where);
+    begin
+      transfer(where, 1'b0, 32'd0);
+      if (wrong !== 1'b0) $fatal(1, "{name}: a read of %h is refused", where);
+    end
+  endtask
+  task refused(input [11:0] where, input is_write);
+    begin
+      transfer(where, is_write, 32'hffffffff);
+      if (wrong !== 1'b1) $fatal(1, "{name}: a transfer to %h is not refused", where);
+    end
+  endtask
+
+  initial begin
+    repeat (4) @(posedge clk);
+    @(posedge pclk);
+    #1 presetn = 1'b1;
+    refused(12'h001, 1'b0);
+    refused({beyond}, 1'b0);
+    refused(12'hffc, 1'b1);
+    refused(12'h004, 1'b1);
+    refused(12'h010, 1'b1);
+    get(12'h004);
+    if (heard !== 32'd0) $fatal(1, "{name}: the state is %h before the start", heard);
+    for (round = 0; round < 2; round = round + 1) begin
+      // the second start comes right behind the end of the first
+      put(12'h000, 32'd1);
+      waited = 0;
+      heard = 32'd0;
+      while (heard[1] !== 1'b1) begin
+        get(12'h004);
+        waited = waited + 1;
+        if (waited > {most}) $fatal(1, "{name}: done did not come");
+      end
+      state = heard[3:0];
+{fails}{read}      told(round);
+{each}{log}      put(12'h000, 32'd0);
+    end
+    """ + FINISH + """
+  end
+"""
+
+
+def read_word(target: Target, name: str, at: int) -> str:
+    """The statements that read a word of one or two registers."""
+    if target.word <= 32:
+        return f"      get(12'h{at:03x});\n      {name} = heard[{target.word - 1}:0];\n"
+    high = f"{name}[{target.word - 1}:32] = heard[{target.word - 33}:0]"
+    return f"      get(12'h{at:03x});\n      {name}[31:0] = heard;\n      get(12'h{at + 4:03x});\n      {high};\n"
+
+
+def read_fails(target: Target) -> str:
+    """The statements that read the bits of all units."""
+    lines, low = [], 0
+    for it in [it for it in registers(target) if it.name.startswith("FAIL")]:
+        width = it.fields[0].width
+        place = f"[{low + width - 1}:{low}]" if target.count > 32 else ""
+        lines += [f"      get(12'h{it.at:03x});", f"      failing{place} = heard[{width - 1}:0];"]
+        low += width
+    return "\n".join([*lines, ""])
+
+
+def bench(target: Target) -> str:
+    """The testbench of NAME_apb: wrong addresses first, then two runs."""
+    words = read_word(target, "wanted", 0x14) + read_word(target, "got", 0x1C)
+    words += "      get(12'h00c);\n      whose = heard[9:0];\n" if target.is_chip else "      whose = 10'd0;\n"
+    declared = """  reg pclk = 1'b0;
+  initial forever #7 pclk = ~pclk;
+  reg presetn = 1'b0;
+  reg psel = 1'b0;
+  reg penable = 1'b0;
+  reg pwrite = 1'b0;
+  reg [11:0] paddr = 12'd0;
+  reg [31:0] pwdata = 32'd0;
+  wire [31:0] prdata;
+  wire pready;
+  wire pslverr;
+"""
+    link = f"  {target.name}_apb dut({target.bench_links()}{links(bus())},\n    .clk(clk), {links(target.ports())}, .test(test));\n"
+    # with a log the first address behind the window, or behind an entry of it
+    beyond = "12'h028" if target.depth is None else f"12'h{0x800 + 32 * target.depth:x}" if target.depth < 64 else "12'hff4"
+    log = log_window.apb_reads(target)
+    read = f"      get(12'h010);\n      when_read = heard;\n{words}"
+    each = target.read_each("apb", read)
+    body = BODY.format(name=target.name, most=most(target), fails=read_fails(target), read=read, each=each, beyond=beyond, log=log)
+    declared += log_window.APB_DECLARED if target.depth else ""
+    return testbench(target, "apb", "by an APB3 bus", 5, declared, link, body)

@@ -1,0 +1,515 @@
+"""What stands round a self-test so that a tester starts it and reads what it found: a start that is synchronised, the
+state, and the cycle and the words of the first failure."""
+from __future__ import annotations
+
+import dataclasses
+from typing import Callable, Sequence
+
+from vidlakost_tools.refusals.otherwise import RESERVED
+from vidlakost_tools.text import read_described, statements
+from vidlakost_tools.texts.chip import Chip
+from vidlakost_tools.texts.memory import Memory
+from vidlakost_tools.tool import ToolError
+from vidlakost_tools.verilog.syntax import ranged
+
+# the identity of a TAP for which nobody names another
+IDENTITY = 0x10000A01
+SIGNALS = ("rdata", "en", "we", "addr", "wdata")
+
+
+@dataclasses.dataclass
+class Port:
+    """A port of a module of Verilog."""
+
+    direction: str
+    name: str
+    width: int = 1
+
+    def declared(self) -> str:
+        return f"{self.direction} {ranged(self.width)}{self.name}"
+
+
+@dataclasses.dataclass
+class Unit:
+    """A memory, and what stands behind the names of its ports."""
+
+    memory: Memory
+    suffix: str
+    start: int = 0
+
+    def ports(self) -> list[Port]:
+        """The ports of the self-test towards the memory."""
+        it, word = self.memory, self.memory.bits
+        widths = {"rdata": word, "en": 1, "we": 1, "addr": it.width, "wdata": word}
+        return [Port("input" if name == "rdata" else "output", name + self.suffix, widths[name]) for name in SIGNALS]
+
+
+@dataclasses.dataclass
+class Target:
+    """What is tested: one memory, or the memories of a chip, the module of the self-test, the cycle of `done` where the march is
+    known, and how many wrong reads a log keeps that a bus reads, where one does. Of a TAP the identity, and whether its registers
+    stand behind segment insertion bits."""
+
+    name: str
+    top: str
+    units: list[Unit]
+    is_chip: bool
+    done: int | None = None
+    depth: int | None = None
+    identity: int = IDENTITY
+    has_sib: bool = False
+    # whether the first failure of each memory is kept, and not that of all alone
+    each: bool = False
+
+    @property
+    def word(self) -> int:
+        """The bits of the widest word."""
+        return max(unit.memory.bits for unit in self.units)
+
+    @property
+    def count(self) -> int:
+        return len(self.units)
+
+    @property
+    def length(self) -> int:
+        """The cycle of `done`, where the march is known."""
+        if self.done is None:
+            raise ToolError(f"how long the test of {self.name} takes is not known without its march")
+        return self.done
+
+    @property
+    def unit_bits(self) -> int:
+        """The bits of the number of a unit."""
+        return max(1, (self.count - 1).bit_length())
+
+    def ports(self) -> list[Port]:
+        return [port for unit in self.units for port in unit.ports()]
+
+    def result(self) -> list[Port]:
+        """What is kept of the first failure."""
+        words = [Port("output", name, self.word) for name in ("expected", "returned")]
+        unit = [Port("output", "unit", self.unit_bits)] if self.is_chip else []
+        return [Port("output", "cycle", 32), *words, *unit]
+
+    # ---- what a whole chip has in another way
+
+    def conditional(self) -> list[str]:
+        """The lines of ports that stand under a define."""
+        return []
+
+    def handed_on(self) -> list[str]:
+        """The lines of their links, from a module to the one inside."""
+        return []
+
+    def nets(self) -> list[str]:
+        """What is declared beside the ports, for what the self-test writes and reads."""
+        return []
+
+    def self_test(self) -> list[str]:
+        """The instance of the self-test."""
+        return [
+            f"  {self.top} self_test(.clk(clk), .reset(!test), {links(self.ports())},",
+            "    .done(over), .fail(fail));",
+        ]
+
+    def bench_head(self) -> str:
+        """What stands before the module of a testbench."""
+        return ""
+
+    def bench_nets(self) -> str:
+        """The nets of a testbench for the ports."""
+        return "\n".join(f"  wire {ranged(port.width)}{port.name};" for port in self.ports())
+
+    def bench_links(self) -> str:
+        """Further links of the module under test."""
+        return ""
+
+    def beside_nets(self) -> str:
+        """What is declared for what stands beside the module under test."""
+        return ""
+
+    def beside(self) -> str:
+        """What stands beside the module under test, and has faults planted in it."""
+        return model_links(self)
+
+    def ends(self, kind: str) -> str:
+        """What looks at both ends of the pins that go through the module under test, which is of this kind."""
+        return ""
+
+    def wanted_fails(self) -> str:
+        """The bits of fail that a testbench has to see."""
+        return f"planted ? {self.count}'d1 << at_unit : {zero(self.count)}"
+
+    def read_each(self, kind: str, read: str) -> str:
+        """What a testbench does to read the first failure of each memory; `read` are the statements that read what is told."""
+        return ""
+
+    def how_planted(self) -> str:
+        """The words of a call that plants a fault."""
+        which = " +unit=U" if self.is_chip else ""
+        return f"//   +planted +address=A +bit=B +value=V{which}   a bit of a word is stuck at V (0 where nothing is said of a number)"
+
+    def choice(self) -> list[Port]:
+        """Of a chip the units whose failures are not kept."""
+        return [Port("input", "ignore", self.count)] if self.is_chip else []
+
+
+def is_chip_file(path: str) -> bool:
+    """Whether a file begins as a chip file does."""
+    said = statements(read_described(path))
+    return bool(said) and said[0][1] == "chip"
+
+
+def is_list(path: str) -> bool:
+    """Whether a file begins as a list of memories above chip files does."""
+    said = statements(read_described(path))
+    return bool(said) and said[0][1] == "list"
+
+
+def of_memory(memory: Memory, done: int | None) -> Target:
+    return Target(memory.name, f"{memory.name}_bist", [Unit(memory, "")], False, done)
+
+
+# classes that every source of SystemVerilog has
+BUILT_IN = {"process", "mailbox", "semaphore"}
+
+
+def of_chip(chip: Chip) -> Target:
+    if chip.name in RESERVED | BUILT_IN:
+        why = "is a word of SystemVerilog, so most simulators refuse the chip's module: give it another name"
+        raise ToolError(f"'{chip.name}' {why}")
+    units = [Unit(unit.memory, f"_{number}", unit.start) for number, unit in enumerate(chip.units)]
+    return Target(chip.name, chip.name, units, True, chip.done)
+
+
+def header(about: str, name: str, ports: list[Port], registers: tuple[str, ...] = (), before: Sequence[str] = ()) -> str:
+    """The comment, the name and the ports of a module; `before` are lines of ports that stand under a define."""
+    lines = []
+    for port in ports:
+        kept = port.name in registers
+        lines.append(port.declared().replace("output ", "output reg ", 1) if kept else port.declared())
+    first = "".join(f"{line}\n" for line in before)
+    return f"{about}\nmodule {name}(\n{first}  " + ",\n  ".join(lines) + "\n);\n"
+
+
+def links(ports: list[Port]) -> str:
+    """The same names on both sides of an instance."""
+    return ", ".join(f".{port.name}({port.name})" for port in ports)
+
+
+def zero(width: int) -> str:
+    return f"{width}'d0"
+
+
+def extended(name: str, width: int, to: int) -> str:
+    """A word with zeros in front."""
+    return f"{{{to - width}'d0, {name}}}" if to > width else name
+
+
+# ---- start, state and first failure
+
+
+def pipeline(unit: Unit) -> tuple[list[str], list[str]]:
+    """The declarations and the assignments of the words of a unit: what returned in the cycle before, and what the
+    write data were when the read of that answer was commanded."""
+    word, suffix = ranged(unit.memory.bits), unit.suffix
+    names = [f"want{suffix}_{count}" for count in range(1, unit.memory.latency + 2)]
+    declared = [f"  reg {word}{name};" for name in (f"answer{suffix}", *names)]
+    sources = [f"wdata{suffix}", *names[:-1]]
+    moved = [f"    {name} <= {source};" for name, source in zip(names, sources)]
+    return declared, [f"    answer{suffix} <= rdata{suffix};", *moved]
+
+
+def chosen(target: Target, value: Callable[[int], str]) -> str:
+    """What `value` answers of the first unit whose bit of `rises` is 1."""
+    if not target.is_chip:
+        return value(0)
+    parts = [f"rises[{number}] ? {value(number)} : " for number in range(target.count - 1)] if target.count > 1 else []
+    return "".join(parts) + value(target.count - 1)
+
+
+def expected_of(target: Target, number: int) -> str:
+    unit = target.units[number]
+    return extended(f"want{unit.suffix}_{unit.memory.latency + 1}", unit.memory.bits, target.word)
+
+
+def returned_of(target: Target, number: int) -> str:
+    unit = target.units[number]
+    return extended(f"answer{unit.suffix}", unit.memory.bits, target.word)
+
+
+def of_each(target: Target) -> list[str]:
+    """The registers of the first failure of each memory, and the choice of that which is told: the first one by its number that
+    failed and is not to be ignored. What is chosen stands still, so that ignore may be of any clock and change behind done."""
+    words = [(f"cycle_{at}", 32, "count") for at in range(target.count)]
+    for at, unit in enumerate(target.units):
+        bits, suffix = unit.memory.bits, unit.suffix
+        words += [(f"expected_{at}", bits, f"want{suffix}_{unit.memory.latency + 1}"), (f"returned_{at}", bits, f"answer{suffix}")]
+    lines = [f"  reg {ranged(width)}{name};" for name, width, _ in words]
+    lines += [
+        f"  reg {ranged(target.count)}kept;",
+        "  always @(posedge clk)",
+        "    if (!test) begin",
+        "      count <= 32'd0;",
+        "      done <= 1'b0;",
+        f"      failed <= {zero(target.count)};",
+        f"      kept <= {zero(target.count)};",
+        *(f"      {name} <= {zero(width)};" for name, width, _ in words),
+        "    end else begin",
+        "      count <= over ? count : count + 32'd1;",
+        "      done <= over;",
+        "      failed <= fail;",
+        "      kept <= kept | rises;",
+    ]
+    for at in range(target.count):
+        bit = f"rises[{at}]" if target.count > 1 else "rises"
+        lines.append(f"      if ({bit}) begin")
+        lines += [f"        {name} <= {value};" for name, _, value in words if name.rsplit("_", 1)[1] == str(at)]
+        lines.append("      end")
+    return [*lines, "    end", *told_of_each(target)]
+
+
+def told_of_each(target: Target) -> list[str]:
+    """Which of them is told."""
+    count, bits, last = target.count, target.unit_bits, target.count - 1
+    chosen_unit = "".join(f"open[{at}] ? {bits}'d{at} : " for at in range(last)) if count > 1 else ""
+    found = [
+        f"  wire {ranged(count)}open = kept & ~ignore;",
+        f"  assign seen = open != {zero(count)};",
+        f"  assign unit = {chosen_unit}{bits}'d{last};",
+    ]
+    for name, width in (("cycle", 32), ("expected", target.word), ("returned", target.word)):
+        of = [extended(f"{name}_{at}", width if name == "cycle" else unit.memory.bits, width) for at, unit in enumerate(target.units)]
+        choice = "".join(f"unit == {bits}'d{at} ? {one} : " for at, one in enumerate(of[:-1]))
+        found.append(f"  assign {name} = {choice}{of[-1]};")
+    return found
+
+
+def capture(target: Target) -> list[str]:
+    """The registers of the first failure: they are written once, and hold until `test` falls."""
+    if target.each:
+        return of_each(target)
+    values = [
+        ("seen", 1, "1'b1"),
+        ("cycle", 32, "count"),
+        ("expected", target.word, chosen(target, lambda number: expected_of(target, number))),
+        ("returned", target.word, chosen(target, lambda number: returned_of(target, number))),
+    ]
+    if target.is_chip:
+        bits = target.unit_bits
+        values.append(("unit", bits, chosen(target, lambda number: f"{bits}'d{number}")))
+        clear, hit = [f"      failed <= {zero(target.count)};"], f"rises != {zero(target.count)}"
+        move = ["      failed <= fail;"]
+    else:
+        clear, hit, move = [], "fail", []
+    return [
+        "  always @(posedge clk)",
+        "    if (!test) begin",
+        "      count <= 32'd0;",
+        "      done <= 1'b0;",
+        *clear,
+        *(f"      {name} <= {zero(width)};" for name, width, _ in values),
+        "    end else begin",
+        "      count <= over ? count : count + 32'd1;",
+        "      done <= over;",
+        *move,
+        f"      if ({hit} && !seen) begin",
+        *(f"        {name} <= {value};" for name, _, value in values),
+        "      end",
+        "    end",
+    ]
+
+
+ACCESS = """// The self-test of {name}, its start and its state, and of the first failure the cycle and the words.
+//   start      of any clock: the test runs while it is 1, and what was found is kept until it falls
+//   test       1 while the self-test has the {what}; 0 in normal use
+//   done       the test is over; seen, fail and the words stand by then
+//   fail       {fail}
+//   cycle      in which the wrong word stood on rdata; the last cycle of the reset is 0"""
+
+
+def access(target: Target) -> str:
+    """The module NAME_access."""
+    fail = "a bit for each unit, the first one's lowest" if target.is_chip else "a read was wrong"
+    about = ACCESS.format(name=target.name, what="memories" if target.is_chip else "memory", fail=fail)
+    if target.is_chip:
+        about += (
+            "\n//   unit       whose failure it is"
+            "\n//   ignore     a bit for each unit whose failures are not kept; it stays as it is while start is 1"
+        )
+        if target.each:
+            about = about.replace("whose failures are not kept; it stays as it is while start is 1", "of whose failure nothing is told")
+            about = about.replace("whose failure it is", "whose failure it is: the first one, by its number, that failed")
+    state = [Port("output", name) for name in ("test", "done", "fail", "seen")]
+    state[2].width = target.count
+    ports = [Port("input", "clk"), Port("input", "start"), *target.choice(), *target.ports(), *state, *target.result()]
+    kept = ("done",) if target.each else ("done", "seen", *(port.name for port in target.result()))
+    declared, moved = [], []
+    for unit in target.units:
+        more = pipeline(unit)
+        declared += more[0]
+        moved += more[1]
+    lines = [
+        "  // start comes of another clock",
+        "  reg start_1;",
+        "  reg start_2;",
+        "  reg [31:0] count;",
+        "  wire over;",
+        *target.nets(),
+        *declared,
+        *([f"  reg {ranged(target.count)}failed;", f"  wire {ranged(target.count)}rises;"] if target.is_chip else []),
+        "  assign test = start_2;",
+        *([f"  assign rises = fail & ~failed{'' if target.each else ' & ~ignore'};"] if target.is_chip else []),
+        *target.self_test(),
+        "  always @(posedge clk) begin",
+        "    start_1 <= start;",
+        "    start_2 <= start_1;",
+        *moved,
+        "  end",
+        *capture(target),
+        "endmodule",
+    ]
+    return header(about, f"{target.name}_access", ports, kept, target.conditional()) + "\n".join(lines) + "\n"
+
+
+# ---- from one clock to the other
+
+CROSS = """// Between the clock of a bus and that of the memories of {name}: a start goes over when the one before it
+// has arrived, and the state comes back behind two registers, `done` behind three, so that no `done` is seen before
+// what it stands for.
+module {name}_cross(
+  input clock,
+  input reset_n,
+  input want,
+  input test,
+  input done,
+  input {fails}fail,
+  input seen,
+  output reg start,
+  output has_test,
+  output is_done,
+  output {fails}has_failed,
+  output is_seen
+);
+  reg test_1;
+  reg test_2;
+  reg done_1;
+  reg done_2;
+  reg done_3;
+  reg {fails}fail_1;
+  reg {fails}fail_2;
+  reg seen_1;
+  reg seen_2;
+  assign has_test = want & start & test_2;
+  assign is_done = has_test & done_3;
+  assign has_failed = has_test ? fail_2 : {zero};
+  assign is_seen = has_test & seen_2;
+  always @(posedge clock or negedge reset_n)
+    if (!reset_n) start <= 1'b0;
+    else if (test_2 == start) start <= want;
+  always @(posedge clock) begin
+    test_1 <= test;
+    test_2 <= test_1;
+    done_1 <= done;
+    done_2 <= done_1;
+    done_3 <= done_2;
+    fail_1 <= fail;
+    fail_2 <= fail_1;
+    seen_1 <= seen;
+    seen_2 <= seen_1;
+  end
+endmodule
+"""
+
+
+def cross(target: Target) -> str:
+    """The module NAME_cross."""
+    return CROSS.format(name=target.name, fails=ranged(target.count), zero=zero(target.count))
+
+
+def inside(target: Target, clock: str, reset_n: str) -> str:
+    """The declarations and the two modules that each bus has behind it."""
+    wires = [
+        ("done", 1),
+        ("fail", target.count),
+        ("seen", 1),
+        ("start", 1),
+        ("has_test", 1),
+        ("is_done", 1),
+        ("has_failed", target.count),
+        ("is_seen", 1),
+        *((port.name, port.width) for port in target.result()),
+    ]
+    found = ["test", "done", "fail", "seen"]
+    names = [Port("", name) for name in (*found, "start", "has_test", "is_done", "has_failed", "is_seen")]
+    lines = [f"  wire {ranged(width)}{name};" for name, width in wires]
+    behind = [*target.choice(), *target.ports(), *(Port("", name) for name in found), *target.result()]
+    lines += [
+        f"  {target.name}_cross crossing(.clock({clock}), .reset_n({reset_n}), .want(want),",
+        f"    {links(names)});",
+        "\n".join([f"  {target.name}_access tested(", *target.handed_on(), "    "]).replace("(\n    ", "(")
+        + f".clk(clk), .start(start), {links(behind)});",
+    ]
+    return "\n".join(lines) + "\n"
+
+
+# ---- memories for the testbenches
+
+MODEL = """// Memories for the testbenches of {name}, not for a chip. Where `planted` is 1, one bit of one word{unit} is
+// stuck.
+module {name}_model(
+  input clk,
+  {ports},
+  input planted,
+  input [9:0] at_unit,
+  input [15:0] at_address,
+  input [5:0] at_bit,
+  input at_value
+);
+{parts}endmodule
+"""
+PART = """  reg {word}words{s} [0:{last}];
+  reg {word}answers{s} [1:{latency}];
+  wire {word}stuck{s};
+  wire {word}read{s};
+  assign stuck{s} = (planted && at_unit == 10'd{number} && at_address == {address}) ? {one} << at_bit : {zero};
+  assign read{s} = (words{s}[addr{s}] & ~stuck{s}) | (at_value ? stuck{s} : {zero});
+  assign rdata{s} = answers{s}[{latency}];
+  always @(posedge clk) begin : memory{s}
+    integer i;
+    if (en{s} && we{s}) words{s}[addr{s}] <= wdata{s};
+    answers{s}[1] <= (en{s} && !we{s}) ? read{s} : {{{bits}{{1'bx}}}};
+    for (i = 1; i < {latency}; i = i + 1) answers{s}[i + 1] <= answers{s}[i];
+  end
+"""
+
+
+def model(target: Target) -> str:
+    """The module NAME_model: memories as wide and as late as those of the target."""
+    parts = []
+    for number, unit in enumerate(target.units):
+        it = unit.memory
+        parts.append(
+            PART.format(
+                s=unit.suffix,
+                number=number,
+                word=ranged(it.bits),
+                last=(1 << it.width) - 1,
+                latency=it.latency,
+                address=extended(f"addr{unit.suffix}", it.width, 16),
+                one=f"{it.bits}'d1",
+                zero=zero(it.bits),
+                bits=it.bits,
+            )
+        )
+    ways = {"input": "output", "output": "input"}
+    turned = [Port(ways[port.direction], port.name, port.width) for port in target.ports()]
+    ports = ",\n  ".join(port.declared() for port in turned)
+    which = " of one unit" if target.is_chip else ""
+    return MODEL.format(name=target.name, ports=ports, parts="".join(parts), unit=which)
+
+
+def model_links(target: Target) -> str:
+    """An instance of the model."""
+    names = [Port("", name) for name in ("planted", "at_unit", "at_address", "at_bit", "at_value")]
+    return f"  {target.name}_model memories(.clk(clk), {links(target.ports())},\n    {links(names)});\n"

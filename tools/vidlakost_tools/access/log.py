@@ -1,0 +1,217 @@
+"""A log of wrong reads: a comparator beside a self-test, with a small queue of cycles and words, and the text of such a
+log."""
+from __future__ import annotations
+
+import dataclasses
+import re
+
+from vidlakost_tools.access.bench import most
+from vidlakost_tools.access.block import Port, Target, header, links, model_links
+from vidlakost_tools.text import stream
+from vidlakost_tools.texts.memory import Memory
+from vidlakost_tools.tool import ToolError
+from vidlakost_tools.verilog.bench_end import FINISH, over, planted
+from vidlakost_tools.verilog.syntax import ranged
+
+LOG = """// The first {depth} wrong reads of the self-test of {name}: a comparator beside it. In the cycle of a read
+// `wdata` has the word that it expects, which has to stand on rdata {latency} cycles later.
+//   test       as that of {name}_access; 0 clears the log
+//   pick       which entry stands on cycle, expected and word, the first one is 0
+//   count      how many entries there are
+//   more       wrong reads came when the log was full"""
+
+
+def block(memory: Memory, depth: int) -> str:
+    """The module NAME_log."""
+    size = max(1, (depth - 1).bit_length())
+    counts = depth.bit_length()
+    ports = [
+        Port("input", "clk"),
+        Port("input", "test"),
+        Port("input", "en"),
+        Port("input", "we"),
+        Port("input", "wdata", memory.bits),
+        Port("input", "rdata", memory.bits),
+        Port("input", "pick", size),
+        Port("output", "count", counts),
+        Port("output", "more"),
+        Port("output", "cycle", 32),
+        Port("output", "expected", memory.bits),
+        Port("output", "word", memory.bits),
+    ]
+    stages = range(1, memory.latency + 1)
+    moved = []
+    for stage in stages:
+        before = ("en & ~we", "wdata") if stage == 1 else (f"reads_{stage - 1}", f"want_{stage - 1}")
+        moved += [f"    reads_{stage} <= test & {before[0]};", f"    want_{stage} <= {before[1]};"]
+    word = ranged(memory.bits)
+    place = f"count[{size - 1}:0]" if counts > 1 else "count"
+    lines = [
+        "  reg [31:0] now;",
+        *(f"  reg reads_{stage};\n  reg {word}want_{stage};" for stage in stages),
+        f"  reg [31:0] cycles [0:{(1 << size) - 1}];",
+        f"  reg {word}wanted [0:{(1 << size) - 1}];",
+        f"  reg {word}words [0:{(1 << size) - 1}];",
+        "  wire differs;",
+        f"  assign differs = reads_{memory.latency} & (rdata != want_{memory.latency});",
+        "  assign cycle = cycles[pick];",
+        "  assign expected = wanted[pick];",
+        "  assign word = words[pick];",
+        "  always @(posedge clk) begin",
+        *moved,
+        "    now <= test ? now + 32'd1 : 32'd1;",
+        "    if (!test) begin",
+        f"      count <= {counts}'d0;",
+        "      more <= 1'b0;",
+        "    end else if (differs) begin",
+        f"      if (count == {counts}'d{depth}) more <= 1'b1;",
+        "      else begin",
+        f"        cycles[{place}] <= now;",
+        f"        wanted[{place}] <= want_{memory.latency};",
+        f"        words[{place}] <= rdata;",
+        f"        count <= count + {counts}'d1;",
+        "      end",
+        "    end",
+        "  end",
+        "endmodule",
+    ]
+    about = LOG.format(name=memory.name, depth=depth, latency=memory.latency)
+    return header(about, f"{memory.name}_log", ports, ("count", "more")) + "\n".join(lines) + "\n"
+
+
+BENCH = """// Runs the self-test of {name} and prints its log, as `vidlakost bitmap` reads it.
+//   +planted +address=A +bit=B +value=V   a bit of a word is stuck at V (0 where nothing is said of a number)
+module {name}_log_tb;
+{over}  reg clk = 1'b0;
+  initial forever #5 clk = ~clk;
+  reg test = 1'b0;
+  wire done;
+  wire fail;
+{wires}{planted}  reg {size}pick = {size_bits}'d0;
+  wire {counts}count;
+  wire more;
+  wire [31:0] cycle;
+  wire {word}expected;
+  wire {word}word;
+  integer waited;
+  {name}_bist dut(.clk(clk), .reset(!test), {ports}, .done(done), .fail(fail));
+  {name}_log log(.clk(clk), .test(test), .en(en), .we(we), .wdata(wdata), .rdata(rdata), .pick(pick), .count(count),
+    .more(more), .cycle(cycle), .expected(expected), .word(word));
+{model}
+  initial begin
+    repeat (4) @(negedge clk);
+    test = 1'b1;
+    waited = 0;
+    while (done !== 1'b1) begin
+      @(negedge clk);
+      waited = waited + 1;
+      if (waited > {most}) $fatal(1, "{name}: done did not come");
+    end
+    @(negedge clk);
+    if (fail !== (count != {counts_bits}'d0)) $fatal(1, "{name}: fail is %b, and the log has %0d entries", fail, count);
+    if (fail !== planted) $fatal(1, "{name}: fail is %b, and %0d bits are stuck", fail, planted);
+    for (waited = 0; waited < {{{pad}'d0, count}}; waited = waited + 1) begin
+      pick = waited[{size_top}:0];
+      #1 $display("cycle %0d expected %h returned %h", cycle, expected, word);
+    end
+    if (more) $display("more");
+    $display("fail %b", fail);
+    """ + FINISH + """
+  end
+endmodule
+"""
+
+
+def bench(target: Target, depth: int) -> str:
+    """The testbench of NAME_log."""
+    memory = target.units[0].memory
+    size, counts = max(1, (depth - 1).bit_length()), depth.bit_length()
+    return BENCH.format(
+        name=memory.name,
+        over=over(f"{memory.name}_log_tb"),
+        planted=planted(f"{memory.name}_log_tb", [(memory.words, memory.bits)]),
+        wires="".join(f"  wire {ranged(port.width)}{port.name};\n" for port in target.ports()),
+        size=ranged(size),
+        size_bits=size,
+        size_top=size - 1,
+        counts=ranged(counts),
+        counts_bits=counts,
+        pad=32 - counts,
+        word=ranged(memory.bits),
+        ports=links(target.ports()),
+        model=model_links(target),
+        most=most(target),
+    )
+
+
+# ---- the text of a log
+
+
+# how many entries a log may have, and how long it may be
+MOST = 1 << 20
+LOG_BYTES = 1 << 26
+# the start of an entry is short, so that a long line is looked at once
+OF_UNIT = re.compile(r"\bunit ([0-9]{1,9}) cycle ")
+ENTRY = re.compile(r"\bcycle ([0-9]{1,10}) expected ([0-9a-fA-F]{1,16}) returned ([0-9a-fA-F]{1,16})\b")
+
+
+@dataclasses.dataclass
+class Entry:
+    """A wrong read: its cycle, and the words that were expected and read."""
+
+    cycle: int
+    expected: int
+    word: int
+
+
+def entry_in(line: str) -> re.Match[str] | None:
+    """The entry of a line, if it has one; a line with two, or with a part of another, is refused."""
+    match = ENTRY.search(line)
+    count = len(re.findall(r"\bcycle\b", line))
+    if count and match is None:
+        raise ToolError("an entry is 'cycle C expected X returned W'; the words are hexadecimal")
+    if count > 1:
+        raise ToolError(f"the line has the word cycle {count} times, and an entry stands in a line of its own")
+    return match
+
+
+def read_log(path: str, memory: Memory, unit: int | None = None) -> tuple[list[Entry], bool]:
+    """The entries of a log, of a chip those of a unit, and whether more came. A line has `cycle C expected X returned W`;
+    other lines are left. They come in the order of their cycles, and the last one may be cut off where a run was ended."""
+    entries: list[Entry] = []
+    more = False
+    # a testbench of a bus says the first failure in front of the log
+    said_before: Entry | None = None
+    for count, line in enumerate(stream(path, LOG_BYTES), 1):
+        try:
+            match, whose = entry_in(line), OF_UNIT.search(line)
+        except ToolError as error:
+            raise ToolError(f"{path}:{count}: {error}") from error
+        if whose and unit is None:
+            raise ToolError(f"{path}:{count}: this is the log of a chip: give its chip file, with --unit {whose[1]}")
+        if whose and int(whose[1]) != unit:
+            continue
+        if match:
+            if more and unit is None:
+                raise ToolError(f"{path}:{count}: an entry stands behind 'more': is this the log of two runs?")
+            entry = Entry(int(match[1]), int(match[2], 16), int(match[3], 16))
+            for word in match.group(2, 3):
+                if int(word, 16) >> memory.bits:
+                    raise ToolError(f"{path}:{count}: {word} is no word of {memory.bits} bits")
+            if entry.expected == entry.word:
+                raise ToolError(f"{path}:{count}: the word that was read is the one that was expected")
+            if len(entries) == 1 and entry == said_before:
+                continue
+            said_before = entry if line.startswith("fail ") and not entries else None
+            if entries and entry.cycle <= entries[-1].cycle:
+                told = f"cycle {entry.cycle} stands behind cycle {entries[-1].cycle}: is this the log of two runs?"
+                raise ToolError(f"{path}:{count}: {told}")
+            if line.endswith(match[3]) and len(match[3]) < len(memory.digits(0)):
+                raise ToolError(f"{path}:{count}: the text ends within the word {match[3]}")
+            entries.append(entry)
+            if len(entries) > MOST:
+                raise ToolError(f"{path}:{count}: these are more than {MOST:,} wrong reads")
+        more = more or line.strip() == "more"
+    if not entries:
+        raise ToolError(f"{path}: no line has 'cycle C expected X returned W'")
+    return entries, more

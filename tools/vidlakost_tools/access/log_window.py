@@ -1,0 +1,321 @@
+"""The way of a log to a tester: the log of each memory behind a bus, the window of an APB3 bus, and the register of a TAP that
+tells one entry in each scan."""
+from __future__ import annotations
+
+import dataclasses
+
+from vidlakost_tools.access import network
+from vidlakost_tools.access.block import Port, Target, extended, zero
+from vidlakost_tools.verilog.syntax import ranged
+
+# where the window stands, how many bytes an entry has in it, and the bits of the number of an entry
+WINDOW, ENTRY_BYTES, PICK_BITS = 0x800, 0x20, 6
+
+
+def depth_of(target: Target) -> int:
+    """How many entries a log has."""
+    assert target.depth is not None
+    return target.depth
+
+
+def result(target: Target) -> list[Port]:
+    """What of an entry a bus reads."""
+    words = [Port("", name, target.word) for name in ("log_expected", "log_returned")]
+    return [Port("", "log_count", 7), Port("", "log_more"), Port("", "log_cycle", 32), *words]
+
+
+def declared(target: Target) -> list[str]:
+    """The wires of all logs, and of the one that is chosen."""
+    lines = [f"  wire [{PICK_BITS - 1}:0] log_pick;", "  wire log_here;"]
+    lines += [f"  wire {ranged(port.width)}{port.name};" for port in result(target)]
+    size, counts = max(1, (depth_of(target) - 1).bit_length()), depth_of(target).bit_length()
+    for unit in target.units:
+        it, s = unit.memory, unit.suffix
+        wires = [Port("", "count", counts), Port("", "more"), Port("", "cycle", 32)]
+        wires += [Port("", "expected", it.bits), Port("", "word", it.bits)]
+        lines += [f"  wire {ranged(port.width)}log_{port.name}_of{s};" for port in wires]
+        pick = f"log_pick[{size - 1}:0]" if size > 1 else "log_pick[0]"
+        own = "".join(f" .{name}({name}{s})," for name in ("en", "we", "wdata", "rdata"))
+        told = ", ".join(f".{port.name}(log_{port.name}_of{s})" for port in wires)
+        lines += [f"  {it.name}_log log{s}(.clk(clk), .test(test),{own}", f"    .pick({pick}), {told});"]
+    return lines
+
+
+def chosen(target: Target) -> list[str]:
+    """What a bus reads: it stands when the test is done, since the log changes by then no more."""
+    counts = depth_of(target).bit_length()
+    sources = {"log_count": ("count", counts), "log_more": ("more", 1), "log_cycle": ("cycle", 32)}
+    lines = []
+    for port in result(target):
+        name, width = sources.get(port.name, ("expected" if port.name == "log_expected" else "word", 0))
+        of = [extended(f"log_{name}_of{unit.suffix}", width or unit.memory.bits, port.width) for unit in target.units]
+        choice = "".join(f"log_unit == {target.unit_bits}'d{number} ? {one} : " for number, one in enumerate(of[:-1]))
+        lines.append(f"  assign {port.name} = is_done ? ({choice}{of[-1]}) : {zero(port.width)};")
+    return [*lines, "  assign log_here = {1'b0, log_pick} < log_count;"]
+
+
+def inside(target: Target) -> str:
+    """The logs beside the self-test, where there are some."""
+    return "" if target.depth is None else "\n".join([*declared(target), *chosen(target), ""])
+
+
+# ---- the window of an APB3 bus
+
+
+@dataclasses.dataclass(frozen=True)
+class Cell:
+    """A register of an entry: its name, its place in the entry, and the bits of a word that it has."""
+
+    name: str
+    at: int
+    source: str
+    low: int
+    width: int
+    about: str
+
+    def value(self, whole: int) -> str:
+        bits = f"[{self.low + self.width - 1}:{self.low}]" if self.width > 1 else f"[{self.low}]"
+        name = self.source + (bits if self.width < whole else "")
+        return f"log_here ? {extended(name, self.width, 32)} : 32'd0"
+
+
+def cells(target: Target) -> list[Cell]:
+    """The registers of an entry."""
+    made = [Cell("LOG_CYCLE", 0x00, "log_cycle", 0, 32, "the cycle of a wrong read, as vidlakost locate takes it")]
+    words = (("EXPECTED", 0x04, "the word that the march expects"), ("RETURNED", 0x0C, "the word that returned"))
+    for name, at, about in words:
+        source, high = f"log_{name.lower()}", target.word - 32
+        if high <= 0:
+            made.append(Cell(f"LOG_{name}", at, source, 0, target.word, about))
+            continue
+        made.append(Cell(f"LOG_{name}_LOW", at, source, 0, 32, f"{about}, its lower 32 bits"))
+        made.append(Cell(f"LOG_{name}_HIGH", at + 4, source, 32, high, f"{about}, its upper bits"))
+    return made
+
+
+def window(target: Target, before: list[str]) -> list[str]:
+    """The answer of a read in the window, and of any other behind it."""
+    if target.depth is None:
+        return before
+    lines = ["      if (paddr[11]) begin"]
+    in_range = f"paddr[10:5] < 6'd{target.depth}" if target.depth < 64 else "1'b1"
+    lines += [f"        is_there <= {in_range};", "        case (paddr[4:0])"]
+    whole = {"log_cycle": 32, "log_expected": target.word, "log_returned": target.word}
+    lines += [f"          5'h{cell.at:02x}: value <= {cell.value(whole[cell.source])};" for cell in cells(target)]
+    lines += ["          default: begin", "            value <= 32'd0;", "            is_there <= 1'b0;", "          end"]
+    return [*lines, "        endcase", "      end else begin", *(f"  {line}" for line in before), "      end"]
+
+
+def table_rows(target: Target) -> list[str]:
+    """The registers of the window for the table of Markdown."""
+    if target.depth is None:
+        return []
+    rows = []
+    for cell in cells(target):
+        bits = "0" if cell.width == 1 else f"{cell.width - 1}:0"
+        where = f"0x{WINDOW + cell.at:03x} + 0x{ENTRY_BYTES:x} N"
+        rows.append(f"| {where} | {cell.name} | {bits} | {cell.name.lower()} | read | of entry N, {cell.about} |")
+    return rows
+
+
+def rdl(target: Target) -> list[str]:
+    """The window in SystemRDL."""
+    if target.depth is None:
+        return []
+    lines = []
+    for cell in cells(target):
+        field = f'field {{ sw = r; hw = w; desc = "{cell.about}"; }} {cell.name.lower()}[{cell.width - 1}:0];'
+        at = f"@ 0x{WINDOW + cell.at:03x} += 0x{ENTRY_BYTES:x}"
+        lines += ["  reg {", f"    {field}", f"  }} {cell.name}[{target.depth}] {at};"]
+    return lines
+
+
+APB_READS = """      // the entries of the log
+      if (round == 0) begin
+{choose}        get(12'h028);
+        entries = heard[6:0];
+        more_came = heard[31];
+        for (entry = 0; entry < entries; entry = entry + 1) begin
+          get(12'h800 + 12'd32 * entry[11:0]);
+          when_read = heard;
+{words}          $display("{form}cycle %0d expected %h returned %h"{unit}, when_read, wanted, got);
+        end
+        if (more_came) $display("more");
+{again}      end
+"""
+
+
+def apb_reads(target: Target) -> str:
+    """What the testbench of an APB block reads of the log, of a chip that of each unit."""
+    if target.depth is None:
+        return ""
+    lines = []
+    for cell in cells(target)[1:]:
+        name = "wanted" if cell.source == "log_expected" else "got"
+        part = f"[{cell.low + cell.width - 1}:{cell.low}]" if cell.width > 1 else f"[{cell.low}]"
+        part = part if cell.width < target.word else ""
+        heard = f"heard[{cell.width - 1}:0]" if cell.width > 1 else "heard[0]"
+        lines.append(f"          get(12'h{WINDOW + cell.at:03x} + 12'd32 * entry[11:0]);\n          {name}{part} = {heard};\n")
+    choose, again, form, unit = "", "", "", ""
+    if target.is_chip:
+        choose = f"        for (of_unit = 0; of_unit < {target.count}; of_unit = of_unit + 1) begin\n"
+        choose += "        put(12'h02c, of_unit);\n"
+        again, form, unit = "        end\n", "unit %0d ", ", of_unit"
+    return APB_READS.format(choose=choose, words="".join(lines), form=form, unit=unit, again=again)
+
+
+APB_DECLARED = "  integer entry;\n  integer entries;\n  integer of_unit;\n  reg more_came;\n"
+
+
+# ---- the register of a TAP
+
+def fields(target: Target) -> list[tuple[str, int, str]]:
+    """The parts of the register from its lowest bit on: name, width and what is captured."""
+    words = [(name, target.word, f"(log_here ? log_{name} : {zero(target.word)})") for name in ("expected", "returned")]
+    unit = [("unit", target.unit_bits, "log_unit")] if target.is_chip else []
+    cycle = "(log_here ? log_cycle : 32'd0)"
+    return [("valid", 1, "log_here"), ("last", 1, "log_last"), ("more", 1, "log_more"), ("cycle", 32, cycle), *words, *unit]
+
+
+def length(target: Target) -> int:
+    return sum(width for _, width, _ in fields(target))
+
+
+def tap_parts(target: Target) -> dict[str, str]:
+    """What a TAP has for the log; nothing where there is none."""
+    names = ("log_held", "log_name", "log_capture", "log_shift", "log_reset", "log_step", "log_update", "log_out")
+    if target.depth is None:
+        return dict.fromkeys(names, "")
+    # behind a segment insertion bit there is no instruction of its own
+    own = "" if target.has_sib else "{}"
+    bits, top = target.unit_bits, length(target) - 1
+    captured = ", ".join(source for _, _, source in reversed(fields(target)))
+    is_end = f" & log_unit == {bits}'d{target.count - 1}" if target.is_chip else ""
+    held = [f"  reg [{PICK_BITS - 1}:0] log_at;", f"  reg [{top}:0] log_data;", "  wire log_last;", "  wire log_ends;"]
+    held += [f"  reg {ranged(bits)}log_unit;"] if target.is_chip else []
+    reset = ["      log_at <= 6'd0;", *([f"      log_unit <= {zero(bits)};"] if target.is_chip else [])]
+    step = ["      log_at <= log_ends ? 6'd0 : log_at + 6'd1;"]
+    step += [f"      if (log_ends && !log_last) log_unit <= log_unit + {bits}'d1;"] if target.is_chip else []
+    return {
+        "log_held": "\n".join([*held, ""]),
+        "log_name": own.format(", LOG = 4'h9"),
+        "log_capture": f"      log_data <= {{{captured}}};\n",
+        "log_shift": own.format(f"        LOG: log_data <= {{tdi, log_data[{top}:1]}};\n"),
+        "log_reset": "\n".join([*reset, ""]),
+        "log_step": "\n".join([*step, ""]),
+        "log_update": own.format("\n".join(["    else if (state == UPDATE_DR && instruction == LOG) begin", *step, "    end", ""])),
+        "log_out": own.format("        LOG: out <= log_data[0];\n"),
+        "log_wires": "\n".join(
+            [
+                "  assign log_pick = log_at;",
+                "  assign log_ends = {1'b0, log_at} + 7'd1 >= log_count;",
+                f"  assign log_last = log_ends{is_end};",
+                "",
+            ]
+        ),
+    }
+
+
+TAP_READS = """      if (round == 0) begin
+        // the entries of the log, one in each scan
+        {begin}
+        heard = 0;
+        while (heard[{last}] !== 1'b1) begin
+          shift({length}, {word});
+          if (heard[{valid}]) $display("{form}cycle %0d expected %h returned %h"{unit}, heard[{cycle}], heard[{wanted}], heard[{got}]);
+          if (heard[{more}]) more_came = 1'b1;
+        end
+        if (more_came) $display("more");
+        {end}
+      end
+"""
+
+
+def scan_length(target: Target) -> int:
+    """How many bits a scan of the log has: behind its segment insertion bit also this bit and that of the self-test, the lowest."""
+    return length(target) + (2 if target.has_sib else 0)
+
+
+def places(target: Target) -> dict[str, str]:
+    """The bits of each part of the register in a scan."""
+    found, low = {}, 1 if target.has_sib else 0
+    for name, width, _ in fields(target):
+        found[name] = f"{low + width - 1}:{low}" if width > 1 else str(low)
+        low += width
+    return found
+
+
+def tap_reads(target: Target, size: int, width: int) -> str:
+    """What the testbench of a TAP reads of the log, where a scan of its register has so many bits, and a word has `width`."""
+    if target.depth is None:
+        return ""
+    at, scan = places(target), scan_length(target)
+    begin, word, end = "instruct(4'h9);", "0", "instruct(4'h8);"
+    if target.has_sib:
+        is_open = network.constant(width, 1 << scan - 1)
+        begin = f"shift({network.whole(target, size)}, {network.constant(width, network.to_log(size))});"
+        word, end = is_open, f"shift({scan}, {network.constant(width, 1)});"
+    form, unit = ("unit %0d ", f", heard[{at['unit']}]") if target.is_chip else ("", "")
+    return TAP_READS.format(
+        length=scan, last=at["last"], valid=at["valid"], more=at["more"], cycle=at["cycle"], wanted=at["expected"],
+        got=at["returned"], form=form, unit=unit, begin=begin, word=word, end=end,
+    )
+
+
+TCL = """# Runs the self-test of {name} by OpenOCD, and prints its log as `vidlakost bitmap`, `diagnosis` and `locate --line` read it.
+# A player of {name}.svf ends the test also where it found something, and the log with it: so `start` stays at 1 here.
+#   openocd -f {name}.cfg -c "source {name}_log.tcl" -c run_and_read -c shutdown
+proc run_and_read {{}} {{
+  irscan bist.tap 0x8
+{open}  drscan bist.tap {stopped}
+  runtest 16
+  drscan bist.tap {started}
+  set polls 0
+  while 1 {{
+    runtest 1000
+    set state [drscan bist.tap {started}]
+    if {{[format %d 0x[lindex $state 1]] != 0}} {{ break }}
+    incr polls
+    if {{$polls > {polls}}} {{ error "done did not come" }}
+  }}
+  puts stdout "fail [format %d 0x[lindex $state 2]]"
+  read_log
+}}
+proc read_log {{}} {{
+  {to_log}
+  set more 0
+  for {{set scan 0}} {{$scan < {most}}} {{incr scan}} {{
+    set entry [drscan bist.tap {fields}]
+    if {{[format %d 0x[lindex $entry {at_valid}]] != 0}} {{
+      puts stdout "{unit}cycle [format %d 0x[lindex $entry {at_cycle}]] expected [lindex $entry {at_expected}] returned [lindex $entry {at_returned}]"
+    }}
+    if {{[format %d 0x[lindex $entry {at_more}]] != 0}} {{ set more 1 }}
+    if {{[format %d 0x[lindex $entry {at_last}]] != 0}} {{ break }}
+  }}
+  if {{$more}} {{ puts stdout "more" }}
+  {to_end}
+}}
+"""
+
+
+def tcl(target: Target, widths: list[int]) -> str:
+    """The procedures for OpenOCD; the register of BIST has parts of these widths, the first of which is `start`."""
+    scans, rest = (" ".join(f"{one} 0" for one in some) for some in ([one for _, one, _ in fields(target)], widths[1:]))
+    first = 1 if target.has_sib else 0
+    at = {f"at_{name}": str(first + place) for place, (name, _, _) in enumerate(fields(target))}
+    unit = f"unit [format %d 0x[lindex $entry {at['at_unit']}]] " if target.is_chip else ""
+    # behind the parts of the register stand the bits of the network, and round those of the log
+    own, of_log = (" 1 1 1 0", "1 0 {} 1 1") if target.has_sib else ("", "{}")
+    return TCL.format(
+        name=target.name,
+        open="  drscan bist.tap 2 1\n" if target.has_sib else "",
+        stopped=f"1 0 {rest}{own}",
+        started=f"1 1 {rest}{own}",
+        polls=target.length // 1000 + 1000,
+        to_log=f"drscan bist.tap 1 1 {rest} 1 0 1 1" if target.has_sib else "irscan bist.tap 0x9",
+        to_end=f"drscan bist.tap 1 1 {scans} 1 0" if target.has_sib else "irscan bist.tap 0x8",
+        fields=of_log.format(scans),
+        most=target.count * depth_of(target),
+        unit=unit,
+        **at,
+    )

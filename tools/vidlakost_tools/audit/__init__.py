@@ -1,0 +1,1 @@
+"""What `vidlakost audit` finds of somebody else's controller."""

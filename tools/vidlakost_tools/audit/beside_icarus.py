@@ -1,0 +1,279 @@
+"""The sources themselves, clocked by Icarus beside the module that Yosys makes of them, from the same random registers, before a
+memory some of whose answers are wrong: what a simulator reads otherwise shows as a port that differs."""
+from __future__ import annotations
+
+import dataclasses
+import os
+import pathlib
+import re
+import shutil
+import subprocess
+import tempfile
+from typing import Callable
+
+from vidlakost_tools.audit.pins import INPUTS, Pins
+from vidlakost_tools.text import shown
+from vidlakost_tools.texts.memory import Memory
+from vidlakost_tools.tool import ToolError, telling
+from vidlakost_tools.verilog import confined
+from vidlakost_tools.verilog.front_end import Plain
+from vidlakost_tools.verilog.syntax import ranged
+from vidlakost_tools.verilog.vhdl import is_vhdl
+from vidlakost_tools.verilog.yosys import blanked, with_included, with_members
+
+CYCLES = 2000
+# in the first half of them the registers have other numbers after so many
+LENGTH = 20
+SECONDS = 120
+# a signal in a hierarchy, as a simulator names it too
+SIGNAL = re.compile(r"[A-Za-z_][\w$]*(\[\d+\])?(\.[A-Za-z_][\w$]*(\[\d+\])?)*")
+# calls by which a source that is clocked would write files, or run a program
+WRITES = re.compile(r"\$(?:f?open|fwrite|fdisplay|fstrobe|fmonitor|fflush|dump\w+|writemem\w*|system|swrite)\b")
+BENCH = """module vidlakost_beside;
+  reg clk = 0, reset = 0;
+  reg {word}rdata = 0;
+{wires}
+  {top} dut({pins});
+  vidlakost_made made({ports});
+  reg {word}kept [0:{last}];
+  reg {word}answers [0:{latency}];
+  integer cycle, late;
+  // in which cycle a port of the sources is first unknown where the made module has a number
+  integer unknown = -1;
+
+  task compare(input [63:0] one, input [63:0] other, input [63:0] port);
+    integer at;
+    // words that are the same have no bit that differs
+    if (one !== other) for (at = 0; at < 64; at = at + 1)
+      if (other[at] !== 1'bx && other[at] !== 1'bz && one[at] !== other[at]) begin
+        if (one[at] !== 1'bx) begin
+          $display("differs %0s %0d %b %b", port, cycle, one[at], other[at]);
+          $finish(0);
+        end else if (unknown < 0) unknown = cycle;
+      end
+  endtask
+
+  // random registers, the same on both sides
+  task start;
+    begin
+    reset = 0;
+    #1;
+{registers}
+    #1;
+{same}
+    #1;
+    end
+  endtask
+
+  initial begin
+    // no x comes in
+    for (late = 0; late <= {last}; late = late + 1) kept[late] = {{$urandom, $urandom}};
+    for (late = 0; late <= {latency}; late = late + 1) answers[late] = {{$urandom, $urandom}};
+    start;
+    for (cycle = 0; cycle < {cycles}; cycle = cycle + 1) begin
+      if (cycle > 0 && cycle < {starts} && cycle % {length} == 0) start;
+      reset = cycle == 0 || $urandom % 97 == 0;
+      rdata = $urandom % 12 == 0 ? {{$urandom, $urandom}} : answers[{latency}];
+      #4;
+{compares}
+      for (late = {latency}; late > 0; late = late - 1) answers[late] = answers[late - 1];
+      answers[1] = made_en === 1 && made_we === 0 ? kept[made_addr] : {{$urandom, $urandom}};
+      if (^answers[1] === 1'bx) answers[1] = {{$urandom, $urandom}};
+      if (made_en === 1 && made_we === 1) kept[made_addr] = made_wdata;
+      clk = 1;
+      if (cycle % 100 == 99) begin
+        $display("at %0d", cycle + 1);
+        $fflush;
+      end
+      #1;
+      #4 clk = 0;
+      #1;
+    end
+    $display("equal %0d", unknown);
+    $finish(0);
+  end
+endmodule
+"""
+
+
+@dataclasses.dataclass
+class Beside:
+    """What is clocked: the files of the sources, the module made of them, its pins and the memory, and the models of known
+    cells."""
+
+    files: list[str]
+    plain: Plain
+    pins: Pins | None
+    memory: Memory
+    cells: str = ""
+    cycles: int = CYCLES
+
+    def known(self) -> str:
+        """The models of known cells. Icarus reads no number that a port has where nothing is connected; x it is then."""
+        return re.sub(r"(\binput \w+) = 1'b[01]", r"\1", self.cells)
+
+    def dut_pins(self) -> str:
+        """The pins of the sources' top."""
+        if self.pins is None:
+            clock = self.plain.clock or "clk"
+            names = [(name, clock if name == "clk" else name) for _, name, _ in self.plain.ports]
+            return ", ".join(f".{pin}({port if port in INPUTS else f'dut_{port}'})" for port, pin in names)
+        told = [f".{pin.name}({'~' if pin.is_low else ''}{port})" for port, pin in self.pins.inputs()]
+        told += [f".{pin.name}({'low' if pin.is_low else 'dut'}_{port})" for port, pin in self.pins.outputs()]
+        return ", ".join(told + [f".{name}({value})" for name, value in self.pins.ties.items()])
+
+    def wires(self) -> list[str]:
+        lows = {port for port, pin in self.pins.outputs() if pin.is_low} if self.pins else set()
+        found = []
+        for way, port, width in self.plain.ports:
+            if way == "output":
+                found.append(f"  wire {ranged(width)}made_{port};")
+                found.append(f"  wire {ranged(width)}dut_{port}{f' = ~low_{port}' if port in lows else ''};")
+                found[-1:] = [*([f"  wire {ranged(width)}low_{port};"] if port in lows else []), found[-1]]
+        return found
+
+    def same(self, dut: str = "dut.", made_in: str = "made.") -> dict[str, set[str]]:
+        """The lines by which the registers of the sources become as those of the made module are, with the bits of these. A signal
+        of which some bits are no registers is set where no other has its bits, and is said to have none."""
+        bits: dict[str, dict[int, str]] = {}
+        for register in self.plain.registers:
+            for index, origin in enumerate(self.plain.origins.get(register.name, [])):
+                made = f"{made_in}{register.name}[{index}]" if register.width > 1 else f"{made_in}{register.name}"
+                for name, at in origin:
+                    bits.setdefault(name, {})[at] = made
+        whole = [name for name in bits if len(bits[name]) == self.plain.widths[name]]
+        done = {made for name in whole for made in bits[name].values()}
+        found = {}
+        for name in filter(SIGNAL.fullmatch, bits):
+            if name not in whole and done >= set(bits[name].values()):
+                continue
+            value = ", ".join(bits[name].get(at, "1'b0") for at in reversed(range(self.plain.widths[name])))
+            # a word of a memory is no target of $deposit
+            line = f"    {dut}{name} = {{{value}}};" if name.endswith("]") else f"    $deposit({dut}{name}, {{{value}}});"
+            found[line] = set(bits[name].values()) if name in whole else set()
+        return found
+
+    def is_whole(self, same: dict[str, set[str]]) -> bool:
+        """Whether these lines set each register, so that they may be set at any time."""
+        bits = {f"made.{one.name}[{index}]" if one.width > 1 else f"made.{one.name}" for one in self.plain.registers for index in range(one.width)}
+        return bits <= set().union(*same.values())
+
+    def bench(self, same: dict[str, set[str]]) -> str:
+        outputs = [port for way, port, _ in self.plain.ports if way == "output"]
+        return BENCH.format(
+            word=ranged(self.memory.bits),
+            wires="\n".join(self.wires()),
+            top=self.plain.top,
+            pins=self.dut_pins(),
+            ports=", ".join(f".{name}({name if way == 'input' else f'made_{name}'})" for way, name, _ in self.plain.ports),
+            last=2**self.memory.width - 1,
+            latency=self.memory.latency,
+            registers="\n".join(f"    made.{one.name} = {{$urandom, $urandom}};" for one in self.plain.registers),
+            same="\n".join(same),
+            cycles=self.cycles,
+            starts=self.cycles // 2 if self.is_whole(same) else 0,
+            length=LENGTH,
+            compares="\n".join(f'      compare(dut_{port}, made_{port}, "{port}");' for port in outputs),
+        )
+
+
+def refuse_sources(files: list[str], libraries: list[str]) -> None:
+    if shutil.which("iverilog") is None or shutil.which("vvp") is None:
+        raise ToolError("--simulate needs Icarus (iverilog and vvp) on the PATH")
+    if libraries or any(map(is_vhdl, files)):
+        raise ToolError("--simulate clocks sources in Verilog; of a library's cells it needs those in Verilog too")
+    for file, source in with_included(files):
+        found = next((match for text in blanked(source) for match in WRITES.finditer(text)), None)
+        if found:
+            raise ToolError(f"{shown(file)}:{source.count(chr(10), 0, found.start()) + 1}: {found[0]} would reach beyond a simulation", 1)
+
+
+def how_far(out: pathlib.Path) -> str:
+    """The cycle at which a run is."""
+    found = re.findall(r"^at (\d+)$", out.read_text(encoding="utf-8", errors="replace"), re.MULTILINE)
+    return f"cycle {found[-1]} of {CYCLES}" if found else ""
+
+
+def call(words: list[str], folder: pathlib.Path) -> tuple[int, str]:
+    """The status and the words of a program that may change this folder alone."""
+    out = folder / "out"
+    with confined.holds(folder) as hold, open(out, "wb") as file, telling("Icarus is at work", lambda: how_far(out)):
+        try:
+            done = subprocess.run(
+                words,
+                stdin=subprocess.DEVNULL,
+                stdout=file,
+                stderr=subprocess.STDOUT,
+                timeout=SECONDS,
+                env={**os.environ, "TMPDIR": str(folder)},
+                preexec_fn=hold,
+                check=False,
+            )
+        except subprocess.TimeoutExpired as error:
+            why = "a block that wakes itself without end would look so"
+            raise ToolError(f"Icarus took longer than {SECONDS} seconds, and was ended; {why}", 1) from error
+    said = out.read_bytes().decode("utf-8", "replace")
+    return done.returncode, re.sub(rf"{re.escape(str(folder))}/(?:given\d+/)?", "", said)
+
+
+# a line that sets a signal of the sources, by $deposit or without
+SETS = re.compile(r"    (?:\$deposit\()?(?P<dut>[a-z.]*\bdut\.)(?P<name>[\w$.\[\]]+)(?: =|,) (?P<value>\{.*\})\)?;")
+
+
+def escaped(line: str) -> str | None:
+    """The line that sets a signal of the same name behind a backslash, as netlists have them; None where it is one."""
+    match = SETS.fullmatch(line)
+    return f"    $deposit({match['dut']}\\{match['name']} , {match['value']});" if match else None
+
+
+def known(same: dict[str, set[str]], unknown: set[str]) -> dict[str, set[str]]:
+    """The lines without those that name what Icarus doesn't know, which are tried once more with a backslash."""
+    lines = {line: escaped(line) if line in unknown else line for line in same}
+    return {told: same[line] for line, told in lines.items() if told is not None}
+
+
+def compiled(words: list[str], folder: pathlib.Path, bench: Callable[[dict[str, set[str]]], str], same: dict[str, set[str]]) -> None:
+    """Compiles a bench whose lines set the registers of the sources, but for those that Icarus doesn't know."""
+    for _ in range(20):
+        text = bench(same)
+        (folder / "bench.v").write_text(text, encoding="utf-8")
+        status, said = call(words, folder)
+        lines = {int(number) for number in re.findall(r"^bench\.v:(\d+): ", said, re.MULTILINE)}
+        unknown = {line for number, line in enumerate(text.split("\n"), 1) if number in lines} & set(same)
+        if status == 0 or not unknown:
+            break
+        same = known(same, unknown)
+    if status:
+        raise ToolError(f"Icarus refuses the sources: {(said.splitlines() or ['no reason is given'])[0]}", 1)
+
+
+def beside(asked: Beside) -> str:
+    """What is found of the sources beside the made module; a port that differs is refused."""
+    with tempfile.TemporaryDirectory() as name:
+        folder = pathlib.Path(name)
+        made = dataclasses.replace(asked.plain, name="vidlakost_made")
+        (folder / "made.v").write_text(made.text(), encoding="utf-8")
+        (folder / "cells.v").write_text(asked.known(), encoding="utf-8")
+        copies, _ = with_members(asked.files, folder)
+        files = [os.path.abspath(file) for file in copies]
+        places = [f"-I{place}" for place in dict.fromkeys([os.getcwd(), *(os.path.dirname(os.path.abspath(file)) for file in asked.files)])]
+        words = ["iverilog", "-g2012", "-s", "vidlakost_beside", *places, "-o", str(folder / "run")]
+        words += [str(folder / part) for part in ("bench.v", "made.v", "cells.v")] + files
+        compiled(words, folder, asked.bench, asked.same())
+        _, said = call(["vvp", "-n", str(folder / "run")], folder)
+    return found_in(said, asked.cycles)
+
+
+def found_in(said: str, cycles: int) -> str:
+    """What the last line of the run says."""
+    last = (said.strip().splitlines() or [""])[-1]
+    differs = re.search(r"^\s*differs (\w+) (\d+) (\S) (\S)$", said, re.MULTILINE)
+    if differs:
+        port, cycle, one, other = differs.groups()
+        why = f"{port} is {one} in cycle {cycle} by Icarus, and {other} by Yosys"
+        raise ToolError(f"the sources mean two things, from random registers and with random resets: {why}", 1)
+    equal = re.fullmatch(r"equal (-?\d+)", last)
+    if equal is None:
+        raise ToolError(f"the run by Icarus came to no end: {shown(last)}", 1)
+    open_at = "" if equal[1] == "-1" else f"; from cycle {equal[1]} on a port is unknown to Icarus in some of them"
+    return f"beside Icarus: equal in {cycles} cycles{open_at}"

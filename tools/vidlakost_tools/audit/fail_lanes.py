@@ -1,0 +1,293 @@
+"""The port `fail` of a controller in all histories at once: its gates are run with three values (1, 0, open) in lanes, a
+bit of a long number for each.
+
+In lane 0 every answer is right. For each answer and each of its bits one lane has right answers before it, that bit of it
+the lowest that is wrong, and everything later open. Each history is that of lane 0 or has a first answer that is wrong, with
+a lowest wrong bit in it, so `fail` is as it has to be in every history where it is so in each lane; and so it is where each
+lane has the highest wrong bit, which tells what a comparison of sizes answers. Every register is open at first, and so is
+`rdata` in each cycle without an answer. A lane whose answer lies some answers back is laid together with the earlier lanes of its
+bit: what is not the same in both becomes open."""
+from __future__ import annotations
+
+import dataclasses
+import enum
+import time
+from typing import Any, Iterator
+
+from vidlakost_tools.audit.gates import Machine
+from vidlakost_tools.tool import tell
+
+# so many answers have lanes of their own at a time
+RECENT = 8
+# so many cycles behind the end are looked at, unless nothing changes any more
+BEHIND = 64
+# the lanes of a slice, where each lane has to be run by itself
+SLICE = 4096
+
+
+class Side(enum.Enum):
+    """Of which wrong bit of the first wrong answer a lane is: of the lowest, so that those below it are right, or of the highest."""
+
+    LOWEST = "lowest"
+    HIGHEST = "highest"
+
+    def is_right(self, bit: int, wrong: int) -> bool:
+        """Whether a bit is right in the lane of a wrong one."""
+        return bit < wrong if self is Side.LOWEST else bit > wrong
+
+    def lanes(self, bit: int, bits: int) -> int:
+        """The lanes of an answer in which a bit of it is right, each lane being that of a wrong bit."""
+        return sum(1 << wrong for wrong in range(bits) if self.is_right(bit, wrong))
+
+
+@dataclasses.dataclass
+class Plan:
+    """The answers of a test, by their cycles; the cycles to the one that shows the last; the first cycle that is looked at; how
+    many cycles later than the rule `fail` may tell a wrong answer, fewer than there are answers with lanes of their own."""
+
+    answers: dict[int, int]
+    cycles: int
+    bits: int
+    first: int = 0
+    late: int = 0
+    side: Side = Side.LOWEST
+
+
+@dataclasses.dataclass
+class Found:
+    """What is found of `fail`: whether it is exact, and otherwise where it is not, and in which lane."""
+
+    kind: str
+    cycle: int = 0
+    wanted: int = 0
+    got: str = ""
+    answer: int | None = None
+    bit: int = 0
+    lanes: int = 0
+
+    def line(self) -> str:
+        """The finding as a sentence."""
+        if self.kind == "exact":
+            behind = "ever after" if self.cycle < 0 else f"to cycle {self.cycle}"
+            return f"fail is exact: in every history of {self.lanes} first wrong bits and in that without one, {behind}"
+        if self.kind == "limit":
+            return f"fail is exact to cycle {self.cycle}; the limit of time ended the look at it there"
+        if self.got == "open":
+            return f"fail is unknown in cycle {self.cycle} where {self.case()}: it has to be {self.wanted}"
+        return f"fail is {self.got} in cycle {self.cycle} though {self.case()}"
+
+    def case(self) -> str:
+        """The histories of its lane."""
+        if self.answer is None:
+            return "all answers are right"
+        if self.wanted:
+            return f"bit {self.bit} of the answer of cycle {self.answer} is wrong"
+        return f"no answer before that of cycle {self.answer} is wrong"
+
+    def short(self) -> str:
+        """The finding, as the last line has it."""
+        if self.kind == "exact":
+            return "fail is exact" if self.cycle < 0 else f"fail is exact to cycle {self.cycle}"
+        return f"fail is not known behind cycle {self.cycle}" if self.kind == "limit" else self.line()
+
+
+class Clock:
+    """The time that is left, and each ten seconds a line of progress."""
+
+    def __init__(self, limit: float):
+        self.begin = time.monotonic()
+        self.end, self.next = self.begin + limit, self.begin + 10
+
+    def left(self) -> float:
+        return self.end - time.monotonic()
+
+    def is_over(self, cycle: int, cycles: int) -> bool:
+        now = time.monotonic()
+        if now > self.next:
+            self.next = now + 10
+            tell(f"audit: fail is looked at (cycle {cycle} of {cycles}), for {now - self.begin:.0f} seconds by now")
+        return now > self.end
+
+
+def compare(found: tuple[int, int], live: int, want: int) -> int:
+    """The lanes, of those that are looked at, in which `fail` is not as it has to be."""
+    one, zero = found
+    return live & ((one ^ want) | (zero ^ ~want))
+
+
+def run_joined(machine: Machine, plan: Plan, clock: Clock) -> Found | None:
+    """Lane 0, a lane for each bit of the recent answers, and for each bit one lane in which the earlier ones lie together;
+    None where that is not told by them."""
+    bits = plan.bits
+    word = (1 << bits) - 1
+    full = (1 << 1 + bits + RECENT * bits) - 1
+    state = [(0, 0)] * len(machine.registers)
+    want, live, joined, count, cycle = 0, 1, False, 0, 0
+    slots: dict[int, int] = {}
+    right = [plan.side.lanes(bit, bits) for bit in range(bits)]
+    quiet, due = 0, [0] * plan.late
+    while cycle < plan.cycles + BEHIND and quiet < 2:
+        known, wrong, values, base = False, 0, 0, 0
+        if cycle in plan.answers:
+            slot, base = count % RECENT, 1 + bits + count % RECENT * bits
+            if slot in slots:
+                state = [(lay(one, base, word, joined), lay(zero, base, word, joined)) for one, zero in state]
+                joined, live, want = True, live | word << 1, want | word << 1
+            state = [(spread(one, base, word), spread(zero, base, word)) for one, zero in state]
+            slots[slot], count = cycle, count + 1
+            live, want = live | word << base, want & ~(word << base)
+            known, wrong, values = True, word << base, plan.answers[cycle]
+        rdata = [
+            given(values >> bit & 1, 1 | right[bit] << base, 1 << base + bit) if known else (0, 0) for bit in range(bits)
+        ]
+        before = state
+        state, (fail,) = machine.step(state, [*rdata, (full, 0) if cycle == 0 else (0, full)], full)
+        bad = compare(fail, live, want) if cycle >= plan.first else 0
+        if bad:
+            lane = (bad & -bad).bit_length() - 1
+            if 1 <= lane <= bits:
+                return None
+            slot, bit = divmod(lane - 1 - bits, bits)
+            return found_at(fail, cycle, want, lane, (slots[slot], bit) if lane else None)
+        due.append(wrong)
+        want |= due.pop(0)
+        quiet = quiet + 1 if cycle >= plan.cycles and state == before else 0
+        cycle += 1
+        if cycle % 128 == 0 and clock.is_over(cycle, plan.cycles):
+            return Found("limit", cycle - 1)
+    return Found("exact", -1 if quiet else cycle - 1, lanes=count * bits)
+
+
+def given(bit: int, right: int, wrong: int) -> tuple[int, int]:
+    """A bit of an answer: right in some lanes, wrong in others, open in the rest."""
+    return (right, wrong) if bit else (wrong, right)
+
+
+def spread(lanes: int, base: int, word: int) -> int:
+    """The lanes of an answer begin where lane 0 is."""
+    return lanes & ~(word << base) | (word << base if lanes & 1 else 0)
+
+
+def lay(lanes: int, base: int, word: int, joined: bool) -> int:
+    """The lanes of an answer are laid together with those of the earlier answers."""
+    kept = lanes >> base & word
+    return lanes & ~(word << 1) | (kept & lanes >> 1 if joined else kept) << 1
+
+
+def found_at(fail: tuple[int, int], cycle: int, want: int, lane: int, wrong: tuple[int, int] | None) -> Found:
+    """What `fail` is in a lane, whose first wrong answer and bit these are."""
+    got = "1" if fail[0] >> lane & 1 else "0" if fail[1] >> lane & 1 else "open"
+    found = Found("unknown" if got == "open" else "differs", cycle, want >> lane & 1, got)
+    if wrong:
+        found.answer, found.bit = wrong
+    return found
+
+
+def run_slice(machine: Machine, plan: Plan, answers: list[int], start: tuple[int, list[Any]], clock: Clock) -> Found:
+    """A lane for each bit of each of some answers, and behind them one in which all are right, from the state of lane 0 at
+    the first of them."""
+    bits = plan.bits
+    place = {cycle: count * bits for count, cycle in enumerate(answers)}
+    right = [plan.side.lanes(bit, bits) for bit in range(bits)]
+    last = len(answers) * bits
+    full = (2 << last) - 1
+    cycle, single = start
+    state = [(full if one & 1 else 0, full if zero & 1 else 0) for one, zero in single]
+    want, word = 0, (1 << bits) - 1
+    told, quiet, due = 0, 0, [0] * plan.late
+    while cycle < plan.cycles + BEHIND and quiet < 2:
+        before = state
+        rdata = [(0, 0)] * bits
+        wrong = 0
+        if cycle in plan.answers:
+            # lanes whose answer is still to come have this one right
+            later = full & ~told
+            if cycle in place:
+                wrong = word << place[cycle]
+                later &= ~wrong
+            for bit in range(bits):
+                own = (1 << bit, right[bit]) if wrong else (0, 0)
+                base = place.get(cycle, 0)
+                rdata[bit] = given(plan.answers[cycle] >> bit & 1, later | own[1] << base, own[0] << base)
+        state, (fail,) = machine.step(state, [*rdata, (full, 0) if cycle == 0 else (0, full)], full)
+        bad = compare(fail, full, want) if cycle >= plan.first else 0
+        if bad:
+            lane = (bad & -bad).bit_length() - 1
+            slot, bit = divmod(lane, bits)
+            return found_at(fail, cycle, want, lane, (answers[slot], bit) if lane < last else None)
+        told |= wrong
+        due.append(wrong)
+        want |= due.pop(0)
+        cycle += 1
+        if cycle % 32 == 0 and clock.is_over(cycle, plan.cycles):
+            return Found("limit", start[0])
+        quiet = quiet + 1 if cycle > plan.cycles and state == before else 0
+    return Found("exact", -1 if quiet else cycle - 1)
+
+
+def states_at(machine: Machine, plan: Plan, cycles: list[int]) -> Iterator[tuple[int, list[Any]]]:
+    """Of lane 0 the state at the begin of each of these cycles."""
+    state, wanted = [(0, 0)] * len(machine.registers), set(cycles)
+    for cycle in range(max(cycles) + 1):
+        if cycle in wanted:
+            yield cycle, state
+        word = plan.answers.get(cycle)
+        rdata = [(0, 0) if word is None else (word >> bit & 1, 1 - (word >> bit & 1)) for bit in range(plan.bits)]
+        state, _ = machine.step(state, [*rdata, (1, 0) if cycle == 0 else (0, 1)], 1)
+
+
+def run_apart(machine: Machine, plan: Plan, clock: Clock) -> Found:
+    """Each lane by itself, in slices."""
+    answers = sorted(plan.answers)
+    size = max(1, SLICE // plan.bits)
+    parts = [answers[first : first + size] for first in range(0, len(answers), size)]
+    until = -1
+    for part, start in zip(parts, states_at(machine, plan, [part[0] for part in parts])):
+        found = run_slice(machine, plan, part, start, clock)
+        if found.kind != "exact":
+            return found
+        until = max(until, found.cycle)
+    return Found("exact", until, lanes=len(answers) * plan.bits)
+
+
+def look_at(machine: Machine, plan: Plan, clock: Clock) -> Found:
+    """What is found of `fail`; what is open on one side may be told on the other."""
+    opens: list[Found] = []
+    for side in Side:
+        sided = dataclasses.replace(plan, side=side)
+        found = run_joined(machine, sided, clock) or run_apart(machine, sided, clock)
+        if found.got != "open":
+            return found if found.kind != "limit" or not opens else opens[0]
+        opens.append(found)
+    return run_one(machine, plan, opens[0]) or opens[0]
+
+
+def run_one(machine: Machine, plan: Plan, found: Found) -> Found | None:
+    """The one history in which that bit alone is wrong, where `fail` has a wrong number in it."""
+    state, want = [(0, 0)] * len(machine.registers), 0
+    for cycle in range(plan.cycles + 3 + plan.late):
+        rdata = [(0, 0)] * plan.bits
+        if cycle in plan.answers:
+            word = plan.answers[cycle] ^ (1 << found.bit if cycle == found.answer else 0)
+            rdata = [(word >> bit & 1, 1 - (word >> bit & 1)) for bit in range(plan.bits)]
+        state, (fail,) = machine.step(state, [*rdata, (1, 0) if cycle == 0 else (0, 1)], 1)
+        if cycle >= plan.first and fail == ((0, 1) if want else (1, 0)):
+            return Found("differs", cycle, int(want), str(fail[0]), found.answer, found.bit)
+        want |= found.answer is not None and cycle == found.answer + plan.late
+    return None
+
+
+def words_of(plan: Plan, found: Found) -> dict[int, list[tuple[int, int]]]:
+    """The answers of the lane that was found: right ones, then the one with a wrong bit, whose others are open."""
+    words = {}
+    for cycle, word in plan.answers.items():
+        bits = [(word >> bit & 1, 1 - (word >> bit & 1)) for bit in range(plan.bits)]
+        if found.answer is None or cycle < found.answer:
+            words[cycle] = bits
+        elif cycle == found.answer:
+            one, zero = bits[found.bit]
+            words[cycle] = [
+                (zero, one) if bit == found.bit else pair if plan.side.is_right(bit, found.bit) else (0, 0)
+                for bit, pair in enumerate(bits)
+            ]
+    return words

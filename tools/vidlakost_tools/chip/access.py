@@ -1,0 +1,296 @@
+"""What a tester needs round a whole chip that `vidlakost top` joined: the same start, state and first failure as round
+one memory, with a bit for each memory, and the chip's pins of all collars on their way through."""
+from __future__ import annotations
+
+import dataclasses
+import pathlib
+import re
+from typing import Iterator
+
+from vidlakost_tools.access.block import Port, Target, Unit, links
+from vidlakost_tools.chip import text as system_text
+from vidlakost_tools.chip.steps import cycles
+from vidlakost_tools.chip.system import System
+from vidlakost_tools.collar import planted as collar_planted
+from vidlakost_tools.collar.pins import RESERVED
+from vidlakost_tools.collar.planted import DEFINE
+from vidlakost_tools.collar.watch import POWER
+from vidlakost_tools.text import LARGE_BYTES, lines_of, read_described, read_text
+from vidlakost_tools.tool import ToolError
+from vidlakost_tools.verilog.syntax import ranged
+
+# a net inside a module that is written
+INNER = re.compile(r"^ +(?:reg|wire) (?:\[\d+:0\] )?(\w+);", re.MULTILINE)
+ENDS = """
+  // each bit of each pin by itself, and each two bits of the outputs apart, before the first edge of the clock
+  wire [{ins} - 1:0] pins_inside = {arrived};
+  wire [{outs} - 1:0] outs_outside = {seen};
+  wire [{outs} - 1:0] outs_inside = {said};
+  integer pin;
+  integer inverse;
+  task outputs_looked_at;
+    if (outs_outside !== outs_inside)
+      $fatal(1, "{name}: inside the outputs are %b, and at the chip they are %b", outs_inside, outs_outside);
+  endtask
+  initial begin
+    for (pin = 0; pin < {ins}; pin = pin + 1)
+      for (inverse = 0; inverse < 2; inverse = inverse + 1) begin
+        pins = {{{ins}{{inverse == 1}}}} ^ ({ins}'d1 << pin);
+        #0;
+        if (pins_inside !== pins)
+          $fatal(1, "{name}: the pins of the chip are %b, and inside they are %b", pins, pins_inside);
+      end
+    pins = {ins}'d0;
+    // a simulator that forces no net of another module looks at the inputs alone
+`ifndef VERILATOR
+{forced}
+{released}
+`endif
+  end
+"""
+EACH = """      // each of them by itself, in any order
+      if (is_each && round == 0)
+        for (asked_one = {count} - 1; asked_one >= 0; asked_one = asked_one - 1)
+          if (failing[asked_one]) begin
+            ignored = ~({count}'d1 << asked_one);
+{ignore}
+{read}
+            if (whose !== asked_one || (wanted ^ got) !== 1 || when_read !== failed_at[asked_one])
+              $fatal(1, "{name}: of memory %0d is told %0d, cycle %0d, %h and %h, and it failed in cycle %0d", asked_one, whose,
+                when_read, wanted, got, failed_at[asked_one]);
+            $display("memory %0d cycle %0d expected %h returned %h", whose, when_read, wanted, got);
+          end
+"""
+AGES = """
+  reg [31:0] age;
+  reg [31:0] failed_at [0:{count} - 1];
+  reg [{count} - 1:0] has_failed_before;
+  integer one;
+  always @(posedge clk)
+    if (test !== 1'b1) begin
+      age <= 0;
+      has_failed_before <= 0;
+    end else begin
+      age <= age + 1;
+      has_failed_before <= has_failed_before | {inside}.fail;
+      for (one = 0; one < {count}; one = one + 1)
+        if ({inside}.fail[one] === 1'b1 && has_failed_before[one] !== 1'b1) failed_at[one] <= age;
+    end
+"""
+ABOUT = """//   +planted +unit=U +bit=B   each word that memory U answers has bit B wrong"""
+ABOUT_EACH = """
+//   +each                      the lowest bit of each macro is wrong, and of each memory its own first failure is read"""
+
+
+@dataclasses.dataclass
+class SystemTarget(Target):
+    """The memories of a whole chip, and the module that joins them."""
+
+    system: System = dataclasses.field(default_factory=lambda: System("", 1, []))
+
+    def ports(self) -> list[Port]:
+        """The chip's pins of all collars."""
+        scan = [Port("input", "scan_mode")] if self.has_scan else []
+        told = system_text.chip_ports(self.system)
+        return scan + [Port(way, name, width) for way, width, name in told if way != "inout"]
+
+    def pins_by_clock(self) -> list[tuple[str, list[Port], list[Port]]]:
+        """Each clock of the chip's, `clk` first, with its inputs and its outputs."""
+        found: dict[str, tuple[list[Port], list[Port]]] = {"clk": ([], [])}
+        if self.has_scan:
+            found["clk"][0].append(Port("input", "scan_mode"))
+        for placed in self.system.collars:
+            second = next((pin for pin in placed.macro.of("clk", second=True)), None)
+            for way, pin in placed.macro.chip_pins():
+                names = [system_text.port_name(placed, name) for name in pin.names()]
+                if pin.kind in ("clk", "clock2"):
+                    found.setdefault(names[0], ([], []))
+                elif way != "inout":
+                    clock = system_text.port_name(placed, second.name) if second and pin.is_second else "clk"
+                    ports = [Port(way, name, 1 if pin.bits else pin.width) for name in names]
+                    found.setdefault(clock, ([], []))[way == "output"].extend(ports)
+        return [(clock, *ports) for clock, ports in found.items()]
+
+    # ---- the first failure of each memory
+
+    def first_parts(self) -> int:
+        """The memories at which a bit is wrong where one is wrong at each macro: of a word of two the low part."""
+        return sum(1 << self.system.parts.index(placed.parts[0]) for placed in self.system.collars)
+
+    def wanted_fails(self) -> str:
+        return f"is_each ? {self.count}'h{self.first_parts():x} : {super().wanted_fails()}"
+
+    def read_each(self, kind: str, read: str) -> str:
+        """Behind the run the first failure of each memory, one behind the other, as their bits of ignore are 0."""
+        return EACH.format(count=self.count, read=read, ignore=self.ignoring(kind), name=self.name) if self.each else ""
+
+    def ignoring(self, kind: str) -> str:
+        """The statements by which all memories but those of `ignored` are told."""
+        if kind == "apb":
+            places = [(0x24 if low == 0 else 0x200 + 4 * (low // 32 - 1), low) for low in range(0, self.count, 32)]
+            widths = [min(32, self.count - low) for _, low in places]
+            return "\n".join(f"        put(12'h{at:03x}, ignored[{low + width - 1}:{low}]);" for (at, low), width in zip(places, widths))
+        return "" if kind == "access" else "        shift_ignored;"
+
+    def ages(self, kind: str) -> str:
+        """In which cycle each bit of fail rose."""
+        return AGES.format(count=self.count, inside="dut" if kind == "access" else "dut.tested") if self.each else ""
+
+    @property
+    def has_scan(self) -> bool:
+        return any(placed.macro.bypass for placed in self.system.collars)
+
+    def supplies(self) -> list[str]:
+        return [name for way, _, name in system_text.chip_ports(self.system) if way == "inout"]
+
+    def conditional(self) -> list[str]:
+        power = [f"`ifdef {POWER}", *(f"  inout wire {name}," for name in self.supplies()), "`endif"]
+        return [*(power if self.supplies() else []), *collar_planted.ports(len(self.system.collars))]
+
+    def handed_on(self) -> list[str]:
+        names = [name for name, _ in collar_planted.INPUTS]
+        power = [f"`ifdef {POWER}", *(f"    .{name}({name})," for name in self.supplies()), "`endif"]
+        planted = [f"`ifdef {DEFINE}", f"    {', '.join(f'.{name}({name})' for name in names)},", "`endif"]
+        return [*(power if self.supplies() else []), *planted]
+
+    def nets(self) -> list[str]:
+        """What each memory's test writes and reads."""
+        found = []
+        for unit in self.units:
+            word = f"[{unit.memory.bits - 1}:0] " if unit.memory.bits > 1 else ""
+            found += [f"  wire {word}wdata{unit.suffix};", f"  wire {word}rdata{unit.suffix};"]
+        return found
+
+    def self_test(self) -> list[str]:
+        seen = []
+        for unit in self.units:
+            seen += [f".given{unit.suffix}(wdata{unit.suffix})", f".taken{unit.suffix}(rdata{unit.suffix})"]
+        return [
+            f"  {self.top} self_test(",
+            *self.handed_on(),
+            f"    .clk(clk), .test(test), {links(self.ports())},",
+            f"    {', '.join(seen)},",
+            "    .done(over), .fail(fail));",
+        ]
+
+    # ---- in a testbench
+
+    def bench_head(self) -> str:
+        return f"`define {DEFINE}\n`timescale 1ns / 1ps\n"
+
+    def bench_nets(self) -> str:
+        """The chip's pins; the inputs are at rest but for a moment at the begin."""
+        inputs, outputs = self.by_way("input"), self.by_way("output")
+        found = [f"  reg [{width_of(inputs) - 1}:0] pins = {width_of(inputs)}'d0;"]
+        found += [f"  wire {ranged(port.width)}{port.name} = pins[{high}:{low}];" for port, high, low in placed(inputs)]
+        found += [f"  wire {ranged(port.width)}{port.name};" for port in outputs]
+        power = [f"`ifdef {POWER}", *(f"  wire {name} = 1'b1;" for name in self.supplies()), "`endif"]
+        return "\n".join([*found, *(power if self.supplies() else [])])
+
+    def by_way(self, way: str) -> list[Port]:
+        return [port for port in self.ports() if port.direction == way]
+
+    def ends(self, kind: str) -> str:
+        """Before the clock's first edge each bit of each pin by itself, from the chip to the module inside and back."""
+        inside = "dut.self_test" if kind == "access" else "dut.tested.self_test"
+        inputs, outputs = self.by_way("input"), self.by_way("output")
+        # in each word the bits whose number has a 1 in some place, and then the others
+        outs, forced = width_of(outputs), []
+        words = [sum((bit >> place & 1) << bit for bit in range(outs)) for place in range(outs.bit_length())]
+        for word in [one for word in words for one in (word, (1 << outs) - 1 - word)]:
+            for port, _, low in placed(outputs):
+                bits = word >> low & (1 << port.width) - 1
+                forced.append(f"    force {inside}.{port.name} = {port.width}'h{bits:x};")
+            forced.append("    #0 outputs_looked_at;")
+        return self.ages(kind) + ENDS.format(
+            name=self.name,
+            ins=width_of(inputs),
+            outs=outs,
+            arrived=joined([f"{inside}.{port.name}" for port in inputs]),
+            said=joined([f"{inside}.{port.name}" for port in outputs]),
+            seen=joined([port.name for port in outputs]),
+            forced="\n".join(forced),
+            released="\n".join(f"    release {inside}.{port.name};" for port in outputs),
+        )
+
+    def bench_links(self) -> str:
+        power = [f"`ifdef {POWER}", *(f"    .{name}({name})," for name in self.supplies()), "`endif"]
+        planted = "    .planted(planted_at), .planted_bit(planted_bit), .numbered(3'd0),"
+        return "\n".join(["", *(power if self.supplies() else []), planted, "    "])
+
+    def beside(self) -> str:
+        """Where a bit is planted wrong: in which collar, and which bit of its word."""
+        width = 3 * len(self.system.collars)
+        every = f"{{{len(self.system.collars)}{{3'd4}}}}"
+        at, bit = f"is_each ? {every} : {width}'d0", "7'd0"
+        for number, placed in enumerate(self.system.collars):
+            first = 0
+            for part in placed.parts:
+                chosen = f"planted && at_unit == 10'd{self.system.parts.index(part)}"
+                at = f"{chosen} ? {width}'d4 << {3 * number} :\n    {at}"
+                bit = f"{chosen} ? 7'd{first} + {{1'b0, at_bit}} :\n    {bit}"
+                first += part.memory.bits
+        return f"  assign planted_at = !planted & !is_each ? {width}'d0 :\n    {at};\n  assign planted_bit =\n    {bit};\n"
+
+    def beside_nets(self) -> str:
+        each = f"  reg [{self.count - 1}:0] ignored = {self.count}'d0;\n  reg is_each = 1'b0;\n  integer asked_one;\n"
+        each += '  initial is_each = $test$plusargs("each") != 0;\n' if self.each else ""
+        return each + f"  wire [{3 * len(self.system.collars) - 1}:0] planted_at;\n  wire [6:0] planted_bit;\n"
+
+    def how_planted(self) -> str:
+        return ABOUT + ABOUT_EACH * self.each
+
+
+def width_of(ports: list[Port]) -> int:
+    return sum(port.width for port in ports)
+
+
+def placed(ports: list[Port]) -> Iterator[tuple[Port, int, int]]:
+    """Each port with its highest and its lowest place where all of them stand in one vector, the first one lowest."""
+    low = 0
+    for port in ports:
+        yield port, low + port.width - 1, low
+        low += port.width
+
+
+def joined(names: list[str]) -> str:
+    """Nets in one vector, the first one lowest."""
+    return "{" + ", ".join(reversed(names)) + "}"
+
+
+def of_system(system: System) -> SystemTarget:
+    """The target of a whole chip, whose chips are placed."""
+    if system.name in RESERVED:
+        raise ToolError(f"'{system.name}' is a word of SystemVerilog, so it names no module: give the chip another name")
+    memories = [dataclasses.replace(part.memory, name=part.name) for part in system.parts]
+    units = [Unit(memory, f"_{number}") for number, memory in enumerate(memories)]
+    return SystemTarget(system.name, f"{system.name}_system", units, True, cycles(system), system=system)
+
+
+def refuse_inner_names(target: SystemTarget, texts: dict[str, str]) -> None:
+    """No pin of the chip has the name of a net inside the modules that are written."""
+    pins = {port.name for port in target.ports()} | set(target.supplies())
+    for name, text in texts.items():
+        if not name.endswith(".v"):
+            continue
+        declared = pins & set(INNER.findall(text))
+        if declared:
+            net = sorted(declared)[0]
+            raise ToolError(f"{name} would have a net {net}, and the chip has a pin of that name: rename a memory")
+
+
+def files_of(folder: pathlib.Path, target: SystemTarget) -> list[str]:
+    """The files that `top` wrote to a folder, without its testbench."""
+    listed, module = folder / "files.f", folder / f"{target.top}.v"
+    if not listed.is_file() or not module.is_file():
+        raise ToolError(f"{folder} has no {target.top}.v and files.f: it is the folder that vidlakost top --access wrote")
+    if " given_0" not in read_text(str(module), LARGE_BYTES):
+        raise ToolError(f"{module} tells no tester what its memories answer: write it by vidlakost top --access")
+    names = [line for line in lines_of(read_described(str(listed))) if line and not line.startswith("//")]
+    return [name for name in names if name != f"{target.top}_tb.sv"]
+
+
+def left_out(target: Target) -> list[str]:
+    """What is written of a memory and not of a whole chip, whose models stand in its folder."""
+    name = target.name
+    return [f"{name}_model.v", f"{name}_board.v", f"{name}_socket.cpp", f"{name}.cfg"]

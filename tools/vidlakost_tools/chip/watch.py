@@ -1,0 +1,123 @@
+"""What the testbench of a chip watches between its collars, its tests and its pins: both ends of each connection have
+the same, a collar's clocks are its own, and the memories that are on never weigh more than the budget. Where the chip
+is a netlist, which has no such places inside, nothing is watched."""
+from __future__ import annotations
+
+from typing import TYPE_CHECKING, List
+
+from vidlakost_tools.chip.system import Placed, System
+from vidlakost_tools.collar.bench import Bench
+from vidlakost_tools.collar.pins import Pin
+from vidlakost_tools.collar.text import halves
+from vidlakost_tools.collar.watch import GATES
+
+if TYPE_CHECKING:
+    from vidlakost_tools.chip.text import Text
+
+
+class Watch:
+    """What is watched; `text` is the module that was written, which has the names of its instances."""
+
+    def __init__(self, system: System, text: Text):
+        self.system, self.text = system, text
+        self.looks: List[str] = []
+
+    def lines(self) -> str:
+        """The blocks of the testbench."""
+        in_use = [line for number, placed in enumerate(self.system.collars) for line in self.use(number, placed)]
+        in_test = [line for placed in self.system.collars for line in self.commands(placed)]
+        block = [
+            f"`ifndef {GATES}",
+            "  always @(posedge clk)",
+            "    if (planted == 0 && numbered == 0) begin",
+            "      if (!test) begin",
+            *in_use,
+            "      end else begin",
+            *in_test,
+            "      end",
+            "    end",
+            *self.clocks(),
+            *self.budget(),
+            "`endif",
+        ]
+        return "\n".join(block) + "\n"
+
+    def compared(self, what: str, there: str, value: str) -> List[str]:
+        told = f'"{self.system.name}: %b stands at {what}, and it has to be %b; test is %b", {there}, {value}, test'
+        return [f"        if ({there} !== {value})", f"          $fatal(1, {told});"]
+
+    def collar(self, number: int) -> str:
+        return f"dut.{self.text.collar_names[number]}"
+
+    def use(self, number: int, placed: Placed) -> List[str]:
+        """In use each pin of a collar has what the chip has there."""
+        one, found = Bench(placed.macro, placed.word, placed.name), []
+        for way, pin in placed.macro.chip_pins():
+            if way == "inout" or is_clock(pin):
+                continue
+            port = f"{self.collar(number)}.{{}}"
+            ports = ", ".join(port.format(name) for name in reversed(pin.names()))
+            there = f"{{{ports}}}" if pin.bits else ports
+            found += self.compared(f"{pin.name} of the collar of {placed.name}", there, one.inside(pin))
+        return found
+
+    def commands(self, placed: Placed) -> List[str]:
+        """In test a collar has what its chip's test commands, and the test what the memory answers."""
+        found, number = [], self.system.collars.index(placed)
+        for (half, _), part in zip(halves(placed.word), placed.parts):
+            chip = f"dut.{self.text.names.of(f'chip_{part.chip}')}"
+            for name in ("en", "we", "addr", "wdata", "rdata"):
+                theirs, ours = f"{chip}.{name}_{part.place}", f"{self.collar(number)}.{half}_{name}"
+                found += self.compared(f"{half}_{name} of the collar of {placed.name}", ours, theirs)
+        return found
+
+    def clocks(self) -> List[str]:
+        """The clocks of the collars and of the chips, and whether they are in test."""
+        looks, wakes = [], ["clk", "test"]
+        for number, placed in enumerate(self.system.collars):
+            one, there = Bench(placed.macro, placed.word, placed.name), self.collar(number)
+            for name in ("clk", "test", *(["scan_mode"] if placed.macro.bypass else [])):
+                looks += self.compared(f"{name} of the collar of {placed.name}", f"{there}.{name}", name)
+            for pin in [pin for _, pin in placed.macro.chip_pins() if is_clock(pin)]:
+                what = f"{pin.name} of the collar of {placed.name}"
+                looks += self.compared(what, f"{there}.{pin.name}", one.inside(pin))
+                wakes.append(one.inside(pin))
+        for chip in range(len(self.system.chips)):
+            there = f"dut.{self.text.names.of(f'chip_{chip}')}"
+            looks += self.compared(f"clk of {self.system.name_of(chip)}", f"{there}.clk", "clk")
+        head = [f"  always @({' or '.join(wakes)}) begin", "    #1;", "    if (planted == 0) begin"]
+        return [*head, *looks, "    end", "  end"]
+
+    def budget(self) -> List[str]:
+        """What the memories that are on weigh."""
+        parts = []
+        for number, placed in enumerate(self.system.collars):
+            weight = sum(part.unit.weight for part in placed.parts)
+            parts.append(f"      if (({self.is_on(number, placed)}) !== 1'b0) load = load + {weight};")
+        name, budget = self.system.name, self.system.budget
+        return [
+            "  integer load;",
+            "  always @(posedge clk)",
+            "    if (test === 1'b1 && planted == 0) begin",
+            "      load = 0;",
+            *parts,
+            f"      if (load > {budget})",
+            f"        $fatal(1, \"{name}: what is on weighs %0d, and the budget is {budget}\", load);",
+            "    end",
+        ]
+
+    def is_on(self, number: int, placed: Placed) -> str:
+        """Whether a memory is on: its enables, or where it has none the command of its test."""
+        there, found = self.collar(number), []
+        memory = f"{there}.{self.text.memory_names[number]}"
+        for second in (False, True):
+            pins = placed.macro.of("en", second=second) or placed.macro.of("read", "write", second=second)
+            for pin in pins:
+                names = ", ".join(f"{memory}.{name}" for name in pin.names())
+                found.append(f"(|{'(~' if pin.is_low else '('}{{{names}}}))")
+        lanes = [f"{there}.lanes_go"] if placed.macro.masks else []
+        return " | ".join(found or [f"{there}.{halves(placed.word)[0][0]}_en", *lanes])
+
+
+def is_clock(pin: Pin) -> bool:
+    return pin.kind in ("clk", "clock2")

@@ -1,0 +1,214 @@
+"""What a tester needs round a self-test: a start, the state, and of the first failure the cycle and the words.
+
+usage: vidlakost access MEMORY|CHIPFILE FOLDER [--apb] [--jtag [--sib] [--idcode HEX]] [--log N] [--march MARCH] [--mhz F]
+       vidlakost access LIST|CHIPFILE PINS.. FOLDER [--in-place | --each] [--apb] [--jtag [--sib] [--idcode HEX]] [--mhz F]
+       vidlakost access --help
+
+NAME is the name of the memory or of the chip. It writes to FOLDER
+    NAME_access.v            the module NAME_access round the self-test NAME_bist that `compile` writes, or round the
+                             chip NAME that `chip` writes; its start may come of any clock
+    NAME_access_tb.sv        a testbench: two runs; with +planted a bit of a word is stuck, which has to be found. The last
+                             line of a run that passes is `NAME_access_tb: passed`
+    NAME_model.v             memories for the testbenches
+With --apb, a block of registers on an APB3 bus:
+    NAME_apb.v, NAME_cross.v, NAME_apb_tb.sv, NAME_apb.md (the registers as a table) and NAME_apb.rdl (in SystemRDL)
+With --jtag, a TAP of IEEE 1149.1 with the instruction BIST:
+    NAME_tap.v, NAME_cross.v, NAME_tap_tb.sv, NAME.svf (a run that has to find nothing), NAME.stil and NAME.wgl (the
+    same, a vector for each cycle of TCK), NAME.bsdl (without pads), NAME.icl and NAME.pdl (IEEE 1687), and for a trial
+    with OpenOCD NAME_board.v, NAME_socket.cpp and NAME.cfg. Its identity is that of --idcode. With --sib the register of
+    the self-test and that of the log stand behind segment insertion bits of IEEE 1687, in NAME_sib.v, which BIST selects
+With --log, for each memory a comparator beside its self-test that keeps the first N wrong reads, 1 to 64:
+    MEMORY_log.v, and of one memory NAME_log_tb.sv, which prints the log for `vidlakost bitmap`. With --apb and --jtag too the
+    buses read it: from 0x800 on, and by the instruction LOG, an entry in each scan; NAME_log.tcl has OpenOCD do that
+Of one memory --march says how long the test takes, which the SVF and the PDL have to wait; --mhz is the clock of the
+test, for which an SVF then waits in seconds also where TCK is faster. Put the module of the self-test beside them:
+    cd FOLDER && iverilog -g2012 -o tb NAME_access_tb.sv NAME_access.v NAME_model.v NAME_bist.v && vvp -n tb
+    vvp -n tb +planted +address=3 +bit=1 +value=1
+With PINS it is of the whole chip that `vidlakost top --access` wrote to FOLDER with the same words: a bit of fail for each
+memory, and of the first failure the cycle, the words and the memory. There is no model and no trial with OpenOCD then; the
+files of each testbench are listed in NAME_access.f, NAME_apb.f or NAME_tap.f, and a planted bit is wrong in each word that
+memory U answers:
+    cd FOLDER && iverilog -g2012 -o tb -c NAME_tap.f && vvp -n tb && vvp -n tb +planted +unit=3 +bit=1
+With --each the first failure of each memory is kept: behind done each change of ignore tells that of another one, without a
+new run, and +each in place of +planted tries that. A second register of each word of each memory is what it costs.
+With --in-place it is of the memories that `vidlakost top --in-place` left in their places: NAME_access is there, and its ports to_I
+and of_I are those of the bus and the TAP too. Behind done each change of ignore brings the first failure of another memory,
+without a new run. In the testbenches what stands at each bundle is no memory; those are in that of `vidlakost places`."""
+from __future__ import annotations
+
+import dataclasses
+import pathlib
+import re
+from typing import Any
+
+from vidlakost_tools.access import (
+    apb,
+    bench as access_bench,
+    block as access_block,
+    ijtag,
+    log as fail_log,
+    log_window,
+    network,
+    standards,
+    stil,
+    tap,
+    wgl,
+)
+from vidlakost_tools.access.block import Target, is_chip_file, is_list
+from vidlakost_tools.chip import access as system_access, system as soc
+from vidlakost_tools.files import marked, write_own
+from vidlakost_tools.in_place.sequencer import PlaceTarget, of_places
+from vidlakost_tools.text import shown
+from vidlakost_tools.texts.chip import read_chip
+from vidlakost_tools.texts.march import march_of
+from vidlakost_tools.texts.memory import read_memory
+from vidlakost_tools.tool import ToolError, number_of, tell, usage_of, words_of
+
+
+def target_of(path: str, march: str | None) -> Target:
+    if is_chip_file(path):
+        if march:
+            raise ToolError("--march is of one memory; a chip file has its marches")
+        return access_block.of_chip(read_chip(path))
+    memory = read_memory(path)
+    return access_block.of_memory(memory, memory.cycles(march_of(march)[1]) - 1 if march else None)
+
+
+def megahertz(text: str) -> float:
+    """A clock in megahertz."""
+    if not re.fullmatch(r"[0-9]{1,6}(\.[0-9]{1,6})?", text) or not float(text):
+        raise ToolError(f"--mhz is a clock in megahertz, and not {shown(text)}")
+    return float(text)
+
+
+def identity_of(options: dict[str, Any]) -> int:
+    """The identity of the TAP: its lowest bit is 1, and no manufacturer has the number 127 of the first bank."""
+    text = options.get("--idcode", f"{access_block.IDENTITY:08x}")
+    identity = int(text, 16) if re.fullmatch("(0[xX])?[0-9a-fA-F]{8}", text) else 0
+    if not identity & 1 or identity >> 1 & 0x7FF == 0x7F:
+        why = "whose lowest bit is 1, and whose bits 11 to 1 are not 0x7f"
+        raise ToolError(f"--idcode has eight hexadecimal digits, {why}; it is {shown(text)}")
+    return identity
+
+
+def inputs_of(path: str, options: dict[str, Any]) -> list[str]:
+    """The files that are read."""
+    given = [path, *([options["--march"]] if "--march" in options else [])]
+    if is_chip_file(path):
+        given += [name for unit in read_chip(path).units for name in (unit.march, unit.memory_file)]
+    return given
+
+
+def depth_of(options: dict[str, Any]) -> int | None:
+    """How many wrong reads a log keeps, where there is to be one."""
+    if "--log" not in options:
+        return None
+    depth = number_of(options["--log"], "--log", 1)
+    if depth > 64:
+        raise ToolError(f"--log is 1 to 64, and not {depth}")
+    return depth
+
+
+def texts(target: Target, options: dict[str, Any]) -> dict[str, str]:
+    """The files by their names."""
+    name = target.name
+    depth = depth_of(options)
+    if depth is not None and ("--apb" in options or "--jtag" in options):
+        target = dataclasses.replace(target, depth=depth)
+    target = dataclasses.replace(target, identity=identity_of(options), has_sib="--sib" in options)
+    made = {
+        f"{name}_access.v": target.module() if isinstance(target, PlaceTarget) else access_block.access(target),
+        f"{name}_access_tb.sv": access_bench.access_bench(target),
+        f"{name}_model.v": access_block.model(target),
+    }
+    if depth is not None:
+        made.update({f"{unit.memory.name}_log.v": fail_log.block(unit.memory, depth) for unit in target.units})
+        if not target.is_chip:
+            made[f"{name}_log_tb.sv"] = fail_log.bench(target, depth)
+    if "--apb" in options or "--jtag" in options:
+        made[f"{name}_cross.v"] = access_block.cross(target)
+    if "--apb" in options:
+        made[f"{name}_apb.v"] = apb.block(target)
+        made[f"{name}_apb_tb.sv"] = apb.bench(target)
+        made[f"{name}_apb.md"] = apb.table(target)
+        if "$" in name:
+            tell(f"access: {name} is no name in SystemRDL, so {name}_apb.rdl is left out")
+        else:
+            made[f"{name}_apb.rdl"] = apb.system_rdl(target)
+    return {**made, **of_tap(target, options)} if "--jtag" in options else made
+
+
+def of_tap(target: Target, options: dict[str, Any]) -> dict[str, str]:
+    """The files of the TAP."""
+    name = target.name
+    if target.done is None:
+        why = "what waits for the test has to know how long it takes"
+        raise ToolError(f"--jtag of one memory wants --march MARCH: {why}")
+    mhz = megahertz(options["--mhz"]) if "--mhz" in options else None
+    made = {
+        f"{name}_tap.v": tap.block(target),
+        f"{name}_tap_tb.sv": tap.bench(target),
+        f"{name}_board.v": tap.board(target),
+        f"{name}_socket.cpp": tap.socket(target),
+        f"{name}.cfg": tap.config(target),
+        f"{name}.svf": standards.svf(target, mhz),
+        f"{name}.stil": stil.stil(target),
+        f"{name}.wgl": wgl.wgl(target),
+    }
+    if target.has_sib:
+        made[f"{name}_sib.v"] = network.block(target)
+    if target.depth is not None:
+        made[f"{name}_log.tcl"] = log_window.tcl(target, [part.width for part in tap.parts(target)])
+    if not standards.has_plain_name(target):
+        tell(f"access: {name} is no name in BSDL, ICL and PDL, so these files are left out")
+        return made
+    described = {"bsdl": standards.bsdl, "icl": ijtag.icl, "pdl": ijtag.pdl}
+    return {**made, **{f"{name}.{ending}": make(target) for ending, make in described.items()}}
+
+
+def planned(system: soc.System, path: str, has_each: bool) -> system_access.SystemTarget:
+    """The target of a whole whose memories are joined by a module."""
+    soc.planned(system, path)
+    return dataclasses.replace(system_access.of_system(system), each=has_each)
+
+
+def of_whole(path: str, pins: list[str], out: pathlib.Path, options: dict[str, Any]) -> None:
+    """Writes what stands round the whole chip of a folder."""
+    refused = [name for name in ("--log", "--march") if name in options]
+    if {"--in-place", "--each"} <= set(options):
+        raise ToolError(f"--in-place keeps the first failure of each memory without --each\n{usage_of(__doc__)}")
+    if refused or not pins:
+        why = f"{refused[0]} is of a memory or a chip file alone" if refused else "of a list the files of pins are wanted, as for top"
+        raise ToolError(f"{why}\n{usage_of(__doc__)}")
+    system = soc.read_system(path)
+    soc.give_collars(system, pins)
+    target: Target = of_places(system) if "--in-place" in options else planned(system, path, "--each" in options)
+    made = {name: text for name, text in texts(target, options).items() if name not in system_access.left_out(target)}
+    beside = []
+    if isinstance(target, system_access.SystemTarget):
+        beside = system_access.files_of(out, target)
+        system_access.refuse_inner_names(target, made)
+    for kind in [kind for kind in ("access", "apb", "tap") if f"{target.name}_{kind}.v" in made]:
+        between = [f"{target.name}_cross.v"] if kind != "access" else []
+        between += [f"{target.name}_sib.v"] if kind == "tap" and "--sib" in options else []
+        own = [f"{target.name}_{kind}_tb.sv", f"{target.name}_{kind}.v", *between, *([f"{target.name}_access.v"] if between else [])]
+        made[f"{target.name}_{kind}.f"] = "\n".join([*own, *beside, ""])
+    inputs = [path, *pins, *(name for part in system.parts for name in (part.unit.march, part.unit.memory_file))]
+    write_own(out, marked("access", made), inputs)
+
+
+def main(arguments: list[str]) -> int:
+    allowed = {"--apb": 0, "--jtag": 0, "--log": 1, "--march": 1, "--mhz": 1, "--sib": 0, "--idcode": 1, "--in-place": 0, "--each": 0}
+    (path, *pins, folder), options = words_of(__doc__, arguments, allowed, 2, None)
+    alone = [name for name in ("--sib", "--idcode") if name in options and "--jtag" not in options]
+    if alone:
+        raise ToolError(f"{alone[0]} is of a TAP, and stands beside --jtag\n{usage_of(__doc__)}")
+    if {"--sib", "--each"} <= set(options):
+        raise ToolError(f"--each and --sib exclude one another\n{usage_of(__doc__)}")
+    if pins or is_list(path) or {"--in-place", "--each"} & set(options):
+        of_whole(path, pins, pathlib.Path(folder), options)
+        return 0
+    target = target_of(path, options.get("--march"))
+    out = pathlib.Path(folder)
+    write_own(out, marked("access", texts(target, options)), inputs_of(path, options))
+    return 0

@@ -1,0 +1,404 @@
+"""Somebody else's controller, in any Verilog, to a verdict with its reason.
+
+usage: vidlakost audit VERILOG .. MARCH MEMORY [--top NAME] [--pins FILE] [--liberty LIB] [--cells ice40] [--vcd FILE]
+                       [--limit SECONDS] [--reset-open] [--simulate] [--fail-late N]
+                       [--strict]
+       vidlakost audit --random N [--seed S]      random modules whose fail is damaged, beside Yosys' model checker
+       vidlakost audit --help
+
+VERILOG is one file or several, also in VHDL where GHDL is installed, or a netlist with the library of its cells (--liberty,
+which may come several times), or one of SB_LUT4, SB_CARRY, SB_GB and the flip-flops SB_DFF.. of ice40 with --cells ice40, of
+which the models in Yosys' own share folder are read. Where the ports have other names than those of a self-test (clk, reset, rdata; en, we, addr,
+wdata, done, fail), --pins names a file with a line for each pin (`#` begins a comment):
+    clk bist_clk             the pin of a port; without a line for it, a port is the pin of its own name
+    reset ~rst_n             with ~ in front a pin that is active low, or a clock of which the falling edge counts
+    tie start 1              a further input and its value
+    open busy                a further output, which is not looked at
+It tells in this order
+    the module's read        what Yosys warns of; what is outside the subset is refused with its signal, file and line
+    check                    what `check` says of the ports en, we, addr, wdata and done; of a port that differs what is due
+                             there, and of one that is unknown why
+    a late start             where the first command comes up to 8 cycles late, whether all is right from there on
+    a late end               where done alone comes up to 7 cycles late, whether the commands are right: behind a comparison in a
+                             pipeline fail may be late too, and not later than done; a finding, unless --fail-late says so
+    behind the end           whether done stays 1 and en stays 0
+    fail                     whether `fail` is right in every history: with each answer right, and with each bit of each
+                             answer the first that is wrong, from any registers
+                             where three values lose what two open values have to do with one another, what fail hangs on is
+                             split into its numbers; where that is too much Yosys' model checker is asked
+--vcd writes the run of `check`, in which every register is open at first and every word on rdata, to FILE beside the ports
+that are due, with a save file for GTKWave at the cycle that was found, unless one of yours is there. --limit ends the look
+at `fail` after so many seconds (600), which is then no yes. With --simulate Icarus clocks the sources themselves beside the
+module that Yosys makes of them, for 2,000 cycles from random registers, before a memory some of whose answers are wrong, and
+with random resets: a port that differs is refused, since the sources mean two things. Behind
+the end 64 cycles are looked at, or as many as it takes until nothing changes any more; where something still changes, the last
+line says to which cycle all is right, and with --strict that is a finding. So is a warning then that a simulator reads the
+sources otherwise, unless --simulate has asked one.
+
+The last line is `audit: ` and the verdict, as `audit: conforms, fail is exact`. It ends with 0 for that, also from some
+cycles later on, en, done and fail being 0 until then; with 1 for anything else that was found, and where the module is
+refused; with 2 for wrong words or files. In the cycle of the reset these three have to be 0 too; with --reset-open they may
+be anything there, as they are where they come from registers that the reset sets at the clock's edge.
+
+What each step rests on. The answer of `check` is the proved program's, of the module that it is given. That this module does
+what the sources do rests on Yosys (and GHDL, and a library's functions), which reads them, and on the plain Python that writes its cells as operators.
+A late start rests on plain Python up to the cycle that is named, and from there on `check` tells it. What is told of `fail`,
+of the cycles behind the end and of reasons rests on Yosys, which makes gates of the module, and on plain Python. Pulses
+shorter than a cycle are not seen, and an asynchronous reset acts in the cycle in which it comes."""
+from __future__ import annotations
+
+import dataclasses
+import pathlib
+import random
+import re
+import shlex
+import subprocess
+import sys
+import tempfile
+from typing import Any
+
+from vidlakost_tools.audit import (
+    beside_icarus,
+    fail_lanes as lanes,
+    fail_search,
+    late_end,
+    late_start,
+    random_comparison as audit_random,
+    why_unknown,
+)
+from vidlakost_tools.audit.gates import Machine, gates_of
+from vidlakost_tools.audit.pins import Pin, Pins, ports_of, proposed, read_pins, told_ports
+from vidlakost_tools.audit.waveform import save_of, write_wave
+from vidlakost_tools.program import ROOT, run
+from vidlakost_tools.text import INPUT_BYTES, shown, visible
+from vidlakost_tools.texts.march import Element, march_of
+from vidlakost_tools.texts.memory import Memory, read_memory
+from vidlakost_tools.tool import Refused, ToolError, number_of, refuse_inputs, tell, telling, usage_of, words_of
+from vidlakost_tools.verilog import known_cells, open_run, yosys
+from vidlakost_tools.verilog.front_end import ALL_GATES, Plain, plain_of
+
+
+FEWER_GATES = "a controller in words, before it is made gates of, is far shorter"
+
+
+@dataclasses.dataclass
+class Audit:
+    """What is asked: the sources, the test, and the commands of each cycle from the reset to the one of `done`."""
+
+    files: list[str]
+    options: dict[str, Any]
+    pins: Pins | None
+    march: str
+    memory_file: str
+    elements: list[Element]
+    memory: Memory
+
+    def commands(self) -> list[Any]:
+        return [None, *open_run.commands_of(self.elements, self.memory), *[None] * (self.memory.latency + 1)]
+
+    def full_pins(self, plain: Plain) -> Pins | None:
+        """The pins, with each port that has no line at the pin of its own name."""
+        if self.pins is None:
+            return None
+        named = {port for port, _ in self.pins.pins}
+        own = [(port, Pin(port, False)) for _, port, _ in plain.ports if port not in named]
+        return dataclasses.replace(self.pins, pins=[*self.pins.pins, *own])
+
+    def module(self, tries: tuple[str, ...] | None = None) -> Plain:
+        return plain_of(self.files, self.options, self.pins, *([tries] if tries else []))
+
+
+@dataclasses.dataclass
+class Verdict:
+    """What was found of the commands: the line of `check`, the module it holds of, the delay of its start."""
+
+    line: str
+    plain: Plain
+    delay: int = 0
+    in_reset: list[str] = dataclasses.field(default_factory=list)
+    # how many cycles later than it is due `done` comes
+    end_late: int = 0
+
+    @property
+    def conforms(self) -> bool:
+        return self.line.startswith("conforms ")
+
+    def told(self) -> str:
+        """The finding, as the last line begins."""
+        late = f" from {self.delay} cycle{'s' if self.delay > 1 else ''} later on" if self.delay else ""
+        if not self.conforms:
+            return (f"{late[1:]} " if late else "") + self.line
+        end = f" but for done, {cycles(self.end_late)} late" if self.end_late else ""
+        return "conforms" + late + end + (f" but for {', '.join(self.in_reset)} in the reset" if self.in_reset else "")
+
+
+def cycles(count: int) -> str:
+    return f"{count} cycle{'s' if count > 1 else ''}"
+
+
+# ---- the ports
+
+
+def refuse_ports(audit: Audit, plain: Plain) -> None:
+    """Refuses a module whose ports are not those of the memory's self-test, with the lines of a file of pins for it."""
+    memory = audit.memory
+    wanted, there = ports_of(memory), set(plain.ports)
+    if wanted == there:
+        return
+    missing = told_ports(wanted - there)
+    said = f"a self-test of {memory.name} has the ports {missing}" if missing else "further ports are there"
+    others = ", ".join(f"{way} {name} of {width}" for way, name, width in sorted(there - wanted))
+    if audit.pins:
+        raise ToolError(f"{audit.pins.file}: {said}" + (f"; the pins give {others}" if others else ""), 1)
+    pins = {name: plain.clock or name if name == "clk" else name for _, name, _ in plain.ports}
+    ports = {pins[name]: {"direction": way, "bits": [0] * width} for way, name, width in plain.ports}
+    guess = "\n".join(f"    {line}" for line in proposed(ports, memory, plain.clock))
+    raise ToolError(f"{said}; the module has {others or 'no others'}.\nA file for --pins may begin as this guess:\n{guess}", 1)
+
+
+# ---- the commands
+
+
+def checked(audit: Audit, plain: Plain) -> str:
+    """The line of `check` for a module."""
+    with tempfile.TemporaryDirectory() as name:
+        file = pathlib.Path(name) / "module.v"
+        file.write_text(plain.text(), encoding="utf-8")
+        words = ["check", str(file), audit.march, audit.memory_file]
+        with telling("`check` clocks the module", lambda: f"a test of {len(audit.commands()):,} cycles"):
+            status, said = run(*words)
+        if status == 6:
+            size = file.stat().st_size
+            why = f"the module that Yosys makes of the sources has {size:,} bytes, and `check` reads {INPUT_BYTES:,} at most"
+            raise ToolError(f"{why}; {FEWER_GATES}", 1)
+        if said.startswith("verilog "):
+            raise ToolError(f"`check` refuses the module that Yosys makes of the sources: {said}", 1)
+        if status not in (0, 1):
+            raise Refused(words, said, status)
+        return said
+
+
+def commands_found(audit: Audit) -> Verdict:
+    """What `check` says, of words, of gates where it is unknown of words, or from a late start on."""
+    if "--simulate" in audit.options:
+        beside_icarus.refuse_sources(audit.files, audit.options.get("--liberty", []))
+    plain = audit.module()
+    refuse_inputs(audit.options.get("--vcd"), [("what is read", file) for file in plain.opened])
+    yosys.refuse_untold(audit.options.get("--vcd"), audit.files, "$")
+    for warning in plain.warnings:
+        tell(f"audit: {warning}")
+    refuse_ports(audit, plain)
+    if "--simulate" in audit.options:
+        cells = known_cells.cells_of(audit.options, [source for _, source in yosys.with_included(audit.files)])
+        print(beside_icarus.beside(beside_icarus.Beside(audit.files, plain, audit.full_pins(plain), audit.memory, cells)))
+    found = Verdict(checked(audit, plain), plain)
+    print(f"check: {found.line}")
+    if found.line.startswith("unknown "):
+        gates = audit.module(ALL_GATES)
+        line = checked(audit, gates)
+        if line != found.line:
+            print(f"check, bit by bit: {line}")
+            found = Verdict(line, gates)
+    if found.conforms:
+        return found
+    return late_found(audit, found) or late_end_found(audit, found) or found
+
+
+def late_end_found(audit: Audit, found: Verdict) -> Verdict | None:
+    """What is found where `done` alone is late, as it is behind a comparison in a pipeline."""
+    end = len(audit.commands()) - 1
+    if found.line != f"differs cycle {end} port done expected 1 got 0":
+        return None
+    late = late_end.late(found.plain, end)
+    line = checked(audit, late_end.in_time(found.plain, end)) if late else ""
+    if not late or not line.startswith("conforms "):
+        return None
+    print(f"late end: the commands are right, and done comes {cycles(late)} late, as behind a comparison in a pipeline")
+    return Verdict(line, found.plain, end_late=late)
+
+
+def late_found(audit: Audit, found: Verdict) -> Verdict | None:
+    """What is found from a late start on, where the first command may come late."""
+    first = next((cycle for cycle, command in enumerate(audit.commands()) if command), None)
+    if first is None or not re.match(rf"(unknown|differs) cycle 0 |(unknown|differs) cycle {first} port en", found.line):
+        return None
+    late = late_start.late(found.plain, first)
+    if late is None:
+        print("no late start: within 8 cycles there is none up to which en and done are 0 and in which en is 1")
+        return None
+    line = checked(audit, late.module)
+    verdict = Verdict(line, found.plain, late.cycles, late.in_reset)
+    if not verdict.conforms:
+        print(f"late start: {verdict.told()}, where cycle 0 is cycle {late.cycles}")
+    elif late.cycles:
+        begin = "behind the reset" if late.in_reset else "in the reset and"
+        print(f"late start: {verdict.told()}, en and done being 0 {begin} until then")
+    else:
+        print(f"behind the reset: {line}")
+    return verdict
+
+
+def place_told(audit: Audit, line: str) -> None:
+    """What is due in the cycle of a line."""
+    words = [sys.executable, str(ROOT / "tools" / "locate"), audit.march, audit.memory_file, "--line", line]
+    done = subprocess.run(words, stdout=subprocess.PIPE, stderr=subprocess.DEVNULL, text=True, check=False)
+    if done.returncode == 0 and done.stdout:
+        print("due there: " + ", ".join(done.stdout.splitlines()))
+
+
+def why_open(audit: Audit, found: Verdict) -> None:
+    """Why a port is open."""
+    match = re.match(r"unknown cycle (\d+) port (\w+)", found.line)
+    if not match:
+        return
+    machine = Machine(gates_of(found.plain), (match[2],))
+    cycle = int(match[1]) + found.delay
+    values = why_unknown.values_of(machine, {}, cycle)
+    tell_reasons(why_unknown.Search(machine, values, found.plain), machine, match[2], cycle)
+
+
+def tell_reasons(search: why_unknown.Search, machine: Machine, port: str, cycle: int) -> None:
+    reasons: list[str] = []
+    for bit in machine.results:
+        if search.is_open(bit, cycle) and len(reasons) < 4:
+            reasons += search.reasons(port, bit, cycle)
+    for reason in list(dict.fromkeys(reasons))[:4]:
+        print(visible(f"  {port} {reason}"))
+
+
+# ---- behind the end, and `fail`
+
+
+def end_found(audit: Audit, found: Verdict) -> tuple[str, int]:
+    """Where `done` doesn't stay 1 and `en` 0 behind the end, or nothing; and the last cycle that was looked at, or -1 where
+    nothing changes any more."""
+    machine = Machine(gates_of(found.plain), ("done", "en"))
+    end = len(audit.commands()) - 1 + found.delay + found.end_late
+    state, cycle, opens = [(0, 0)] * len(machine.registers), 0, [(0, 0)] * len(machine.words)
+    while cycle <= end + lanes.BEHIND:
+        before = state
+        state, told = machine.step(state, [*opens, (1, 0) if cycle == 0 else (0, 1)], 1)
+        for port, (one, zero), wanted in zip(("done", "en"), told, ((1, 0), (0, 1))):
+            if cycle >= end and (one, zero) != wanted:
+                got = "1" if one else "0" if zero else "open"
+                return f"{port} is {got} in cycle {cycle}, behind the end", cycle
+        if cycle > end and state == before:
+            return "", -1
+        cycle += 1
+    return "", cycle - 1
+
+
+def fail_found(audit: Audit, found: Verdict, limit: int) -> lanes.Found:
+    commands, memory = audit.commands(), audit.memory
+    answers = {
+        cycle + memory.latency + found.delay: command[2]
+        for cycle, command in enumerate(commands)
+        if command and not command[0]
+    }
+    is_open = "--reset-open" in audit.options or "fail" in found.in_reset
+    machine, clock = Machine(gates_of(found.plain), ("fail",)), lanes.Clock(limit)
+    # where the end is late, fail may be so too, and not later than it
+    for late in range(found.end_late + 1):
+        plan = lanes.Plan(answers, len(commands) + found.delay + found.end_late, memory.bits, 1 if is_open else 0, late)
+        told = fail_search.look_at(machine, plan, found.plain, clock)
+        if told.found.kind == "exact":
+            break
+    if told.how:
+        print(told.how)
+    told_late = f", {cycles(late)} later than the rule" if late and told.found.kind == "exact" else ""
+    print(told.found.line() + told_late)
+    if told.history:
+        print(visible(told.history))
+    if told.found.got == "open":
+        why_fail_open(audit, found, machine, told)
+    return told.found
+
+
+def why_fail_open(audit: Audit, found: Verdict, machine: Machine, told: fail_search.Told) -> None:
+    """What `fail` hangs on where it is unknown, and who may know."""
+    words = lanes.words_of(told.plan, told.found)
+    values = why_unknown.values_of(machine, words, told.found.cycle)
+    tell_reasons(why_unknown.Search(machine, values, found.plain), machine, "fail", told.found.cycle)
+    if told.is_bounded and not found.delay and not found.end_late and "--liberty" not in audit.options:
+        print(f"with more time and memory the model checker may know: {formal_call(audit)}")
+
+
+def formal_call(audit: Audit) -> str:
+    """The call that asks Yosys' model checker of the same module."""
+    given = [word for name in ("--top", "--pins", "--cells") if name in audit.options for word in (name, audit.options[name])]
+    words = ["vidlakost", "formal", *audit.files, audit.march, audit.memory_file, *given]
+    return " ".join(map(shlex.quote, words))
+
+
+def verdict_of(audit: Audit) -> tuple[str, int]:
+    """The last line and the status."""
+    found = commands_found(audit)
+    if not found.conforms:
+        place_told(audit, found.line)
+        why_open(audit, found)
+        wave(audit, found, int(found.line.split()[2]) + found.delay)
+        return found.told(), 1
+    end, until = end_found(audit, found)
+    if end or until >= 0:
+        print(end or f"behind the end done is 1 and en 0 to cycle {until}")
+    told = fail_found(audit, found, number_of(audit.options.get("--limit", "600"), "--limit", 1))
+    wave(audit, found, told.cycle if told.kind != "exact" else len(audit.commands()) - 1)
+    limited = [f"done and en are right to cycle {until}"] if until >= 0 else []
+    parts = [found.told(), *([end] if end else limited), told.short()]
+    in_reset = found.in_reset and "--reset-open" not in audit.options
+    if in_reset:
+        print("in the cycle of the reset they have to be 0; with --reset-open they may be anything there")
+    is_late = found.end_late > number_of(audit.options.get("--fail-late", "0"), "--fail-late")
+    if is_late and told.kind == "exact":
+        print(f"the rule of the ports has no late end; with --fail-late {found.end_late} it may be")
+    is_bounded = "--strict" in audit.options and (until >= 0 or told.kind == "exact" and told.cycle >= 0)
+    if is_bounded:
+        print("something still changes where the look ends, so that it may be wrong later")
+    is_untried = "--strict" in audit.options and is_otherwise(audit, found.plain)
+    if is_untried:
+        print("a simulator may read the sources otherwise, as is warned; with --simulate Icarus tells")
+    return ", ".join(parts), 0 if not end and not is_bounded and not is_untried and not is_late and not in_reset and told.kind == "exact" else 1
+
+
+def is_otherwise(audit: Audit, plain: Plain) -> bool:
+    """Whether there is a warning that a simulator reads the sources otherwise, and none was asked."""
+    return "--simulate" not in audit.options and any("; a simulator " in warning for warning in plain.warnings)
+
+
+def wave(audit: Audit, found: Verdict, cycle: int) -> None:
+    if "--vcd" in audit.options:
+        commands = [*[None] * found.delay, *audit.commands()]
+        file = audit.options["--vcd"]
+        is_new = write_wave(file, found.plain, commands, audit.memory, cycle)
+        save = "a save file for GTKWave beside it" if is_new else f"{save_of(file)}, which is none of audit's, stays as it is"
+        tell(f"audit: the run is in {file}, and {save}")
+
+
+def main(arguments: list[str]) -> int:
+    allowed: dict[str, Any] = {"--top": 1, "--pins": 1, "--liberty": [], "--cells": 1, "--vcd": 1, "--limit": 1, "--reset-open": 0, "--simulate": 0, "--fail-late": 1, "--strict": 0}
+    words, options = words_of(__doc__, arguments, {**allowed, "--random": 1, "--seed": 1})
+    if "--random" in options and not words:
+        seed = number_of(options.get("--seed", "1"), "--seed")
+        return audit_random.compare(number_of(options["--random"], "--random", 1), random.Random(seed))
+    if len(words) < 3 or set(options) - set(allowed):
+        raise ToolError(f"too few words, or options that don't go together\n{usage_of(__doc__)}")
+    *files, march, memory_file = words
+    pins = read_pins(options["--pins"]) if "--pins" in options else None
+    sources = yosys.included(files) if "--vcd" in options else files
+    named = [("a source", file) for file in files] + [("the march", march), ("the memory", memory_file)]
+    named += [("what is read", file) for file in sources]
+    named += [("what is read", file) for file in [*options.get("--liberty", []), *([pins.file] if pins else [])]]
+    refuse_inputs(options.get("--vcd"), named)
+    if pathlib.Path(options.get("--vcd", "")).suffix == ".gtkw":
+        raise ToolError(f"{shown(options['--vcd'])} is the name of the save file, which stands beside the waveform")
+    elements, memory = march_of(march)[1], read_memory(memory_file)
+    audit = Audit(files, options, pins, march, memory_file, elements, memory)
+    try:
+        line, status = verdict_of(audit)
+    except ToolError as error:
+        if isinstance(error, Refused) or error.status != 1:
+            raise
+        tell(f"audit: {error}")
+        line, status = "refused", 1
+    print(visible(f"audit: {line}"))
+    return status

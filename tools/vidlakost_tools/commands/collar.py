@@ -1,0 +1,136 @@
+"""A collar: a memory macro with its self-test, and a multiplexer between that and the chip's own port.
+
+usage: vidlakost collar MEMORY [MEMORY] --macro PINS FOLDER [--model FILE] [--clock-mux CELL:SELECT:CHIP:TEST:OUT]
+                        [--open | --through access|apb|jtag]
+       vidlakost collar --help
+
+MEMORY is the description of the memory; PINS tells the pins of the macro, a line each, in any order (`#` begins a comment):
+    macro NAME               the macro's module
+    parameter NAME VALUE     a parameter of it: a number, a literal with its size, or "text"
+    clk PIN                  the clock
+    clock2 PIN               a further clock: the chip's, and in test that of the test
+    en PIN [WIDTH]           1 where the memory is commanded; leave it out of a macro that has no enable
+    we PIN [WIDTH]           1 for a write; without `en` it is 1 where a write is commanded
+    read PIN, write PIN      1 where a read is commanded, or a write (of a macro with an enable for each way)
+    addr PIN [WIDTH [at BITS]]   the address, in some bits of the pin, as `at 15:7,5`; of a macro with an address for each
+                             way raddr and waddr
+    wdata PIN [WIDTH]        the word to write
+    rdata PIN [WIDTH]        the word that was read
+    mask PIN WIDTH           which parts of a word are written; `we` and `en` of several bits have a bit for each part too
+    pass PIN WIDTH [VALUE]   a further input: the chip's, and in test VALUE, as that of a power switch
+    out PIN WIDTH            a further output, the chip's
+    tie PIN VALUE            a further input that is tied, to a literal with its size or to an input of the collar
+    open PIN                 a further output that is left open
+    power PIN [0|1]          a supply, under `ifdef USE_POWER_PINS; a testbench drives it with this number
+    pins PREFIX LOW HIGH     the bus PREFIX of another line is given bit by bit, as PREFIX0, PREFIX1 and so on
+    registers in N           N registers between the self-test and the macro, in test alone
+    registers out N          N registers between the macro and the self-test, in test alone
+    masks                    behind the march try each lane of mask, we and en alone, at the first and the last address
+    port KIND PIN [WIDTH]    of a second port: clk, en, we, read, write, addr, wdata, rdata, mask. The march runs once more,
+                             and reads through it; where it has wdata, it writes through it too
+    bypass                   a port scan_mode: where it is 1, registers answer the chip in place of the macro, and take what
+                             stands at its inputs
+    low MEMORY, high MEMORY  of a word of two descriptions the names of its parts, whose self-tests go in step
+A pin that is active low has ~ in front. The latency of MEMORY is the macro's own and all the registers.
+
+It writes to FOLDER, with NAME the memory's name or that of the low part,
+    NAME_collar.v            the module NAME_collar: the macro's pins for the chip, and clk, test, done and fail. The test runs
+                             once while `test` is 1; it begins when `test` rises, after 0 for a few cycles
+    NAME_collar_tb.sv        a testbench, which uses the chip's port, and runs the test (an X on `fail` is a failure). It tells
+                             which latency fits. With +planted it plants one fault after another, and each has to be found;
+                             then it runs the test with words in which every two bits differ. The last line of a run that
+                             passes is `NAME_collar_tb: passed`; where a model ends the run before, there is none
+    files.f                  what a simulator has to read, in this order
+    MACRO.v                  a model of the macro by these pins, where you have none; put the vendor's in its place,
+                             and it stays there, or name that by --model. Its ports have to have the widths of the pins
+--clock-mux names the cell that chooses each further clock: its module and its pins, SELECT being 1 in test, and CELL.v is a model
+of it unless one is there. Without it a clock is chosen by `? :`, and the tool says so. It says at its end what of the macro it doesn't test, and which bits of a word the backgrounds don't tell apart. With --open the self-test stands elsewhere, and its ports are the collar's
+(bist_en, bist_we and so on; `second` and `lanes_go`, `lanes_over`, `lanes_fail` of what a second port and masks need). With
+--through the test is started as the module NAME_access, NAME_apb or NAME_tap of `vidlakost access` is, which stands in the
+collar then and has to stand beside it, and its ports are the collar's in place of test, done and fail; that tool's testbench is
+of the module alone. No testbench is written with these two.
+Put the module NAME_bist beside them, which `compile` writes:
+    cd FOLDER && iverilog -g2012 -o tb -c files.f && vvp -n tb && vvp -n tb +planted"""
+from __future__ import annotations
+
+import pathlib
+
+from vidlakost_tools.collar.bench import Bench
+from vidlakost_tools.collar.bus import KINDS
+from vidlakost_tools.collar.clock_mux import chosen_clocks, clock_mux
+from vidlakost_tools.collar.model import model
+from vidlakost_tools.collar.pins import Macro, Word, alike, read_macro
+from vidlakost_tools.collar.text import MARK, collar
+from vidlakost_tools.collar.untested import told_pins, untested
+from vidlakost_tools.collar.vendor import modules_of, named, refuse_other_ports, undriven
+from vidlakost_tools.files import is_own, refuse_strangers, refuse_twins, write_own
+from vidlakost_tools.text import shown
+from vidlakost_tools.texts.memory import read_memory
+from vidlakost_tools.tool import ToolError, tell, usage_of, words_of
+
+
+def kind_of(options: dict[str, str]) -> str:
+    """Where the self-test stands."""
+    if "--through" not in options:
+        return "open" if "--open" in options else "bist"
+    if "--open" in options:
+        raise ToolError("--open and --through exclude one another")
+    if options["--through"] not in KINDS:
+        raise ToolError(f"--through is one of {', '.join(KINDS)}, and not {shown(options['--through'])}")
+    return KINDS[options["--through"]]
+
+
+def texts_of(macro: Macro, word: Word, kind: str, vendor: str | None) -> dict[str, str]:
+    """The files by their names, the model of the macro among them where the vendor's is not named."""
+    name = word.name
+    made = {f"{name}_collar.v": collar(macro, word, kind)}
+    if kind == "bist":
+        made[f"{name}_collar_tb.sv"] = Bench(macro, word).text()
+        modules = [f"{memory.name}_bist.v" for memory in word.memories]
+        files = [f"{name}_collar_tb.sv", f"{name}_collar.v", *modules, vendor or f"{macro.name}.v"]
+        files += [f"{macro.clock_cell.cell}.v"] if macro.clock_cell else []
+        made["files.f"] = "\n".join([f"{MARK} collar", *files, ""])
+    if macro.clock_cell:
+        made[f"{macro.clock_cell.cell}.v"] = macro.clock_cell.model(MARK)
+    if vendor is None:
+        made[f"{macro.name}.v"] = model(macro, word)
+    return made
+
+
+def main(arguments: list[str]) -> int:
+    words, options = words_of(__doc__, arguments, {"--macro": 1, "--through": 1, "--model": 1, "--clock-mux": 1, "--open": 0}, 2, 3)
+    *memory_files, folder = words
+    if "--macro" not in options:
+        raise ToolError(f"--macro names the file of the pins\n{usage_of(__doc__)}")
+    kind, word = kind_of(options), Word([read_memory(path) for path in memory_files])
+    macro = read_macro(options["--macro"], word)
+    has_choice = bool(chosen_clocks(macro))
+    if "--clock-mux" in options and has_choice:
+        macro.clock_cell = clock_mux(options["--clock-mux"])
+    vendor = named(options["--model"]) if "--model" in options else None
+    if vendor and macro.name not in modules_of(vendor):
+        raise macro.refuse(macro.name_line, f"there is no module {macro.name} in {vendor}")
+    if vendor:
+        refuse_other_ports(macro, vendor)
+    texts, out = texts_of(macro, word, kind, vendor), pathlib.Path(folder)
+    if macro.clock_cell and (out / f"{macro.clock_cell.cell}.v").exists() and not is_own(out / f"{macro.clock_cell.cell}.v"):
+        del texts[f"{macro.clock_cell.cell}.v"]
+    refuse_twins(texts)
+    path = out / f"{macro.name}.v"
+    if vendor is None and path.exists() and not is_own(path):
+        refuse_other_ports(macro, str(path))
+        tell(f"collar: {path} is there and was not written by this tool, so it stays")
+        refuse_strangers(out, list(texts)[:-1])
+        del texts[path.name]
+    write_own(out, texts, [*memory_files, options["--macro"], *([vendor] if vendor else [])])
+    theirs = vendor or (str(path) if path.exists() and not is_own(path) else None)
+    for told in undriven(macro, theirs) if theirs else []:
+        tell(f"collar: {told}")
+    if has_choice and macro.clock_cell is None:
+        tell(f"collar: `? :` chooses the clock of {', '.join(chosen_clocks(macro))}: name a cell by --clock-mux")
+    left = told_pins(untested(macro, word))
+    if left:
+        tell(f"collar: not tested: {left}")
+    if alike(word):
+        tell(f"collar: {alike(word)}: the test does not see where one hangs on the other")
+    return 0

@@ -1,0 +1,107 @@
+"""Marches side by side: what each covers of a list, by class, and the primitives in which they differ.
+
+usage: vidlakost compare LIST MARCH MARCH ..          a table, then a line for each primitive that some cover and some don't
+       vidlakost compare LIST MARCH MARCH .. --json   the same as one object
+       vidlakost compare LIST MARCH MARCH .. --memory MEMORY [--json]    what they cover between two bits of a word of it, too
+       vidlakost compare --help
+
+The column AF has the faults of the address decoder, and LF the linked faults, of which no list speaks. The object has `schema`
+(vidlakost-compare-1), `reports`, by the word of each march the report in the schema of `vidlakost report`, `decoder` and
+`linked`, by the word of each march its verdicts on these faults, and `differs`, by primitive or fault the words of the marches that
+cover it. With --memory it has `in_word`, an object with `reports` and `differs` of the verdicts inside a word of that memory, by
+the whole test with all its backgrounds."""
+from __future__ import annotations
+
+import dataclasses
+import json
+import pathlib
+from typing import Iterator, Optional, Sequence, Union
+
+from vidlakost_tools.texts.decoder import CLASS, DecoderReport, DecoderVerdict, decoded
+from vidlakost_tools.texts.in_word import InWordReport, WordVerdict, judged_in_word
+from vidlakost_tools.texts.linked import LinkedReport, linked
+from vidlakost_tools.texts.march import length_of
+from vidlakost_tools.texts.report import Report, Verdict, judged
+from vidlakost_tools.tool import words_of
+
+
+@dataclasses.dataclass
+class Judged:
+    """What is said of a march: of the list, and of the address decoder and linked faults, which play no part inside a word."""
+
+    report: Union[Report, InWordReport]
+    decoder: Optional[DecoderReport] = None
+    linked: Optional[LinkedReport] = None
+
+    @property
+    def verdicts(self) -> Sequence[Union[Verdict, WordVerdict, DecoderVerdict]]:
+        return [*self.report.verdicts, *(self.decoder.verdicts if self.decoder else [])]
+
+
+def names_of(words: list[str]) -> list[str]:
+    """A short name for each march: its file's, where these are different."""
+    short = [pathlib.Path(word).stem for word in words]
+    return short if len(set(short)) == len(short) else words
+
+
+def table(names: list[str], marches: list[Judged]) -> Iterator[str]:
+    rows = [["march", "length", *marches[0].report.classes, "total", *([CLASS, "LF"] if marches[0].decoder else [])]]
+    for name, march in zip(names, marches):
+        report = march.report
+        shares = [f"{covered}/{count}" for count, covered in report.classes.values()]
+        shares.append(f"{report.total[1]}/{report.total[0]}")
+        shares += [f"{it.covered}/{len(it.verdicts)}" for it in (march.decoder, march.linked) if it]
+        rows.append([name, length_of(report.elements), *shares])
+    widths = [max(map(len, column)) for column in zip(*rows)]
+    for row in rows:
+        yield "  ".join([row[0].ljust(widths[0]), *(cell.rjust(width) for cell, width in zip(row[1:], widths[1:]))])
+
+
+def differing(names: list[str], marches: list[Judged]) -> Iterator[tuple[str, str, list[str]]]:
+    """Of each primitive or fault that some cover and some don't its class, its text and the names of those that cover it."""
+    seen = set()
+    for verdicts in zip(*(march.verdicts for march in marches)):
+        covering = [name for name, verdict in zip(names, verdicts) if verdict.covered]
+        text = verdicts[0].primitive
+        if 0 < len(covering) < len(names) and text not in seen:
+            seen.add(text)
+            yield verdicts[0].kind, text, covering
+
+
+def as_object(words: list[str], marches: list[Judged]) -> dict[str, object]:
+    made: dict[str, object] = {"reports": {word: march.report.as_object() for word, march in zip(words, marches)}}
+    decoders = [(word, march.decoder.verdicts) for word, march in zip(words, marches) if march.decoder]
+    if decoders:
+        made["decoder"] = {word: [verdict.as_object() for verdict in verdicts] for word, verdicts in decoders}
+    links = [(word, march.linked.verdicts) for word, march in zip(words, marches) if march.linked]
+    if links:
+        made["linked"] = {word: [verdict.as_object() for verdict in verdicts] for word, verdicts in links}
+    return {**made, "differs": {text: covering for _, text, covering in differing(words, marches)}}
+
+
+def told(names: list[str], marches: list[Judged]) -> Iterator[str]:
+    """The table, and the primitives in which they differ."""
+    yield from table(names, marches)
+    lines = list(differing(names, marches))
+    if lines:
+        yield "\nprimitives that some of them cover, and which:"
+    for kind, text, covering in lines:
+        yield f"{kind:5} {text:16} {', '.join(covering)}"
+
+
+def main(arguments: list[str]) -> int:
+    (faults, *words), options = words_of(__doc__, arguments, {"--json": 0, "--memory": 1}, 3)
+    memory = options.get("--memory")
+    marches = [Judged(judged(word, faults), decoded(word), linked(word)) for word in words]
+    inside = [judged_in_word(word, memory, faults) for word in words] if memory else []
+    if "--json" in options:
+        made: dict[str, object] = {"schema": "vidlakost-compare-1", **as_object(words, marches)}
+        print(json.dumps({**made, **({"in_word": as_object(words, [*map(Judged, inside)])} if inside else {})}, indent=1))
+        return 0
+    names = names_of(words)
+    print("\n".join(told(names, marches)))
+    if inside:
+        shape = "\ninside a word of {name}: {bits} bits, {backgrounds} backgrounds".format(**inside[0].memory)
+        shape += "; a word of one bit has no two bits, so nothing escapes" if inside[0].memory["bits"] == 1 else ""
+        print("\n".join([shape, *told(names, [*map(Judged, inside)])]))
+    return 0

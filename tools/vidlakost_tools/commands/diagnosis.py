@@ -1,0 +1,88 @@
+"""Which defects give exactly a log: all its wrong reads, and none that it does not have.
+
+usage: vidlakost diagnosis LOG MARCH MEMORY [--mux M] [--list FAULTS] [--with MARCH]..
+       vidlakost diagnosis LOG CHIPFILE --unit U [--mux M] [--list FAULTS] [--with MARCH]..
+       vidlakost diagnosis --help
+
+LOG, the cycles and --mux are as for `vidlakost bitmap`. The log is that of a whole test: a read that it does not have
+was right, but behind its last entry where it ends with `more`. It prints of each class how many candidates there are,
+then each candidate. These are the primitives of FAULTS (all static ones and DRF where no list is given) at each cell
+and with each aggressor; columns, rows, words, data bits, parts of a bit line or of a word line, which are read as one
+value; two data bits that are bridged; address bits that are open, stuck, bridged, or select no word or two; and words
+or rows that reach another one instead of their own or beside it. Aggressors that act alike stand in one line, with
+how many there are. A candidate that gives the log only from some contents of the memory says from how many. The first
+ones are those that explain most by least.
+
+Where no single defect gives the log, it prints what each of up to 8 wrong cells tells by itself. With --with (or,
+from the sources, of the marches of the gallery) it tells which march that is run next sets most candidates apart: in
+how many groups they would fall, of which each leaves another log. It ends with 1 where nothing gives the log."""
+from __future__ import annotations
+
+import pathlib
+from typing import Any, Iterator
+
+from vidlakost_tools.design.table import MARCHES
+from vidlakost_tools.diagnosis.answer import APART, Answer, Further, answer_of, further
+from vidlakost_tools.diagnosis.asked import asked_of, faults_of, logged
+from vidlakost_tools.diagnosis.candidate import Candidate
+from vidlakost_tools.diagnosis.tester import check_mux
+from vidlakost_tools.texts.march import Element, march_of
+from vidlakost_tools.texts.memory import Memory
+from vidlakost_tools.tool import number_of, telling, words_of
+
+# how many of the marches that tell candidates apart are named
+NAMED = 3
+
+
+def lines_of(candidate: Candidate) -> str:
+    more = f" ({candidate.places:,} of them)" if candidate.places > 1 else ""
+    share = f", from {candidate.share:.0%} of the contents" if candidate.share < 1 else ""
+    return f"{candidate.shape.value}: {candidate.what}{more}{share}"
+
+
+def marches_of(names: list[str]) -> list[tuple[str, list[Element]]]:
+    """The marches that may be run next; one that is not accepted is refused."""
+    paths = [pathlib.Path(name) for name in names] or sorted(MARCHES.glob("*.m"))
+    return [(path.stem, march_of(path)[1]) for path in paths]
+
+
+def told(answer: Answer) -> Iterator[str]:
+    """The candidates in words."""
+    for name, count in answer.classes.items():
+        yield f"class {name} {count}"
+    yield from map(lines_of, answer.candidates)
+    if not answer.candidates:
+        yield "no single defect that is known here gives this log"
+    for (index, bit), some in answer.alone:
+        yield f"index {index} bit {bit} by itself: {len(some)} candidates"
+        yield from (f"  {lines_of(one)}" for one in some)
+
+
+def told_further(found: list[Further], count: int) -> Iterator[str]:
+    """Which marches tell most candidates apart."""
+    best = sorted(found, key=lambda one: (-one.groups, one.largest))
+    if not best or best[0].groups < 2:
+        yield f"no march tells the {count} candidates apart"
+        return
+    for one in best[:NAMED]:
+        yield f"{one.name} tells {one.groups} groups of {count} apart, at most {one.largest} in one"
+
+
+def next_march(candidates: list[Candidate], options: dict[str, Any], memory: Memory) -> list[str]:
+    """What further marches tell apart of more than one candidate."""
+    if len(candidates) < 2:
+        return []
+    marches = marches_of(options.get("--with", []))
+    return list(told_further(list(further(candidates, marches, memory)), min(len(candidates), APART)))
+
+
+def main(arguments: list[str]) -> int:
+    words, options = words_of(__doc__, arguments, {"--mux": 1, "--list": 1, "--unit": 1, "--with": ["MARCH"]}, 2, 3)
+    asked = asked_of(words, options, __doc__)
+    mux = number_of(options.get("--mux", "1"), "--mux", 1)
+    check_mux(asked.memory, mux)
+    with telling("the log is compared with each defect"):
+        answer = answer_of(logged(words[0], asked).evidence, faults_of(asked.march, options.get("--list")), mux)
+        lines = [*told(answer), *next_march(answer.candidates, options, asked.memory)]
+    print("\n".join(lines))
+    return 0 if answer.candidates else 1

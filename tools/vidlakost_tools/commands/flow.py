@@ -1,0 +1,78 @@
+"""A makefile for a whole chip: controllers, collars, the top, testbenches, lint, synthesis and reports.
+
+usage: vidlakost flow CHIPFILE|LIST [PINS..] FOLDER [--list FAULTS] [--model FILE]..
+                      [--clock-mux CELL:SELECT:CHIP:TEST:OUT]
+       vidlakost flow --help
+
+The words are those of `vidlakost top`, and so is --clock-mux. Where no PINS are named, they are the files NAME.pins beside
+the description of each memory, or those there that tell a word of two memories. It writes to FOLDER
+    Makefile       the steps; names in it go from the folder that the tool runs in
+    faults.list    the primitives of the reports: all, and DRF, where FAULTS names no list
+    sta.known      the pins of macros of which OpenSTA may say something
+`make -j -C FOLDER` makes of each memory MEMORY.report and in a folder of its own the controller, the collar and its
+testbench, which passes and finds what it plants; the collar as gates of Yosys in the same testbench; in FOLDER/chip what `top`
+writes, its testbench, what Verilator's lint says (nothing), Yosys' netlist and count of cells, and what `access` writes
+with its testbenches; reports.html and a page for the tester. Lint and synthesis see of a macro its ports alone, so that no
+model has to please them. Words for `make`:
+    SIM=verilator    runs that in place of Icarus
+    MORE=..          what the simulator is told besides; LINT_MORE=.. what lint is, SYNTH_MORE=.. what Yosys is as it reads
+    LIBERTY=FILE     the library to whose cells Yosys maps; of their functions it makes the models for the runs of gates
+    MACRO_LIBERTY=.. those of the macros: OpenSTA reads both with the constraints of `vidlakost sdc`, at MHZ=N (100)
+    PARTS=N          so many runs side by side of what is planted in the whole
+Its status is that of the whole: a testbench passes where its last line says so. A step is run again unless each file that
+it reads or writes, and each that a simulator was seen to read, is as it was when the step was done; beside a model that
+opens files while it runs, as by $readmemh, it is run each time. Where the chip file is another by now no step is run,
+since the makefile is of the one that it was made from. Names have letters, digits and _./+@- alone."""
+from __future__ import annotations
+
+import pathlib
+
+from vidlakost_tools.chip import system as soc, text as system_text
+from vidlakost_tools.chip.flow import MARK, Flow
+from vidlakost_tools.chip.system import System
+from vidlakost_tools.collar.clock_mux import clock_mux
+from vidlakost_tools.collar.vendor import modules_of, named, refuse_other_ports
+from vidlakost_tools.files import write_own
+from vidlakost_tools.tool import ToolError, words_of
+
+
+def pins_beside(system: System) -> list[str]:
+    """The files of pins beside the descriptions."""
+    names = {part.memory.name: pathlib.Path(part.unit.memory_file).parent for part in system.parts}
+    found: dict[str, pathlib.Path] = {}
+    for folder in dict.fromkeys(names.values()):
+        for path in sorted(folder.glob("*.pins")):
+            halves = soc.halves_in(str(path))
+            if len(halves) == 2 and all(half in names and half not in found for half in halves):
+                found.update({half: path for half in halves})
+    alone = {name: folder / f"{name}.pins" for name, folder in names.items() if name not in found}
+    found.update({name: path for name, path in alone.items() if path.is_file()})
+    missing = [name for name in names if name not in found]
+    if missing:
+        raise ToolError(f"beside the description of {missing[0]} is no file {missing[0]}.pins: name the files of pins")
+    return list(dict.fromkeys(map(str, found.values())))
+
+
+def main(arguments: list[str]) -> int:
+    words, options = words_of(__doc__, arguments, {"--list": 1, "--model": [], "--clock-mux": 1}, 2)
+    path, *pins, folder = words
+    system = soc.read_system(path)
+    pins = pins or pins_beside(system)
+    soc.give_collars(system, pins)
+    soc.planned(system, path)
+    vendors = {file: modules_of(file) for file in map(named, options.get("--model", []))}
+    system_text.refuse_modules(system, [name for modules in vendors.values() for name in modules])
+    for file, modules in vendors.items():
+        for macro in (placed.macro for placed in system.collars if placed.macro.name in modules):
+            refuse_other_ports(macro, file)
+    system_text.refuse_names(system)
+    if "--clock-mux" in options:
+        clock_mux(options["--clock-mux"])
+    out = pathlib.Path(folder)
+    flow = Flow(system, path, pins, options.get("--list", str(out / "faults.list")), out, vendors, options.get("--clock-mux", ""))
+    texts = {"Makefile": flow.text(), "sta.known": flow.known()}
+    if "--list" not in options:
+        texts["faults.list"] = f"{MARK}\nall\nDRF\n"
+    inputs = [path, *pins, *vendors, *(name for part in system.parts for name in (part.unit.march, part.unit.memory_file))]
+    write_own(out, texts, [*inputs, *([options["--list"]] if "--list" in options else [])])
+    return 0

@@ -1,0 +1,261 @@
+"""A judge from outside: Yosys' bounded model checker on self-test modules of small memories.
+
+usage: vidlakost formal                                    a dozen marches and memories, compiled and judged
+       vidlakost formal --random N [--seed S]              N random ones
+       vidlakost formal --wrong                            modules made wrong in one place, each of which has to be told
+       vidlakost formal VERILOG .. MARCH MEMORY [--top NAME] [--pins FILE] [--cells ice40] [--resets]
+                                                       a module of one's own, in any Verilog that Yosys reads
+       vidlakost formal --help
+
+Every register is open in cycle 0, the one of the reset, and so is every word on `rdata` in every cycle. In each cycle to
+the end of the test, and three behind it, all ports have to be as the list of `vectors` says, and `fail` as these words
+say. With --resets the reset may come again in any cycle, and each begins the test anew; that takes longer, and is for the
+smallest memories; the first of the dozen is judged so too. That list is all that is shared with the program. What nothing
+drives is open in every cycle, and initial values are left out. A signal with two drivers, a register that does not take at the
+rising edge of clk, a latch and a port of another width are refused, and what Yosys warns of is handed on. A case that the model
+checker finds is clocked once more by plain Python, from the module as a text of the subset that `check` reads; where no port is
+wrong in it the line says `not known`. It ends with 1 where a module differs, and tells the first cycle, or is not known."""
+from __future__ import annotations
+
+import dataclasses
+import pathlib
+import random
+import re
+import tempfile
+from typing import Any, Iterator, Mapping, Sequence
+
+from vidlakost_tools.audit.pins import Pins, ports_of, read_pins, told_ports
+from vidlakost_tools.program import ask
+from vidlakost_tools.text import Path
+from vidlakost_tools.texts.memory import Memory
+from vidlakost_tools.texts.random_cases import random_case
+from vidlakost_tools.tool import ToolError, number_of, tell, usage_of, words_of
+from vidlakost_tools.verilog import clock_tree, port_judge, replayed, yosys
+from vidlakost_tools.verilog.front_end import Plain, plain_of
+from vidlakost_tools.verilog.model_checker import differs_within
+from vidlakost_tools.verilog.port_judge import Cycle
+from vidlakost_tools.verilog.replayed import Case
+
+# so many cycles more where resets may come at any time
+AFTER = 8
+C = "{any(w0);up(r0,w1);up(r1,w0);down(r0,w1);down(r1,w0);any(r0)}"
+CASES = [
+    ("{any(w0);up(r0,w1);down(r1,w0)}", "memory 1\nname a\nwords 2\nbits 1\n"),
+    (C, "memory 1\nname b\nwords 4\nbits 1\n"),
+    ("{any(w0);up(r0,w1);down(r1)}", "memory 1\nname c\nwords 3\nbits 3\n"),
+    ("{any(w1);down(r1,w0,r0);up(r0)}", "memory 1\nname d\nwords 5\nbits 2\nbackgrounds 0 1\n"),
+    ("{any(w0);up(r0,w1)}", "memory 2\nname e\nwords 4\nbits 2\nlatency 2\npolarity 1\n"),
+    ("{up(w0);down(r0,w1,r1);any(r1)}", "memory 2\nname f\nwords 3\nbits 2\nlatency 4\n"),
+    ("{any(w0);del;any(r0,w1);del;any(r1)}", "memory 2\nname g\nwords 2\nbits 2\npause 5\n"),
+    (
+        "{any(w0);up(r0,w1);del;down(r1,w0)}",
+        "memory 2\nname h\nwords 4\nbits 2\nlatency 2\npolarity 1\npause 3\nscramble a0 = p0 ^ p1\nscramble a1 = p1 ^ 1\n",
+    ),
+    (
+        "{any(w0);down(r0,w1);up(r1)}",
+        "memory 1\nname i\nwords 8\nbits 1\nscramble a0 = p0 ^ p1\nscramble a1 = p1 ^ p2\nscramble a2 = p2 ^ 1\n",
+    ),
+    ("{del;any(w0);del;del;up(r0);del}", "memory 2\nname j\nwords 3\nbits 2\nlatency 3\npause 2\nbackgrounds 0 3 1\n"),
+    ("{any(w0);up(r0)}", "memory 2\nname k\nwords 4\nbits 8\npolarity a5\nlatency 1\n"),
+    ("{up(w0);up(r0,w1,r1,w0,r0,w1);v(r1)}", "memory 1\nname l\nwords 3\nbits 4\nbackgrounds 0 5\n"),
+]
+# a march and a memory with all of a module's parts, and places of its text with something wrong in their stead
+WRONG_CASE = CASES[7]
+WRONG = [
+    ("done comes a cycle early", r"done = \(reset \? 1'h0 : over2\)", "done = (reset ? 1'h0 : over1)"),
+    ("fail is not cleared by the reset", r"bad <= \(reset \? 1'h0 :", "bad <= (reset ? bad :"),
+    ("fail does not stay", r"\(\(rdata != want\) \? 1'h1 : bad\)", "((rdata != want) ? 1'h1 : 1'h0)"),
+    ("a word is compared a cycle early", r"\(reads2 \? \(\(rdata", "(reads1 ? ((rdata"),
+    ("one bit alone is compared", r"\(rdata != want\)", "(rdata[0] != want[0])"),
+    ("an address is not scrambled", r"\(index & 2'h3\)", "(index & 2'h1)"),
+    ("a constant of an address is lost", r"\^ 1'h1\)", "^ 1'h0)"),
+    ("one background alone is run", r"\(back \+ 1'h1\)", "1'h0"),
+    ("no element goes down", r"assign down = .*", "assign down = 1'h0;"),
+    ("the last word is left out", r"\(pause \? 2'h1 : 2'h2\)", "(pause ? 2'h1 : 2'h1)"),
+    ("a pause is a cycle short", r"\(pause \? 2'h1 : 2'h2\)", "(pause ? 2'h0 : 2'h2)"),
+    ("a pause commands the memory", r"live = \(pause \? 1'h0 : run\)", "live = run"),
+    ("the written words have no polarity", r"wdata = .*", "wdata = (back ? (value ? 2'h1 : 2'h2) : (value ? 2'h3 : 2'h0));"),
+    (
+        "the expected words are inverted",
+        r"want <= \(value1 \?",
+        "want <= ((!value1) ?",
+    ),
+    ("the reset does not start the run", r"run <= \(reset \? 1'h1 :", "run <= (reset ? run :"),
+    ("the reset leaves the value", r"one <= \(reset \? 1'h0 :", "one <= (reset ? one :"),
+    ("the last operation is told by the first", r": ends_more\)", ": ends_again)"),
+    ("the reset leaves the element", r"element <= \(reset \? 2'h0 :", "element <= (reset ? element :"),
+    (
+        "a read from before the reset is compared",
+        r"reads1 <= \(reset \? 1'h0 : \(write \? 1'h0 : live\)\)",
+        "reads1 <= (write ? 1'h0 : live)",
+    ),
+    ("done from before the reset stays", r"over1 <= \(reset \? 1'h0 : \(!run\)\)", "over1 <= (!run)"),
+    ("fail is not 0 in the reset", r"fail = \(reset \? 1'h0 : bad\)", "fail = bad"),
+    ("the test begins again at its end", r"\(last_back \? 1'h0 : run\)", "(last_back ? run : run)"),
+    ("a write is a read", r"we = write", "we = 1'h0"),
+    ("en hangs on a bit that is not there", r"1'h0 : live\);", "1'h0 : (live && !want[{1'b1, back}]));"),
+]
+# the same, where no run of cycles shows it and the module is refused by these words
+REFUSED = [
+    ("the falling edge counts", "posedge clk", "negedge clk", "takes at the falling edge of clk"),
+    ("a port is too wide", "output we", "output [1:0] we", "has the ports output we of 1 bit"),
+]
+
+
+# ---- somebody's module
+
+
+def refuse_ports(module: Mapping[str, Any], memory: Memory, pins: Pins | None) -> None:
+    """Refuses a module without one of the ports; Yosys would make a port of another width fit."""
+    there: set[tuple[str, str, int]] = {(said["direction"], port, len(said["bits"])) for port, said in module["ports"].items()}
+    if pins:
+        there = set(pins.widths(dict(module["ports"])))
+    missing = ports_of(memory) - there
+    if missing:
+        raise ToolError(f"a self-test of {memory.name} has the ports {told_ports(missing)}", 1)
+
+
+@dataclasses.dataclass
+class Asked:
+    """What the model checker is asked: the script that reads the module, the module that is judged, and the test."""
+
+    begin: str
+    module: str
+    memory: Memory
+    cycles: list[Cycle]
+    resets: bool
+    folder: pathlib.Path
+
+    def differs(self, steps: int, pins: Pins | None = None, more: Sequence[str] = ()) -> Case | None:
+        judge = port_judge.checker(self.memory, self.cycles, f"\\{self.module} ", self.resets, pins)
+        (self.folder / "judge.v").write_text(judge, encoding="utf-8")
+        return differs_within(steps, self.begin, self.folder, more=more)
+
+    def first(self, cycle: int, pins: Pins | None) -> int:
+        """The first cycle of all that differs, where one does; it takes some further runs."""
+        least = 0
+        while least < cycle:
+            middle = (least + cycle) // 2
+            found = self.differs(middle + 1, pins)
+            least, cycle = (middle + 1, cycle) if found is None else (least, found.cycle)
+        return cycle
+
+
+def is_replayed(asked: Asked, plain: Plain, cycle: int) -> bool:
+    """Whether a port of the module differs in a cycle where it is clocked by itself, in a case that the model checker has of the
+    module as a text of the subset."""
+    (asked.folder / "plain.v").write_text(plain.text(), encoding="utf-8")
+    begin = f"read_verilog {yosys.quoted(asked.folder / 'plain.v')}\nproc -noopt -norom\n{yosys.OPEN}"
+    case = dataclasses.replace(asked, begin=begin, module=plain.name).differs(cycle + 1, more=replayed.signals_of(plain))
+    if case is None:
+        return False
+    resets = case.resets if asked.resets else {0}
+    return port_judge.test_of(asked.memory, asked.cycles).differs(plain, dataclasses.replace(case, resets=resets))
+
+
+def judge(
+    files: Sequence[Path], march: Path, memory_file: Path, options: dict[str, Any] | None = None, first: bool = True
+) -> str | None:
+    """Where a module differs from what the list of its commands says; None where it nowhere does."""
+    memory, cycles = port_judge.cycles_of(march, memory_file)
+    options = options or {}
+    with tempfile.TemporaryDirectory() as name:
+        folder, resets = pathlib.Path(name), "--resets" in options
+        sources = yosys.read(list(map(str, files)), options, folder)
+        pins = read_pins(options["--pins"]).complete(sources.module["ports"]) if options.get("--pins") else None
+        refuse_ports(sources.module, memory, pins)
+        begin, clock = clock_tree.settled(sources, pins, folder)
+        for warning in [*sources.warnings, *clock.warnings]:
+            tell(f"formal: {warning}")
+        asked = Asked(begin, sources.top, memory, cycles, resets, folder)
+        found = asked.differs(len(cycles) + (AFTER if resets else 0), pins)
+        if found is None:
+            return None
+        cycle = asked.first(found.cycle, pins) if first else found.cycle
+        try:
+            plain = plain_of(list(map(str, files)), options, pins)
+        except ToolError as error:
+            return f"not known: a case in cycle {cycle} can't be clocked by itself, since {error}"
+        if is_replayed(asked, plain, cycle):
+            return f"differs in cycle {cycle}"
+    return f"not known: a case in cycle {cycle} doesn't come out where the module is clocked by itself from there"
+
+
+# ---- modules of the program
+
+
+def compiled(march: Path, memory_file: Path, folder: pathlib.Path) -> pathlib.Path:
+    (folder / "list").write_text("")
+    ask("compile", march, memory_file, folder / "list", folder / "module.v", folder / "report")
+    return folder / "module.v"
+
+
+def judge_case(march_text: str, memory_text: str, change: tuple[str, str, str] | None = None, resets: bool = False) -> str | None:
+    with tempfile.TemporaryDirectory() as name:
+        folder = pathlib.Path(name)
+        march, memory = folder / "march", folder / "memory"
+        march.write_text(march_text)
+        memory.write_text(memory_text)
+        module = compiled(march, memory, folder)
+        if change:
+            changed, count = re.subn(change[1], change[2].replace("\\", "\\\\"), module.read_text())
+            if count != 1:
+                raise ToolError(f"the text of '{change[0]}' stands {count} times in the module")
+            module.write_text(changed)
+        return judge([module], march, memory, {"--resets": True} if resets else {}, change is None)
+
+
+def judge_cases(cases: list[tuple[str, str]], with_resets: int = 0) -> int:
+    """Judges modules, and the first of them once more with resets at any time."""
+    wrong = 0
+    for march, memory, resets in [*((*case, False) for case in cases), *((*case, True) for case in cases[:with_resets])]:
+        difference = judge_case(march, memory, resets=resets)
+        if difference:
+            wrong += 1
+            print(f"{difference}{' with further resets' if resets else ''}: {march}\n{memory}")
+    print(f"{len(cases)} modules judged by Yosys, {wrong} differ")
+    return 1 if wrong else 0
+
+
+def refusal_of(change: tuple[str, str, str], wanted: str) -> str | None:
+    """The words by which a module that is made wrong is refused; None where it is not."""
+    try:
+        judge_case(*WRONG_CASE, change=change)
+    except ToolError as error:
+        return f"refused, {error}" if wanted in str(error) else None
+    return None
+
+
+def wrong_modules() -> Iterator[tuple[str, str | None]]:
+    """Each module that is made wrong, with how it is told."""
+    for change in WRONG:
+        yield change[0], judge_case(*WRONG_CASE, change=change)
+    for what, pattern, text, wanted in REFUSED:
+        yield what, refusal_of((what, pattern, text), wanted)
+
+
+def judge_wrong() -> int:
+    missed = 0
+    for what, difference in wrong_modules():
+        missed += difference is None
+        print(f"{what}: {difference or 'not told'}")
+    print(f"{len(WRONG) + len(REFUSED)} wrong modules, {missed} not told")
+    return 1 if missed else 0
+
+
+def main(arguments: list[str]) -> int:
+    allowed = {"--random": 1, "--seed": 1, "--wrong": 0, "--resets": 0, "--top": 1, "--pins": 1, "--cells": 1}
+    files, options = words_of(__doc__, arguments, allowed)
+    yosys.want()
+    if len(files) >= 3 and set(options) <= {"--resets", "--top", "--pins", "--cells"}:
+        difference = judge(files[:-2], files[-2], files[-1], options)
+        print(difference or "each port is in each cycle as it has to be")
+        return 1 if difference else 0
+    if files:
+        raise ToolError(f"three files and more, or none\n{usage_of(__doc__)}")
+    if "--wrong" in options:
+        return judge_wrong()
+    if "--random" in options:
+        chance = random.Random(number_of(options.get("--seed", "1"), "--seed"))
+        return judge_cases([random_case(chance) for _ in range(number_of(options["--random"], "--random", 1))])
+    return judge_cases(CASES, 1)

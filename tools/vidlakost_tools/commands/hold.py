@@ -1,0 +1,43 @@
+"""Retention by hold: a self-test whose clock stands in the pauses of its march until it is resumed.
+
+usage: vidlakost hold MARCH MEMORY FOLDER
+       vidlakost hold --help
+
+For a retention test that waits longer than a pause can be, as 100 ms: with `pause 1` in MEMORY each pause is a cycle. It writes
+to FOLDER
+    NAME_hold.v        the module NAME_hold round NAME_bist, which `compile` writes: its ports, and `resume`, `held` and
+                       `clk_test`, the clock of the memory too, which stands in the last cycle of each pause until `resume`
+                       rises; its clock gate is a module of its own, for the one of your library to take its place. Its
+                       `reset` is held at 1 for three cycles of `clk`
+    NAME_hold.md       a table: in which cycles it is held
+    NAME_hold_tb.sv    a testbench: it looks whether the clock stands; with +planted a cell loses its content in each hold
+A pause of more cycles than the latency lets the words of the reads before it arrive before the clock stands.
+    cd FOLDER && iverilog -g2012 -o tb NAME_hold_tb.sv NAME_hold.v NAME_bist.v && vvp -n tb && vvp -n tb +planted"""
+from __future__ import annotations
+
+import pathlib
+
+from vidlakost_tools.collar import hold as hold_text
+from vidlakost_tools.files import write_own
+from vidlakost_tools.texts.march import march_of
+from vidlakost_tools.texts.memory import read_memory
+from vidlakost_tools.tool import ToolError, tell, words_of
+
+
+def main(arguments: list[str]) -> int:
+    (march, path, folder), _ = words_of(__doc__, arguments, {}, 3, 3)
+    elements, memory = march_of(march)[1], read_memory(path)
+    holds = hold_text.holds_of(elements, memory)
+    if not holds:
+        raise ToolError(f"{march}: the march has no pause, so there is nothing to hold")
+    texts = {
+        f"{memory.name}_hold.v": hold_text.text(elements, memory, holds),
+        f"{memory.name}_hold.md": hold_text.table(elements, memory, holds),
+        f"{memory.name}_hold_tb.sv": hold_text.bench(elements, memory, holds),
+    }
+    write_own(pathlib.Path(folder), texts, [march, path])
+    if memory.pause <= memory.latency:
+        tell(f"hold: a pause of {memory.pause} cycles: words of reads before it may be on their way while the clock stands")
+    if not hold_text.is_read_behind(elements):
+        tell("hold: no pause is followed by a read, so +planted finds nothing")
+    return 0

@@ -1,0 +1,126 @@
+"""A description and the pins of a memory cell, from a library or from a port list.
+
+usage: vidlakost liberty LIB CELL FOLDER [--name NAME] [--pin PIN=KIND]..
+       vidlakost liberty --verilog FILE MODULE FOLDER [--name NAME] [--pin PIN=KIND]..
+       vidlakost liberty --help
+
+LIB is a library in liberty form, CELL a cell of it that has a group memory(); FILE is a text of Verilog with the port list of
+MODULE. It writes to FOLDER, with NAME the name of the memory (that of the cell in small letters, where nothing is said),
+    NAME.mem     the description, for the program
+    NAME.pins    the pins, for `vidlakost collar` and `vidlakost top`
+A library tells the clocks, the addresses, the words and at which edge they change; of enables and masks, and of all pins in a
+port list, only their names tell what they may be. A line that stands on a name alone begins with #?, and `collar` refuses it
+until somebody takes that mark away, or says in the call what the pin is: --pin CSB=~en, with KIND one of clk, en, we, read,
+write, mask, addr, wdata and rdata, and ~ in front of it where the pin is active low. A pin that is not recognised stands in a
+comment, with what could stand there, and the tool counts them. What a library says of its memory and what it says of the
+buses have to agree, and the memory has to be a ram. The number of words is 2 to the width of the address: a data sheet may
+say fewer. The latency is 1, or the data sheet says more."""
+from __future__ import annotations
+
+import pathlib
+
+from vidlakost_tools.collar import pin_names
+from vidlakost_tools.collar.liberty import Found, memory_cell
+from vidlakost_tools.collar.pins import RESERVED, is_name
+from vidlakost_tools.collar.port_list import Ports
+from vidlakost_tools.files import write_own
+from vidlakost_tools.text import SOURCE_BYTES, read_described, shown
+from vidlakost_tools.tool import ToolError, tell, words_of
+
+WIDEST_WORD = 64
+
+
+def widths(found: list[Found], confirmed: dict[str, str]) -> tuple[int, int]:
+    """The widths of the address and of a word of a port list, 0 where no port shows them."""
+    guesses = [pin_names.guess(pin, confirmed) for pin in found]
+    address = next((one.pin.width for one in guesses if one.kind == "addr"), 0)
+    return address, next((one.pin.width for one in guesses if one.kind == "rdata"), 0)
+
+
+def description(name: str, address: int, bits: int, source: str) -> str:
+    """The description, as far as it is known."""
+    lines = [f"# made by vidlakost liberty from {source}", "memory 2", f"name {name}"]
+    if 1 <= address <= 16:
+        lines.append(f"words {1 << address}      # 2 to the {address} bits of the address; look at the data sheet")
+    else:
+        lines.append("# words N       no address of 1 to 16 bits is recognised")
+    if 1 <= bits <= WIDEST_WORD:
+        lines.append(f"bits {bits}")
+    elif bits > WIDEST_WORD:
+        lines.append(f"# bits N       a word of {bits} bits is two descriptions, whose names stand as low and high in the pins")
+    else:
+        lines.append("# bits N        no word is recognised")
+    return "\n".join([*lines, "latency 1       # look at the data sheet", "backgrounds log", ""])
+
+
+def name_of(given: str | None, cell: str) -> str:
+    name = given if given is not None else cell.lower()
+    if not is_name(name) or name in RESERVED or len(name) > 48:
+        raise ToolError(f"{shown(name)} is no name for a memory: give one with --name")
+    return name
+
+
+KINDS = ("clk", "addr", "wdata", "rdata", *("~" * low + kind for kind in ("en", "we", "read", "write", "mask") for low in (0, 1)))
+
+
+def told_of(pin: Found, found: list[Found]) -> str:
+    """What a library says that a pin is; nothing where only its name tells."""
+    if pin.name in [one.writes_at or one.reads_at for one in found]:
+        return "addr"
+    if pin.is_clock:
+        return "clk"
+    return ("wdata" if pin.way == "input" else "rdata") if pin.writes_at or pin.reads_at else ""
+
+
+def confirmed_in(given: list[str], found: list[Found]) -> dict[str, str]:
+    """What the call says of pins."""
+    confirmed: dict[str, str] = {}
+    for text in given:
+        name, _, kind = text.partition("=")
+        if kind not in KINDS:
+            raise ToolError(f"--pin names a pin and what it is, one of {', '.join(KINDS)}, and not {shown(text)}")
+        if name not in [pin.name for pin in found] or name in confirmed:
+            raise ToolError(f"--pin {shown(text)}: {'the pin is named twice' if name in confirmed else 'there is no such pin'}")
+        pin = next(pin for pin in found if pin.name == name)
+        if (pin.way == "output") != (kind == "rdata"):
+            raise ToolError(f"--pin {shown(text)}: {name} is an {pin.way}")
+        if told_of(pin, found) not in ("", kind):
+            raise ToolError(f"--pin {shown(text)}: the library says that {name} is {told_of(pin, found)}")
+        confirmed[name] = kind
+    return confirmed
+
+
+def tell_left(found: list[Found], lines: list[str], left: int) -> None:
+    """What somebody has to look at."""
+    for pin in found:
+        if pin.is_falling and is_name(pin.name):
+            told = "changes at the falling edge of its clock: `vidlakost sdc --falling` leaves it half a period"
+            tell(f"liberty: {pin.name} {told}")
+    taken = [pin.name for pin in found if pin.is_taken_falling and is_name(pin.name)]
+    if taken:
+        told = "are taken at the falling edge of the clock, and a collar drives pins for the rising one"
+        tell(f"liberty: {', '.join(taken)} {told}")
+    unsure = sum(line.startswith(pin_names.UNSURE) for line in lines)
+    if unsure:
+        tell(f"liberty: {unsure} of {len(found)} pins are guessed by their names: confirm each line that begins with #?")
+    if left:
+        tell(f"liberty: {left} of {len(found)} pins are not recognised, and stand in comments")
+
+
+def main(arguments: list[str]) -> int:
+    (path, cell, folder), options = words_of(__doc__, arguments, {"--verilog": 0, "--name": 1, "--pin": []}, 3, 3)
+    name = name_of(options.get("--name"), cell)
+    if not is_name(cell) or cell in RESERVED:
+        raise ToolError(f"{shown(cell)} is no name of a macro")
+    text = read_described(path, SOURCE_BYTES)
+    address, bits, found = (0, 0, Ports(path, text, cell).ports()) if "--verilog" in options else memory_cell(path, text, cell)
+    confirmed = confirmed_in(options.get("--pin", []), found)
+    if "--verilog" in options:
+        address, bits = widths(found, confirmed)
+    lines, left = pin_names.pins(cell, found, confirmed)
+    source = pathlib.Path(path).name if pathlib.Path(path).name.isprintable() else "a file"
+    pins = [f"# made by vidlakost liberty from {source}: confirm each line that begins with #?", *lines, ""]
+    texts = {f"{name}.mem": description(name, address, bits, source), f"{name}.pins": "\n".join(pins)}
+    write_own(pathlib.Path(folder), texts, [path])
+    tell_left(found, lines, left)
+    return 0

@@ -1,0 +1,173 @@
+"""Which read a cycle of `bench`, `benchfault`, `benchfile` or of a waveform belongs to, and which command one of `check`.
+
+usage: vidlakost locate MARCH MEMORY CYCLE [EXPECTED RETURNED]
+       vidlakost locate MARCH MEMORY --line LINE      the cycle and the words from the line of such a command
+       vidlakost locate MARCH MEMORY --elements       of each element in each background its first and its last cycle
+       vidlakost locate MARCH MEMORY --tdr HEX [--sib]   from the register of the TAP that `vidlakost access --jtag` writes
+       vidlakost locate CHIPFILE --chip CYCLE FAILBITS [EXPECTED RETURNED]
+       vidlakost locate CHIPFILE --chip --tdr HEX [--sib]
+       vidlakost locate LIST|CHIPFILE PINS.. --whole CYCLE FAILBITS [EXPECTED RETURNED]
+       vidlakost locate LIST|CHIPFILE PINS.. --whole --tdr HEX [--sib]
+       vidlakost locate --help
+
+CYCLE is that in which the answer stands on `rdata`, where the cycle of the reset is 0; `fail` is 1 from the next on. It
+prints the background, the element, the operation, the index and the address, and with the two words, as the commands
+print them, the bits that differ, and as the memory stores them where its polarity inverts some. Of a line of `check`,
+whose cycle is that of the command itself, it prints what has to be commanded there.
+
+HEX is what a scan of the register gave; with --sib it was one behind segment insertion bits, which stand above the
+register. With --whole the cycles are those of the whole that `vidlakost top` joins, PINS end in .pins, and a bit of FAILBITS is a
+memory. Of a chip the cycles are the chip's own, and FAILBITS are the bits of `fail`, that of unit 0 last. With `--at fail` CYCLE is the
+one in which `fail` rose. With `--mux M`, M words stand in a row of the array: bit B of an index is in column B * M + index
+modulo M."""
+from __future__ import annotations
+
+import re
+from typing import Any, Iterator
+
+from vidlakost_tools.access.log import OF_UNIT, entry_in
+from vidlakost_tools.chip import locate as system_locate, system as soc
+from vidlakost_tools.diagnosis import tester
+from vidlakost_tools.text import shown
+from vidlakost_tools.texts.chip import read_chip
+from vidlakost_tools.texts.march import Element, march_of
+from vidlakost_tools.texts.memory import Memory, read_memory
+from vidlakost_tools.texts.reads import Read, due_lines, due_numbers, read_of, spans, visit_lines
+from vidlakost_tools.tool import ToolError, number_of, usage_of, words_of
+
+
+PORTS = ("en", "we", "addr", "wdata", "done", "fail")
+CHECKED = re.compile("(?:differs|unknown) cycle ([0-9]{1,9}) port ([a-z]+)(?: expected ([0-9a-f]+) got ([0-9a-fxz]+))?")
+
+
+def bits_of(read: Read, memory: Memory, given: list[str], mux: int | None) -> list[str]:
+    """The bits that differ, where the words of a row are told also their columns, and both words as they are stored."""
+    words = []
+    for word in given:
+        if not re.fullmatch(r"[0-9a-fA-F]{1,16}", word) or int(word, 16) >> memory.bits:
+            raise ToolError(f"'{word}' is no hexadecimal word of {memory.bits} bits")
+        words.append(int(word, 16))
+    tester.check_expected(read, memory, words[0])
+    if words[0] == words[1]:
+        raise ToolError(f"{memory.digits(words[0])} is expected and returned, so this read is not wrong")
+    differing = [bit for bit in range(memory.bits) if (words[0] ^ words[1]) >> bit & 1]
+    lines = [f"bits {' '.join(map(str, differing))}"]
+    if mux is not None:
+        lines.append(f"columns {' '.join(str(bit * mux + read.index % mux) for bit in differing)}")
+    if memory.polarity:
+        stored = [memory.digits(word ^ memory.polarity) for word in words]
+        lines.append(f"stored {stored[0]} expected, {stored[1]} returned")
+    return lines
+
+
+def element_lines(elements: list[Element], memory: Memory) -> Iterator[str]:
+    """The cycles of each element; a pause is one, in which a tester may stop the clock."""
+    for span in spans(elements, memory):
+        before = f"background {span.background} {memory.digits(memory.backgrounds[span.background])}"
+        yield f"{before} element {span.number} {span.element.text} cycles {span.first} to {span.last}"
+    yield f"done from cycle {memory.cycles(elements) - 1}"
+
+
+def of_check(text: str, elements: list[Element], memory: Memory) -> list[str]:
+    """What is due in the cycle of a line of `check`; the number that it expects is decimal, and that of a testbench is not."""
+    line = CHECKED.fullmatch(text.strip())
+    if line is None or line[2] not in PORTS or text.startswith("differs") != bool(line[3]):
+        raise ToolError(f"{shown(text)} is no line of check: a port is one of {', '.join(PORTS)}, and what differs is expected")
+    if line[3] and line[3] == line[4]:
+        raise ToolError(f"the line got {line[4]} on {line[2]} as it expects, so nothing differs")
+    lines = due_lines(elements, memory, int(line[1]))
+    due = due_numbers(elements, memory, int(line[1])).get(line[2])
+    if line[3] and (due is None or line[3] not in (str(due), f"{due:x}")):
+        told = f"and of this march {'nothing' if due is None else due} is due there: another march, memory or cycle?"
+        raise ToolError(f"the line expects {line[3]} on {line[2]}, {told}")
+    return lines
+
+
+def of_chip(words: list[str], options: dict[str, Any], mux: int) -> list[str]:
+    """What is said of a chip."""
+    if "--tdr" in options:
+        if len(words) != 1 or "--at" in options:
+            raise ToolError(f"--tdr stands behind a chip file alone\n{usage_of(__doc__)}")
+        return tester.chip_register(read_chip(words[0]), options["--tdr"], mux, "--sib" in options)
+    if len(words) not in (3, 5):
+        raise ToolError(f"--chip takes a chip file, a cycle, the bits of fail, and two words or none\n{usage_of(__doc__)}")
+    chip = read_chip(words[0])
+    units = tester.failing_units(words[2], len(chip.units))
+    return list(tester.in_chip(chip, answered(words[1], options), units, words[3:], mux))
+
+
+def of_whole(words: list[str], options: dict[str, Any], mux: int) -> list[str]:
+    """What is said of a whole chip."""
+    path, pins = words[0], [word for word in words[1:] if word.endswith(".pins")]
+    rest = [word for word in words[1:] if not word.endswith(".pins")]
+    system = soc.read_system(path)
+    soc.give_collars(system, pins)
+    soc.planned(system, path)
+    if "--tdr" in options:
+        if rest or "--at" in options:
+            raise ToolError(f"--tdr stands behind the pins alone\n{usage_of(__doc__)}")
+        return system_locate.register(system, options["--tdr"], mux, "--sib" in options)
+    if len(rest) not in (2, 4):
+        raise ToolError(f"--whole takes a cycle, the bits of fail, and two words or none\n{usage_of(__doc__)}")
+    parts = [system.parts[number] for number in tester.failing_units(rest[1], len(system.parts))]
+    if len(parts) > 1:
+        raise ToolError(f"{', '.join(part.name for part in parts)} fail: whose is the cycle? Give one bit alone")
+    return list(system_locate.in_system(system, answered(rest[0], options), parts[0], rest[2:], mux))
+
+
+def answered(text: str, options: dict[str, Any]) -> int:
+    """The cycle in which the answer stands on `rdata`."""
+    if options.get("--at", "fail") != "fail":
+        raise ToolError("behind --at stands fail alone")
+    return number_of(text, "CYCLE", 1) - 1 if "--at" in options else number_of(text, "CYCLE")
+
+
+def main(arguments: list[str]) -> int:
+    allowed = {"--line": 1, "--elements": 0, "--chip": 0, "--tdr": 1, "--at": 1, "--mux": 1, "--whole": 0, "--sib": 0}
+    words, options = words_of(__doc__, arguments, allowed, 1, None)
+    if "--sib" in options and "--tdr" not in options:
+        raise ToolError(f"--sib stands beside --tdr\n{usage_of(__doc__)}")
+    has_rows, mux = "--mux" in options, number_of(options.pop("--mux", "1"), "--mux", 1)
+    if "--whole" in options:
+        print("\n".join(of_whole(words, options, mux)))
+        return 0
+    if len(words) > 5:
+        raise ToolError(f"too many words\n{usage_of(__doc__)}")
+    if "--chip" in options:
+        print("\n".join(of_chip(words, options, mux)))
+        return 0
+    if len(words) < 2:
+        raise ToolError(f"too few words\n{usage_of(__doc__)}")
+    march, memory_file, *rest = words
+    if "--tdr" in options:
+        if rest or set(options) - {"--tdr", "--sib"}:
+            raise ToolError(f"--tdr stands alone\n{usage_of(__doc__)}")
+        elements, memory = march_of(march)[1], read_memory(memory_file)
+        print("\n".join(tester.memory_register(elements, memory, options["--tdr"], mux, "--sib" in options)))
+        return 0
+    if "--elements" in options:
+        if rest or len(options) > 1:
+            raise ToolError(f"--elements stands alone\n{usage_of(__doc__)}")
+        print("\n".join(element_lines(march_of(march)[1], read_memory(memory_file))))
+        return 0
+    if options.get("--line", "").startswith(("differs ", "unknown ")) and not rest:
+        print("\n".join(of_check(options["--line"], march_of(march)[1], read_memory(memory_file))))
+        return 0
+    if "--line" in options:
+        match = entry_in(options["--line"])
+        if match is None or rest:
+            raise ToolError("the line names no read: it has no 'cycle C expected X returned Y'")
+        whose = OF_UNIT.search(options["--line"])
+        if whose is not None:
+            why = "whose cycles are the chip's: give the chip file and --chip, with the cycle and the words"
+            raise ToolError(f"the line is of unit {whose[1]} of a chip, {why}")
+        rest = list(match.groups())
+    if len(rest) not in (1, 3):
+        raise ToolError(f"a cycle, or a cycle and two words, stand behind the memory\n{usage_of(__doc__)}")
+    elements, memory = march_of(march)[1], read_memory(memory_file)
+    read = read_of(elements, memory, answered(rest[0], options))
+    lines = tester.told(read, elements, memory, mux) if has_rows else visit_lines(read, elements[read.element], memory)
+    if rest[1:]:
+        lines += bits_of(read, memory, rest[1:], mux if has_rows else None)
+    print("\n".join(lines))
+    return 0

@@ -1,0 +1,83 @@
+"""A chip whose memories stay where they are: a testbench of their bundles, and a proof that its use is what it was.
+
+usage: vidlakost places PLACES LIST|CHIPFILE PINS.. FOLDER
+       vidlakost places --help
+
+FOLDER is that of `vidlakost top --in-place`, and LIST, CHIPFILE and PINS are the words of that. PLACES has a line for
+each of these (`#` begins a comment):
+    places 1                       the version
+    chip MODULE                    the top of the chip
+    source FILE                    a source of the chip, in which the modules WORD_in_place stand for the macros
+    before FILE                    a source of the chip as it was, with its macros
+    at MEMORY PATH [was PATH]      the instance of a memory, from the top on, as core.bank.words; was, where that of its
+                                   macro had another name
+    access PATH                    the instance of NAME_access; in NAME_tap or NAME_apb it is called tested
+    clock PORT NANOSECONDS         a clock of the chip, with its period
+    set PORT VALUE                 an input that keeps a value; all others are 0 in use, and unknown in test
+    start PORT, done PORT, fail PORT           the ports by which the test is started, each in a line of its own; or
+    tap TCK TMS TDI TRST_N TDO     those of the TAP that `vidlakost access --in-place --jtag` writes
+source, before, at, clock and set may stand many times. It writes to FOLDER
+    NAME_places_tb.sv   a testbench of the chip. Each bit of each bundle has to have the same at both ends, by itself;
+                        then the test runs by the ports of the chip, beside what the sequencer has to do. With +planted
+                        the first, the middle and the last bit of each memory are wrong in turn, and then a bit of all
+                        at once; each has to be found there and nowhere else, with its first failure; +planted=MEMORY
+                        plants at that one alone
+    NAME_places.f       what a simulator has to read
+Where lines before stand there Yosys proves that each pin of each memory, each flip-flop and each output of the chip has
+in use what it had before; what is another is printed, and the status is 1. Without Yosys it says that nothing
+was proved.
+    cd FOLDER && iverilog -g2012 -o tb -c NAME_places.f && vvp -n tb && vvp -n tb +planted"""
+from __future__ import annotations
+
+import os
+import pathlib
+import shutil
+
+from vidlakost_tools.chip import system as soc
+from vidlakost_tools.collar.text import MARK
+from vidlakost_tools.files import write_own
+from vidlakost_tools.in_place import places_proof
+from vidlakost_tools.in_place.place_list import Places, inputs_of, read_places
+from vidlakost_tools.in_place.places_bench import ChipBench
+from vidlakost_tools.in_place.sequencer import PlaceTarget, of_places
+from vidlakost_tools.text import lines_of, read_described, shown
+from vidlakost_tools.tool import ToolError, tell, words_of
+
+
+def listed(folder: pathlib.Path, target: PlaceTarget, places: Places) -> list[str]:
+    """What a simulator has to read, from the folder on."""
+    files = folder / "files.f"
+    if not files.is_file() or f"{target.name}_access.v" not in lines_of(read_described(files)):
+        told = f"{folder} has no {target.name}_access.v in its files.f"
+        raise ToolError(f"{told}: it is the folder of vidlakost top --in-place")
+    own = [line for line in lines_of(read_described(files)) if line and not line.startswith("//")]
+    reach = [f"{target.name}_{what}.v" for what in ("tap", "apb", "cross")]
+    if places.has_tap and not (folder / reach[0]).is_file():
+        raise ToolError(f"{folder} has no {reach[0]}: vidlakost access --in-place --jtag writes it")
+    found = [name for name in reach if (folder / name).is_file()]
+    sources = [os.path.relpath(os.path.realpath(file), os.path.realpath(folder)) for file in places.sources]
+    odd = next((name for name in sources if any(letter in name for letter in " \t\"#")), None)
+    if odd:
+        raise ToolError(f"a list of files can't have the name {shown(odd)}")
+    return [f"{target.name}_places_tb.sv", *sources, *found, *own]
+
+
+def main(arguments: list[str]) -> int:
+    (path, system_file, *pins, name), _ = words_of(__doc__, arguments, {}, 4)
+    folder, system = pathlib.Path(name), soc.read_system(system_file)
+    soc.give_collars(system, pins)
+    target, places = of_places(system), read_places(path, system)
+    read = [path, system_file, *pins, *inputs_of(places)]
+    texts = {f"{target.name}_places_tb.sv": ChipBench(target, places).text()}
+    texts[f"{target.name}_places.f"] = "\n".join([f"{MARK} places", *listed(folder, target, places), ""])
+    write_own(folder, texts, read)
+    if not places.before:
+        tell("places: no line before tells what the chip was, so nothing is proved of its use")
+        return 0
+    if shutil.which("yosys") is None:
+        tell("places: yosys is not on the PATH, so nothing is proved of the use of the chip")
+        return 0
+    found = places_proof.differences(target, places)
+    told = [f"{target.name}: in use {line}" for line in found]
+    print("\n".join(told or [f"{target.name}: in use each memory, each flip-flop and each output has what it had"]))
+    return 1 if found else 0

@@ -1,0 +1,360 @@
+"""Packs the proved program with its launcher, tools, examples and pages, for machines without the kit.
+
+usage: vidlakost release                  writes dist/vidlakost-VERSION-x86_64-linux.tar.gz, and its checksum beside it
+       vidlakost release --prefix DIR     installs into DIR: the program and the tools in bin, the man page, the completion
+       vidlakost release --deb            writes dist/vidlakost_VERSION_amd64.deb, of the same files
+       vidlakost release --unproved       packs, with --prefix or --deb too, a program that is not proved, and says so
+       vidlakost release --check          unpacks that archive into an empty folder and tries it there, without the kit
+       vidlakost release --help
+
+The archive has the program as `.ci/run` or `./vidlakost --prove` left it, or the one that VIDLAKOST_PROGRAM names, where the
+file `kit` beside it says that it was proved of these sources; any other is packed by --unproved alone, and its archive says
+so in its name, in RELEASE, in README and with each answer. The file RELEASE tells the commit, the line of the kit that proved
+it, and what it needs of a machine; SHA256SUMS has each file's checksum. It unpacks anywhere, and also from there
+--prefix installs. The same sources and the same program give the same bytes, on every machine and with every Python: files
+stand in the order of their names, with the time of the commit, without an owner and not compressed. --check also installs the
+Debian package, where one was written, into a system of its own, tries it, and takes it away again."""
+from __future__ import annotations
+
+import datetime
+import hashlib
+import os
+import pathlib
+import re
+import shutil
+import struct
+import subprocess
+import sys
+import tarfile
+import tempfile
+import zlib
+from typing import Dict, Iterator, List, Mapping
+
+from vidlakost_tools import tasks
+from vidlakost_tools.pages import debian, trusted_pages
+from vidlakost_tools.pages.debian import PROGRAM
+from vidlakost_tools.pages.spec_graph import Graph
+from vidlakost_tools.program import ROOT, UNPROVED, proof_of, quick_program, version
+from vidlakost_tools.text import lines_of, read_text, shown
+from vidlakost_tools.tool import ToolError, words_of
+
+PARTS = ["README.md", "CHANGELOG.md", "SECURITY.md", "docs", "examples", "tools", "vidlakost"]
+# what `dev/manual` makes, and its options for it
+MADE: Dict[str, List[str]] = {
+    "share/man/man1/vidlakost.1": [],
+    "share/bash-completion/completions/vidlakost": ["--completion"],
+}
+# tools of the repository's own, which the checkout alone needs
+INNER = {"release", *tasks.INNER}
+
+
+# the head of the first page where the program is not known to be proved
+WARNING = b"**The program of this archive is unproved: what is said below of proofs does not hold of it.**\n\n"
+# the processor that the kit compiles for, which no part of the program names
+PROCESSOR = "a processor of x86-64-v2"
+
+
+def git(*words: str) -> bytes:
+    done = subprocess.run(
+        ["git", "-C", str(ROOT), *words], stdout=subprocess.PIPE, stderr=subprocess.DEVNULL, check=False
+    )
+    return done.stdout
+
+
+def proof(program: str, content: bytes, unproved: bool) -> str:
+    """What RELEASE says of the proof of a program. One that is not known to be proved is refused, unless that is asked for."""
+    line = None if unproved else proof_of(program)
+    if line is None and not unproved:
+        raise ToolError(
+            f"nothing says that {shown(program)} was proved of these sources: ./vidlakost --prove makes one that was, and "
+            "--unproved packs this one, as unproved",
+            125,
+        )
+    if content != pathlib.Path(program).read_bytes():
+        raise ToolError(f"{shown(program)} has changed meanwhile", 125)
+    return f"{UNPROVED[1:]}: nothing says that this program was proved" if line is None else f"proved with {line}"
+
+
+def needs(content: bytes) -> str:
+    """What the program needs of a machine: the newest version of the C library that it names, and the processor."""
+    versions = {tuple(map(int, one.split(b"."))) for one in re.findall(rb"GLIBC_([0-9]+\.[0-9]+)", content)}
+    library = f"a C library (glibc) of version {'.'.join(map(str, max(versions)))} or later and " if versions else ""
+    return f"needs {library}{PROCESSOR}"
+
+
+def is_unpacked() -> bool:
+    return (ROOT / "RELEASE").exists()
+
+
+def full_version(unproved: bool) -> str:
+    """The version, which tells whether the program is proved; that of an unpacked release does already."""
+    return f"{version()[0]}{'-unproved' if unproved and not is_unpacked() else ''}"
+
+
+def release_text(program: str, content: bytes, unproved: bool) -> str:
+    _, date, commit = version()
+    told = proof(program, content, unproved)
+    return f"vidlakost {full_version(unproved)}\ncommit {commit}, {date}\n{told}\n{needs(content)}\n"
+
+
+def below(parts: list[str]) -> list[str]:
+    """The files below some folders, where git does not tell them."""
+    paths = [
+        path
+        for part in parts
+        for path in ([ROOT / part] if (ROOT / part).is_file() else (ROOT / part).rglob("*"))
+    ]
+    return [str(path.relative_to(ROOT)) for path in paths if path.is_file() and "__pycache__" not in path.parts]
+
+
+def packed() -> list[str]:
+    """The files of the release that this is, and none that somebody put beside them; an installation has some elsewhere."""
+    names = ["SHA256SUMS", *(line.partition("  ")[2] for line in lines_of(read_text(ROOT / "SHA256SUMS")))]
+    return [name for name in sorted(names) if (ROOT / name).is_file()]
+
+
+def tree(unproved: bool) -> dict[str, tuple[bytes, bool]]:
+    """Of each file of the release its bytes, and whether it is a program."""
+    if is_unpacked():
+        return {name: ((ROOT / name).read_bytes(), os.access(ROOT / name, os.X_OK)) for name in packed()}
+    program = quick_program()
+    if not program or pathlib.Path(program).read_bytes()[:4] != b"\x7fELF":
+        raise ToolError("no proved program is here; ./vidlakost --prove makes one", 125)
+    content = pathlib.Path(program).read_bytes()
+    told = release_text(program, content, unproved)
+    names = [os.fsdecode(name) for name in git("ls-files", "-z", *PARTS).split(b"\0") if name] or below(PARTS)
+    files = {name: ((ROOT / name).read_bytes(), os.access(ROOT / name, os.X_OK)) for name in names}
+    files[PROGRAM], files["RELEASE"] = (content, True), (told.encode(), False)
+    if unproved:
+        files["README.md"] = (WARNING + files["README.md"][0], False)
+    for name, option in MADE.items():
+        made = subprocess.run(
+            [sys.executable, str(ROOT / "tools" / "manual"), *option], stdout=subprocess.PIPE, check=True
+        )
+        files[name] = (made.stdout, False)
+    graph = Graph(ROOT)
+    files["docs/HEADLINE.md"] = (trusted_pages.headline_page(graph).encode(), False)
+    files["docs/OTHERS.md"] = (trusted_pages.others_page(graph).encode(), False)
+    sums = "".join(f"{hashlib.sha256(files[name][0]).hexdigest()}  {name}\n" for name in sorted(files))
+    files["SHA256SUMS"] = (sums.encode(), False)
+    return files
+
+
+def archive_name(unproved: bool) -> str:
+    return f"vidlakost-{full_version(unproved)}-x86_64-linux"
+
+
+def header(name: str, size: int, time: int, mode: int) -> bytes:
+    """The header of a file as `ustar` has it; a long name is cut at a slash."""
+    path = os.fsencode(name)
+    cut = 0 if len(path) <= 100 else path.index(b"/", len(path) - 101) + 1
+    if len(path) - cut > 100 or cut > 156:
+        raise ToolError(f"the name {shown(name)} is too long for an archive")
+    before, after = path[: max(cut - 1, 0)], path[cut:]
+    numbers = (f"{mode:07o}", f"{0:07o}", f"{0:07o}", f"{size:011o}", f"{time:011o}")
+    fields = [after.ljust(100, b"\0"), *(f"{number}\0".encode() for number in numbers), b" " * 8, b"0", bytes(100)]
+    made = b"".join([*fields, b"ustar\00000", bytes(64), bytes(16), before.ljust(155, b"\0"), bytes(12)])
+    return made[:148] + f"{sum(made):06o}\0 ".encode() + made[156:]
+
+
+def stored(content: bytes) -> bytes:
+    """A file of `gzip` in blocks that are not compressed: how well a library compresses is its own matter."""
+    pieces = [content[at : at + 65535] for at in range(0, len(content), 65535)] or [b""]
+    blocks = [
+        struct.pack("<BHH", number == len(pieces) - 1, len(piece), 65535 - len(piece)) + piece
+        for number, piece in enumerate(pieces)
+    ]
+    head = b"\x1f\x8b\x08" + bytes(6) + b"\xff"
+    return head + b"".join(blocks) + struct.pack("<II", zlib.crc32(content), len(content) & 0xFFFFFFFF)
+
+
+def pack(files: Mapping[str, tuple[bytes, bool]], time: int, top: str) -> bytes:
+    """The bytes of the archive: they depend on the files, the time and the folder at the top alone."""
+    packed = []
+    for name in sorted(files):
+        content, is_program = files[name]
+        packed.append(header(f"{top}/{name}", len(content), time, 0o755 if is_program else 0o644))
+        packed += [content, bytes(-len(content) % 512)]
+    whole = b"".join([*packed, bytes(1024)])
+    return stored(whole + bytes(-len(whole) % 10240))
+
+
+def write_archive(unproved: bool) -> None:
+    if is_unpacked():
+        raise ToolError("this is an unpacked release already; --prefix installs it")
+    folder = ROOT / "dist"
+    folder.mkdir(exist_ok=True)
+    path = folder / f"{archive_name(unproved)}.tar.gz"
+    content = pack(tree(unproved), int(git("log", "-1", "--format=%ct").strip() or 0), archive_name(unproved))
+    path.write_bytes(content)
+    path.with_name(path.name + ".sha256").write_text(f"{hashlib.sha256(content).hexdigest()}  {path.name}\n")
+    print(f"{path} {len(content)} bytes")
+
+
+def deb_path(unproved: bool) -> pathlib.Path:
+    return ROOT / "dist" / f"vidlakost_{full_version(unproved)}_amd64.deb"
+
+
+def write_deb(unproved: bool) -> None:
+    """The Debian package of the same files."""
+    files = tree(unproved)
+    time = int(git("log", "-1", "--format=%ct").strip() or 0)
+    date = datetime.datetime.fromtimestamp(time, datetime.timezone.utc).strftime("%a, %d %b %Y %H:%M:%S +0000")
+    path = deb_path(unproved)
+    path.parent.mkdir(exist_ok=True)
+    debian.package(path, files, full_version(unproved), needs(files[PROGRAM][0]), time, date, unproved)
+    for line in debian.complaints(path):
+        print(line)
+    print(f"{path} {path.stat().st_size} bytes")
+
+
+def check_deb(package: pathlib.Path, folder: pathlib.Path, environment: Mapping[str, str]) -> int:
+    """Installs the package, tries it, and takes it away; how much is wrong."""
+    root = folder / "system"
+    said = debian.install(package, root)
+    if said:
+        print(said)
+        return 1
+    wrong = try_calls(root / debian.HOME, root / "usr" / "bin", folder / "of_package", environment)
+    left = debian.left_behind(root)
+    if left:
+        print(f"the package leaves {', '.join(left)}")
+    return wrong + len(left)
+
+
+# ---- installing
+
+
+def make_folder(path: pathlib.Path) -> None:
+    """A folder, and those above it, that everyone may look into, whatever the mask of whoever installs."""
+    if not path.is_dir():
+        make_folder(path.parent)
+        path.mkdir()
+        path.chmod(0o755)
+
+
+def link(path: pathlib.Path, target: str) -> None:
+    make_folder(path.parent)
+    if path.is_symlink() or path.exists():
+        path.unlink()
+    path.symlink_to(target)
+
+
+def install(prefix: pathlib.Path, unproved: bool) -> None:
+    """The files of a release below the prefix: all in lib/vidlakost, and links where they are looked for."""
+    home = prefix / "lib" / "vidlakost"
+    files = tree(unproved)
+    for name, (content, is_program) in files.items():
+        below = prefix if name.startswith("share/") else home
+        path = below / name
+        make_folder(path.parent)
+        fresh = path.with_name(path.name + ".new")
+        fresh.write_bytes(content)
+        fresh.chmod(0o755 if is_program else 0o644)
+        fresh.replace(path)
+    link(prefix / "bin" / "vidlakost", "../lib/vidlakost/vidlakost")
+    for name, (_, is_program) in files.items():
+        tool = name[len("tools/") :]
+        if name.startswith("tools/") and is_program and tool not in INNER:
+            link(prefix / "bin" / f"vidlakost-{tool}", f"../lib/vidlakost/tools/{tool}")
+    print(f"{prefix / 'bin' / 'vidlakost'}")
+
+
+# ---- trying a release
+
+
+def without_kit(folder: pathlib.Path) -> dict[str, str]:
+    """An environment whose PATH has no `rt`, and this very Python."""
+    own = folder / "path"
+    if not own.exists():
+        own.mkdir()
+        (own / "python3").symlink_to(sys.executable)
+    kept = [place for place in os.environ["PATH"].split(os.pathsep) if not os.access(os.path.join(place, "rt"), os.X_OK)]
+    return {"PATH": os.pathsep.join([str(own), *kept, "/usr/bin", "/bin"]), "LC_ALL": "C.UTF-8", "HOME": "/nonexistent"}
+
+
+def tries(home: pathlib.Path, bin_folder: pathlib.Path) -> Iterator[tuple[list[object], int, str]]:
+    """Calls of a release in an empty folder, with the status and a part of what each prints."""
+    examples = home / "examples"
+    program = str(bin_folder / "vidlakost")
+    yield [
+        program,
+        "compile",
+        examples / "c.m",
+        examples / "cache.mem",
+        examples / "all.list",
+        "cache_data_bist.v",
+        "report.txt",
+    ], 1, "total 48 covered 32 escapes 16"
+    yield [program, "bench", examples / "c.m", examples / "buffer.mem"], 0, "fail 0 done 162"
+    yield [program, "judge", examples / "c.m", "missing.list", "report"], 10, "missing.list: error: there is no such file"
+    yield [program, "--version"], 0, "needs a C library (glibc) of version 2."
+    yield [program, "--prove"], 125, "this is a release"
+    yield [program, "help", "compile"], 0, "compile MARCH MEMORY FAULTS VERILOG REPORT"
+    yield [program, "--help"], 0, "  trace       why the escapes of a report escape"
+    yield [program, "replay", "report.txt", "--run"], 0, "passes"
+    # its page is served until it is ended
+    yield ["timeout", "--signal=INT", "5", program, "explore"], 124, "http://127.0.0.1:"
+
+
+def try_calls(home: pathlib.Path, bin_folder: pathlib.Path, folder: pathlib.Path, environment: Mapping[str, str]) -> int:
+    wrong = 0
+    folder.mkdir()
+    for words, status, part in tries(home, bin_folder):
+        done = subprocess.run(
+            [str(word) for word in words],
+            cwd=folder,
+            env=environment,
+            text=True,
+            stdin=subprocess.DEVNULL,
+            stdout=subprocess.PIPE,
+            stderr=subprocess.STDOUT,
+            check=False,
+        )
+        if done.returncode != status or part not in done.stdout:
+            wrong += 1
+            print(f"{' '.join(map(str, words))} ends with {done.returncode} and prints:\n{done.stdout}")
+    return wrong
+
+
+def check(unproved: bool) -> int:
+    """Unpacks the archive and tries it where there is no kit, then an installation from there."""
+    with tempfile.TemporaryDirectory() as name:
+        folder = pathlib.Path(name)
+        environment = without_kit(folder)
+        if shutil.which("rt", path=environment["PATH"]):
+            raise ToolError("the kit is on each PATH that could be tried")
+        with tarfile.open(ROOT / "dist" / f"{archive_name(unproved)}.tar.gz") as archive:
+            archive.extractall(folder)
+        home = folder / archive_name(unproved)
+        sums = [line.split("  ", 1) for line in (home / "SHA256SUMS").read_text().splitlines()]
+        wrong = sum(hashlib.sha256((home / path).read_bytes()).hexdigest() != wanted for wanted, path in sums)
+        wrong += try_calls(home, home, folder / "empty", environment)
+        installed = subprocess.run(
+            [str(home / "tools" / "release"), "--prefix", str(folder / "prefix")],
+            env=environment,
+            stdout=subprocess.DEVNULL,
+            check=False,
+        ).returncode
+        wrong += installed != 0 or try_calls(
+            folder / "prefix" / "lib" / "vidlakost", folder / "prefix" / "bin", folder / "again", environment
+        )
+        if deb_path(unproved).exists() and shutil.which("dpkg"):
+            wrong += check_deb(deb_path(unproved), folder, environment)
+    print(f"the release {archive_name(unproved)}, tried without the kit: {wrong} differences")
+    return 1 if wrong else 0
+
+
+def main(arguments: list[str]) -> int:
+    _, options = words_of(__doc__, arguments, {"--prefix": 1, "--check": 0, "--deb": 0, "--unproved": 0}, most=0)
+    unproved = "--unproved" in options
+    if "--prefix" in options:
+        install(pathlib.Path(options["--prefix"]).absolute(), unproved)
+        return 0
+    if "--check" in options:
+        return check(unproved)
+    if "--deb" in options:
+        write_deb(unproved)
+        return 0
+    write_archive(unproved)
+    return 0

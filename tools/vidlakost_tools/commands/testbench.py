@@ -1,0 +1,570 @@
+"""A Verilog testbench for a self-test module, with a behavioural memory of the description, for any simulator.
+
+usage: vidlakost testbench MARCH MEMORY FOLDER [--sv] [--stream] [--fault PRIM --victim W.B [--aggressor W.B]] [--content HEX]
+       vidlakost testbench MARCH MEMORY FOLDER --assert
+       vidlakost testbench CHIPFILE FOLDER --chip [--sv] [--stream] [--unit U --fault PRIM --victim W.B [--aggressor W.B]]
+       vidlakost testbench --help
+
+Writes to FOLDER the testbench NAME_tb.v and the commands that it compares, NAME_commands.hex, below a comment one a line (a
+bit for a write, the address, the word), and a line of ones behind them; where they can't be read it ends by $fatal. Put a
+module NAME_bist beside it, for instance the one that `compile` writes:
+
+    vidlakost compile MARCH MEMORY LIST FOLDER/NAME_bist.v FOLDER/report
+    cd FOLDER && iverilog -g2005 -o tb NAME_tb.v NAME_bist.v && vvp tb
+
+The memory has the scrambling, the latency and the polarity of the description. Its words hold HEX at first, 0 where
+nothing is said. One fault of a cell or of two cells can be planted: PRIM is a primitive as the command `benchfault` takes
+it, W.B a physical index and a bit. It prints
+    differs cycle C port P expected X got Y     of each port the first cycle in which it is not as the march's commands say
+    read cycle C expected X returned Y          the first word on rdata that is not the one that its read expects
+    fail F done C                               at the end
+With +dump in the call of the simulator it writes a waveform, NAME_tb.vcd.
+
+With --stream the testbench works the commands out by itself, and there is no NAME_commands.hex: for tests of more than
+2,000,000 cycles, of which `vectors` lists no commands.
+
+The line `fail F done C` is the last one; without it the run was ended before, as a module may, and nothing passed. With --sv it
+is NAME_tb.sv, of SystemVerilog, and the simulator ends with 1 where a port differs or the run is ended before its end, by
+$fatal; the last line of a run that passes is `NAME_tb: passed`.
+
+With --chip it writes the testbench CHIP_tb.v of a chip file, with the memory of each unit, beside which the file that the
+command `chip` writes has to stand; the fault is planted in the memory of unit U. The lines of a unit begin with `unit U`, and
+its cycles count from its start, which `vidlakost schedule` tells; the others are
+    weights cycle C W                           the first cycle in which the weights W of the enabled memories exceed the budget
+    fail BITS done C                            at the end, the bit of unit 0 last
+
+With --assert it writes NAME_rule.sv in place of a testbench: assertions of the rule of the ports, each cycle from the
+first reset on, which are bound to the module NAME_bist, or to the one that the macro CONTROLLER names. It is a controller
+of its own, written from the description, and shares nothing with the module that `compile` writes."""
+from __future__ import annotations
+
+import pathlib
+import re
+from typing import Any, Iterator, Mapping
+
+from vidlakost_tools.files import look_first, marked, refuse_no_folder, write_own
+from vidlakost_tools.program import run, vectors_of
+from vidlakost_tools.texts.chip import Chip, read_chip
+from vidlakost_tools.texts.faults import Primitive, Sense, place_of, read_primitive
+from vidlakost_tools.texts.march import Element, march_of
+from vidlakost_tools.texts.memory import Memory, read_memory
+from vidlakost_tools.tool import Refused, ToolError, number_of, usage_of, words_of
+from vidlakost_tools.verilog import rule_of_ports, stream
+from vidlakost_tools.verilog.bench_end import FINISH, over
+
+# what one memory needs: its port, itself, its commands, and their comparison; `cycle` is 0 in the cycle of its reset
+PART = """
+  reg {bits_range}rdata = {bits}'h0;
+  wire en, we, fail;
+  wire {width_range}addr;
+  wire {bits_range}wdata;
+
+  // the memory: stored words by physical index, answers on their way, and cycles without a command
+  reg {bits_range}words [0:{last}];
+  reg {bits_range}pending [0:{latency}];
+  reg [31:0] idle = 32'd0;
+  reg {bits_range}own;
+  reg {width_range}index;
+  integer found;
+
+  // the commands of the march: a bit for a write, the address, the word
+  localparam COUNT = {count};
+  localparam CYCLES = {cycles};
+{commands}  reg {bits_range}expected [0:{latency}];
+  reg compares [0:{latency}];
+  integer cycle;
+  integer j = 0;
+  integer gap = 0;
+  integer i;
+  reg [5:0] port_differs = 6'b0;
+  reg read_differs = 1'b0;
+  reg is_command;
+  reg {bits_range}want;
+
+  // the index of an address: the scrambling's way back
+  function {width_range}index_of(input {width_range}a);
+    begin
+{way_back}
+    end
+  endfunction
+
+  // whether command k stands behind so many idle cycles: the pauses of the march
+  function integer gap_before(input integer k);
+    begin
+{gaps}
+    end
+  endfunction
+{fault}
+  task prepare;
+    begin
+      work_out;
+      for (i = 0; i <= {last}; i = i + 1) words[i] = {content};
+      for (i = 0; i <= {latency}; i = i + 1) begin
+        pending[i] = {bits}'h0;
+        expected[i] = {bits}'h0;
+        compares[i] = 1'b0;
+      end{closed}
+      gap = gap_before(0);
+    end
+  endtask
+
+  // the ports of this cycle beside the commands; a further cycle of age for the words that are awaited
+  task compare_ports;
+    begin
+      is_command = cycle > 0 && j < COUNT && gap == 0;
+      differs(0, en !== is_command, "en", {{63'h0, is_command}}, {{63'h0, en}});
+      if (is_command) begin
+        differs(1, we !== command[{entry}], "we", {{63'h0, command[{entry}]}}, {{63'h0, we}});
+        differs(2, addr !== command[{entry_address}:{bits}], "addr", {{{address_zeros}'h0, command[{entry_address}:{bits}]}},
+          {{{address_zeros}'h0, addr}});
+        if (command[{entry}])
+          differs(3, wdata !== command[{top_bit}:0], "wdata", {word_64_command}, {word_64_data});
+      end
+{done}      differs(5, fail !== (cycle > 0 && read_differs), "fail", {{63'h0, cycle > 0 && read_differs}}, {{63'h0, fail}});
+      compares[{latency}] = is_command && !command[{entry}];
+      expected[{latency}] = command[{top_bit}:0];
+      if (is_command) begin
+        j = j + 1;
+        step_on;
+        gap = gap_before(j);
+      end else if (cycle > 0 && gap > 0) gap = gap - 1;
+    end
+  endtask
+
+  task differs(input integer which, input wrong, input [8 * 5:1] port, input [63:0] wanted, input [63:0] got);
+    if (wrong && !port_differs[which]) begin
+      port_differs[which] = 1'b1;
+      $display("differs cycle %0d port %0s expected %0h got %0h", cycle, port, wanted, got);
+    end
+  endtask
+
+  // the word on rdata beside the one that its read expects
+  task compare_read;
+    begin
+      if (compares[0] && rdata !== expected[0] && !read_differs) begin
+        read_differs = 1'b1;
+        $display("read cycle %0d expected %0h returned %0h", cycle, expected[0], rdata);
+      end
+      for (i = 0; i < {latency}; i = i + 1) begin
+        compares[i] = compares[i + 1];
+        expected[i] = expected[i + 1];
+      end
+    end
+  endtask
+
+  // a cycle of the memory: its own answer goes to the end of those on their way
+  task memory_cycle;
+    begin
+      own = {bits}'h0;
+      if (en) begin
+        idle = 32'd0;
+        index = index_of(addr);
+        if ({{1'b0, index}} < {words}) begin
+{access}
+        end
+      end else begin
+        if (idle < 32'd{pause}) idle = idle + 32'd1;{rest}
+      end
+      for (i = 0; i < {latency} - 1; i = i + 1) pending[i] = pending[i + 1];
+      pending[{latency} - 1] = own;
+    end
+  endtask
+"""
+DONE = """      differs(4, done !== (cycle >= CYCLES - 1), "done", {63'h0, cycle >= CYCLES - 1}, {63'h0, done});
+"""
+TOP = """// A testbench of {name}_bist: a memory of {words} words of {bits} bits{planted}.
+`timescale 1ns / 1ns
+module {name}_tb;
+{over}  reg clk = 1'b0;
+  // it rises, so that what waits for an event sees one
+  reg reset = 1'b0;
+  wire done;
+  integer done_cycle = -1;
+{part}
+  {name}_bist dut(.clk(clk), .reset(reset), .rdata(rdata), .en(en), .we(we), .addr(addr), .wdata(wdata), .done(done),
+    .fail(fail));
+
+  initial begin
+    if ($test$plusargs("dump")) begin
+      $dumpfile("{name}_tb.vcd");
+      $dumpvars(0, {name}_tb);
+    end
+    prepare;
+    #1 reset = 1'b1;
+    for (cycle = 0; cycle < CYCLES; cycle = cycle + 1) begin
+      #4 compare_ports;
+      compare_read;
+      if (done && done_cycle < 0) done_cycle = cycle;
+      memory_cycle;
+      #1 clk = 1'b1;
+      #1 rdata = pending[0];
+      reset = 1'b0;
+      #4 clk = 1'b0;
+    end
+    if (done_cycle < 0) $display("fail %0d done none", fail);
+    else $display("fail %0d done %0d", fail, done_cycle);
+{ending}  end
+endmodule
+"""
+
+
+def way_back(memory: Memory) -> str:
+    if memory.rows is None:
+        return "      index_of = a;"
+    lines = []
+    for bit, (bits, constant) in enumerate(memory.way_back()):
+        parts = [f"a[{b}]" for b in bits] + (["1'b1"] if constant else [])
+        lines.append(f"      index_of[{bit}] = {' ^ '.join(parts)};")
+    return "\n".join(lines)
+
+
+def gaps(memory: Memory, elements: list[Element], each_run: int) -> str:
+    """The idle cycles in front of the commands of a run that a pause stands before."""
+    before: dict[int, int] = {}
+    at = 0
+    for element in elements:
+        if element.is_pause:
+            before[at] = before.get(at, 0) + memory.pause
+        else:
+            at += len(element.operations) * memory.words
+    lines = ["      gap_before = 0;"]
+    for at, cycles in before.items():
+        where = f"k % {each_run} == {at % each_run}"
+        if at == each_run:
+            where += " && k > 0"
+        lines.append(f"      if ({where}) gap_before = gap_before + {cycles};")
+    return "\n".join(lines)
+
+
+def act_condition(memory: Memory, sense: Sense, where: tuple[int, int]) -> str:
+    """Whether the command is the operation of this sense on its bit."""
+    word, bit = where
+    operation = sense.operations[0]
+    here = f"index == {memory.width}'d{word}"
+    if operation[0] == "r":
+        return f"{here} && !we"
+    return f"{here} && we && stored[{bit}] == 1'b{operation[1]}"
+
+
+class Fault:
+    """The planted fault as statements of the testbench."""
+
+    def __init__(
+        self, memory: Memory, primitive: Primitive, victim: tuple[int, int], aggressor: tuple[int, int] | None
+    ):
+        self.memory, self.primitive, self.victim, self.aggressor = memory, primitive, victim, aggressor
+
+    def set_victim(self) -> str:
+        return f"words[{self.victim[0]}][{self.victim[1]}] = 1'b{self.primitive.after};"
+
+    def acts(self) -> tuple[str, Sense, tuple[int, int]] | None:
+        for sense, where in ((self.primitive.victim, self.victim), (self.primitive.aggressor, self.aggressor)):
+            if sense and where and sense.operations:
+                return sense.operations[0], sense, where
+        return None
+
+    def declarations(self) -> str:
+        holds = [f"words[{self.victim[0]}][{self.victim[1]}] == 1'b{self.primitive.victim.state}"]
+        if self.primitive.aggressor and self.aggressor:
+            holds.append(f"words[{self.aggressor[0]}][{self.aggressor[1]}] == 1'b{self.primitive.aggressor.state}")
+        text = f"""
+  // the planted fault: whether its states hold, and whether the command is its operation
+  reg acts;
+  reg {self.memory_range()}stored;
+  function holds(input unused);
+    holds = {' && '.join(holds)};
+  endfunction
+"""
+        return text
+
+    def memory_range(self) -> str:
+        return f"[{self.memory.bits - 1}:0] "
+
+    def access(self) -> str:
+        acts = self.acts()
+        lines = [f"          stored = wdata ^ {self.memory.bits}'h{self.memory.polarity:x};"]
+        by_command = acts is not None and acts[0] != "t"
+        when = f"holds(1'b0) && {act_condition(self.memory, acts[1], acts[2])}" if acts and by_command else "1'b0"
+        lines.append(f"          acts = {when};")
+        lines.append("          if (we) words[index] = stored;")
+        lines.append(f"          else own = words[index] ^ {self.memory.bits}'h{self.memory.polarity:x};")
+        if by_command:
+            lines.append("          if (acts) begin")
+            lines.append(f"            {self.set_victim()}")
+            if self.primitive.answer is not None:
+                shown = self.primitive.answer ^ (self.memory.polarity >> self.victim[1] & 1)
+                lines.append(f"            own[{self.victim[1]}] = 1'b{shown};")
+            lines.append("          end")
+        return "\n".join(lines + self.closing("          "))
+
+    def closing(self, margin: str) -> list[str]:
+        return [] if self.acts() else [f"{margin}if (holds(1'b0)) {self.set_victim()}"]
+
+    def rest(self) -> str:
+        acts = self.acts()
+        if not acts or acts[0] != "t":
+            return ""
+        return f"\n        if (idle == 32'd{self.memory.pause} && holds(1'b0)) {self.set_victim()}"
+
+    def closed(self) -> str:
+        lines = self.closing("    ")
+        return "\n" + lines[0] if lines else ""
+
+
+def fault_of(options: Mapping[str, Any], march: str, memory_file: str, memory: Memory) -> Fault | None:
+    """The fault to plant. `benchfault` is asked for it first, so that what is no fault, or lies outside the memory, is
+    refused here as it is there."""
+    if "--fault" not in options:
+        if "--victim" in options or "--aggressor" in options:
+            raise ToolError("--victim and --aggressor are the cells of a --fault, and there is none")
+        return None
+    if "--victim" not in options:
+        raise ToolError("--fault needs the cell of its victim: --victim W.B")
+    aggressor = options.get("--aggressor", "none")
+    words = ["benchfault", march, memory_file, options["--fault"], aggressor, options["--victim"]]
+    status, said = run(*words)
+    # a test may be too long to be run by the program; the cells are then looked at here
+    if status > 1 and not (status == 12 and "--stream" in options):
+        raise Refused(words, said, status)
+    primitive = read_primitive(options["--fault"])
+    cells = [place_of(text) for text in (options["--victim"], aggressor) if text != "none"]
+    is_within = all(word < memory.words and bit < memory.bits for word, bit in cells)
+    if not is_within or len({word for word, _ in cells}) < len(cells):
+        raise ToolError("a cell of the fault lies outside the memory, or both are in one word", 11)
+    return Fault(memory, primitive, cells[0], cells[1] if cells[1:] else None)
+
+
+def content_of(options: Mapping[str, Any], memory: Memory) -> int:
+    """The word that all words hold at first."""
+    text = options.get("--content", "0")
+    if not re.fullmatch(r"[0-9a-fA-F]{1,16}", text) or int(text, 16) >> memory.bits:
+        raise ToolError(f"--content is a hexadecimal word of {memory.bits} bits, and not '{text}'")
+    return int(text, 16)
+
+
+def plain_access(memory: Memory) -> str:
+    polarity = f"{memory.bits}'h{memory.polarity:x}"
+    return f"          if (we) words[index] = wdata ^ {polarity};\n          else own = words[index] ^ {polarity};"
+
+
+def numbers_of(lines: list[str], memory: Memory) -> Iterator[int]:
+    """The commands of `vectors`, each as a number: a bit for a write, the address, the word; and the mark behind them."""
+    bits, both = memory.bits, memory.width + memory.bits
+    for line in lines:
+        kind, address, word = line.split()
+        yield (kind == "w") << both | int(address) << bits | int(word, 16)
+    yield (2 << both) - 1
+
+
+def commands_of(options: Mapping[str, Any], tests: list[tuple[str, str, Memory]]) -> dict[str, str]:
+    """The files of the commands of these marches and memories, where the testbench doesn't work them out."""
+    if "--stream" in options:
+        return {}
+    return {
+        f"{memory.name}_commands.hex": "".join(f"{number:x}\n" for number in numbers_of(vectors_of(march, file), memory))
+        for march, file, memory in tests
+    }
+
+
+HEAD = "// A testbench of "
+CHIP = """// A testbench of {name}: {count} memories in {groups} groups{planted}.
+`timescale 1ns / 1ns
+module {name}_tb;
+{over}  reg clk = 1'b0;
+  // it rises, so that what waits for an event sees one
+  reg reset = 1'b0;
+  wire done;
+  wire [{last}:0] fail;
+  integer now;
+  integer done_cycle = -1;
+  integer weights;
+  reg is_heavy = 1'b0;
+{parts}
+  {name} dut(.clk(clk), .reset(reset), .done(done), .fail(fail),
+    {links});
+
+  initial begin
+    if ($test$plusargs("dump")) begin
+      $dumpfile("{name}_tb.vcd");
+      $dumpvars(0, {name}_tb);
+    end
+{prepare}
+    #1 reset = 1'b1;
+    for (now = 0; now <= {done}; now = now + 1) begin
+{starts}
+      #4 weights = {weights};
+      if (weights > {budget} && !is_heavy) begin
+        is_heavy = 1'b1;
+        $display("weights cycle %0d %0d", now, weights);
+      end
+{turns}
+      if (done && done_cycle < 0) done_cycle = now;
+      #1 clk = 1'b1;
+      #1 reset = 1'b0;
+{answers}
+      #4 clk = 1'b0;
+    end
+    if (done_cycle < 0) $display("fail %b done none", fail);
+    else $display("fail %b done %0d", fail, done_cycle);
+{ending}  end
+endmodule
+"""
+# the names of a part that each unit has for itself; those of ports are then the ports of the chip
+OWN = set(
+    "rdata en we fail addr wdata words pending idle own index found commands command expected compares cycle j gap i port_differs "
+    "read_differs is_command want COUNT CYCLES index_of gap_before prepare compare_ports differs compare_read memory_cycle acts "
+    "stored holds work_out step_on at_background at_element at_visit at_operation at_index at_value element_behind operations_of "
+    "goes_down does background_word address_of".split()
+)
+
+
+def owned(text: str, number: int) -> str:
+    """A part with the names of unit `number`, and its lines as lines of that unit."""
+
+    def renamed(match: re.Match[str]) -> str:
+        if match["name"] in OWN and match["call"] is None:
+            return f"{match[0]}_{number}"
+        return match[0].replace('"differs ', f'"unit {number} differs ').replace('"read ', f'"unit {number} read ')
+
+    return re.sub(r'"[^"]*"|//[^\n]*|(?P<call>\$)?(?P<name>\b[A-Za-z_]\w*)', renamed, text)
+
+
+def chip_testbench(chip: Chip, unit: int | None, fault: tuple[str, Fault | None] | None, options: Mapping[str, Any]) -> str:
+    """The testbench of a chip; the fault is planted in the memory of a unit."""
+    parts, numbers = [], range(len(chip.units))
+    for number, it in enumerate(chip.units):
+        planted = fault[1] if fault and number == unit else None
+        text = owned(part(it.memory, it.elements, planted, 0, "", "--stream" in options), number)
+        declared = f"fail_{number};\n"
+        parts.append(text.replace(declared, f"{declared}  assign fail_{number} = fail[{number}];\n", 1))
+    ports = [f".{port}_{number}({port}_{number})" for number in numbers for port in ("rdata", "en", "we", "addr", "wdata")]
+    differs = " || ".join(f"port_differs_{number} != 6'b0" for number in numbers)
+    return CHIP.format(
+        name=chip.name,
+        count=len(chip.units),
+        groups=chip.groups,
+        planted=f", with {fault[0]} planted in unit {unit}" if fault else "",
+        last=len(chip.units) - 1,
+        parts="".join(parts),
+        links=",\n    ".join(", ".join(ports[begin : begin + 5]) for begin in range(0, len(ports), 5)),
+        prepare="\n".join(f"    prepare_{number};" for number in numbers),
+        done=chip.done,
+        starts="\n".join(f"      cycle_{number} = now - {it.start};" for number, it in enumerate(chip.units)),
+        weights=" + ".join(f"(en_{number} ? {it.weight} : 0)" for number, it in enumerate(chip.units)),
+        budget=chip.budget,
+        turns="\n".join(f"      {turn}_{number};" for number in numbers for turn in ("compare_ports", "compare_read", "memory_cycle")),
+        answers="\n".join(f"      rdata_{number} = pending_{number}[0];" for number in numbers),
+        **ending_of(chip.name, f"{differs} || is_heavy || done_cycle != {chip.done}", "marches'", options),
+    )
+
+
+def ending_of(name: str, wrong: str, whose: str, options: Mapping[str, Any]) -> dict[str, str]:
+    """What stands at the head of a testbench and at its end; in plain Verilog the line before tells how it went."""
+    if "--sv" not in options:
+        return {"over": "", "ending": "    $finish;\n"}
+    fatal = f"    if (({wrong}) !== 1'b0)\n      $fatal(1, \"the ports are not as the {whose} commands say\");\n"
+    return {"over": over(f"{name}_tb"), "ending": f"{fatal}    {FINISH}\n"}
+
+
+def part(memory: Memory, elements: list[Element], fault: Fault | None, content: int, done: str, is_streamed: bool) -> str:
+    """The declarations and tasks of one memory."""
+    count = stream.number_of_commands(memory, elements)
+    each_run = count // len(memory.backgrounds)
+    entry = memory.width + memory.bits
+    zeros = "" if memory.bits == 64 else f"{64 - memory.bits}'h0, "
+    return PART.format(
+        name=memory.name,
+        words=memory.words,
+        bits=memory.bits,
+        last=memory.words - 1,
+        latency=memory.latency,
+        bits_range=f"[{memory.bits - 1}:0] ",
+        width_range=f"[{memory.width - 1}:0] ",
+        count=count,
+        cycles=memory.cycles(elements),
+        entry=entry,
+        commands=stream.streamed(memory, elements) if is_streamed else stream.listed(memory),
+        entry_address=entry - 1,
+        top_bit=memory.bits - 1,
+        address_zeros=64 - memory.width,
+        word_64_command=f"{{{zeros}command[{memory.bits - 1}:0]}}",
+        word_64_data=f"{{{zeros}wdata}}",
+        way_back=way_back(memory),
+        gaps=gaps(memory, elements, each_run),
+        pause=memory.pause,
+        content=f"{memory.bits}'h{content:x}",
+        fault=fault.declarations() if fault else "",
+        access=fault.access() if fault else plain_access(memory),
+        rest=fault.rest() if fault else "",
+        closed=fault.closed() if fault else "",
+        done=done,
+    )
+
+
+def testbench(
+    memory: Memory, elements: list[Element], fault: tuple[str, Fault | None] | None, content: int, options: Mapping[str, Any]
+) -> str:
+    return TOP.format(
+        name=memory.name,
+        words=memory.words,
+        bits=memory.bits,
+        planted=f", with {fault[0]} planted" if fault else "",
+        part=part(memory, elements, fault[1] if fault else None, content, DONE, "--stream" in options),
+        **ending_of(memory.name, "port_differs != 6'b0", "march's", options),
+    )
+
+
+def bench_name(name: str, options: Mapping[str, Any]) -> str:
+    return f"{name}_tb.{'sv' if '--sv' in options else 'v'}"
+
+
+def write(folder: str, name: str, text: str, inputs: list[str], commands: dict[str, str]) -> None:
+    """Writes a testbench, or assertions, and the commands beside it, of which nothing is said."""
+    write_own(pathlib.Path(folder), marked("testbench", {**commands, name: text}), inputs, [name])
+
+
+def look(folder: str, name: str, options: Mapping[str, Any]) -> None:
+    """Refuses a testbench that could not be written, before its text is made."""
+    look_first(pathlib.Path(folder), bench_name(name, options), HEAD)
+
+
+def write_chip(words: list[str], options: Mapping[str, Any]) -> None:
+    """The testbench of a chip file."""
+    if len(words) != 2 or {"--content", "--assert"} & set(options):
+        raise ToolError(f"--chip takes a chip file and a folder\n{usage_of(__doc__)}")
+    if ("--unit" in options) != ("--fault" in options):
+        raise ToolError("--unit and --fault stand together")
+    refuse_no_folder(pathlib.Path(words[1]))
+    chip, fault = read_chip(words[0]), None
+    look(words[1], chip.name, options)
+    number = number_of(options["--unit"], "--unit") if "--unit" in options else None
+    if number is not None and number >= len(chip.units):
+        raise ToolError(f"--unit is 0 to {len(chip.units) - 1}, and not {number}")
+    if number is not None:
+        unit = chip.units[number]
+        fault = ("".join(options["--fault"].split()), fault_of(options, unit.march, unit.memory_file, unit.memory))
+    commands = commands_of(options, [(unit.march, unit.memory_file, unit.memory) for unit in chip.units])
+    inputs = [words[0], *(file for unit in chip.units for file in (unit.march, unit.memory_file))]
+    write(words[1], bench_name(chip.name, options), chip_testbench(chip, number, fault, options), inputs, commands)
+
+
+def main(arguments: list[str]) -> None:
+    allowed = {"--fault": 1, "--victim": 1, "--aggressor": 1, "--content": 1, "--sv": 0, "--assert": 0, "--chip": 0, "--unit": 1, "--stream": 0}
+    words, options = words_of(__doc__, arguments, allowed, 2, 3)
+    if "--chip" in options:
+        return write_chip(words, options)
+    if len(words) < 3 or "--unit" in options:
+        raise ToolError(f"{'--unit is of a chip' if words[2:] else 'too few words'}\n{usage_of(__doc__)}")
+    march, memory_file, folder = words
+    if "--assert" in options and len(options) > 1:
+        raise ToolError("--assert stands alone")
+    elements, memory = march_of(march)[1], read_memory(memory_file)
+    if "--assert" in options:
+        return write(folder, f"{memory.name}_rule.sv", rule_of_ports.rule(elements, memory), [march, memory_file], {})
+    look(folder, memory.name, options)
+    fault = fault_of(options, march, memory_file, memory)
+    content = content_of(options, memory)
+    planted = ("".join(options["--fault"].split()), fault) if fault else None
+    text = testbench(memory, elements, planted, content, options)
+    commands = commands_of(options, [(march, memory_file, memory)])
+    return write(folder, bench_name(memory.name, options), text, [march, memory_file], commands)

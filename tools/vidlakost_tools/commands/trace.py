@@ -1,0 +1,107 @@
+"""Why the escapes of a report escape: each is replayed in a plain model, also those of dynamic primitives.
+
+usage: vidlakost trace REPORT                    a line for each escape: the reason
+       vidlakost trace REPORT --memory MEMORY    the same of a report of `inword`, whose backgrounds the memory has
+       vidlakost trace REPORT --steps            each operation as well, with the cells behind it
+       vidlakost trace REPORT PRIM ..            the escapes of these primitives alone
+       vidlakost trace --help
+
+An escape never acts; or it acts and is written over before a read of the victim; or it acts and is not read again; or,
+inside a word, the write in which it acts sets the victim as the fault does. In a table of steps `*` marks where it acts, and
+behind the cells stands what a read answers. Of a report of `decoder` a PRIM is the name of a fault, as 'both and', and the
+steps tell which of its two addresses is visited. Of a report of `linked` it is a link, as 'LF1 <0w1/0/-> <0w0/1/->', and the
+number of the primitive that acts stands for the `*`. Inside a word the cells are two bits, the aggressor's first, and an operation
+is the march's: in a background it writes or expects the two digits behind it. It ends with 1 where a read differs at an
+escape, which no report of the program has."""
+from __future__ import annotations
+
+from typing import Iterator, List, Tuple, Union
+
+from vidlakost_tools.text import Path
+from vidlakost_tools.texts import decoder, in_word, linked, reasons
+from vidlakost_tools.texts.decoder import DecoderReport, DecoderVerdict
+from vidlakost_tools.texts.faults import Step
+from vidlakost_tools.texts.in_word import InWordReport
+from vidlakost_tools.texts.linked import LinkVerdict, LinkedReport, LinkedStep
+from vidlakost_tools.texts.memory import Memory, read_memory
+from vidlakost_tools.texts.report import Report, Verdict, read_report
+from vidlakost_tools.tool import ToolError, words_of
+
+AnyReport = Union[Report, DecoderReport, LinkedReport, InWordReport]
+
+
+def read_any(path: Path) -> AnyReport:
+    """A report of any kind."""
+    if decoder.is_report(path):
+        return decoder.read_report(path)
+    if linked.is_report(path):
+        return linked.read_report(path)
+    return in_word.read_in_word(path) if in_word.is_in_word(path) else read_report(path)
+
+
+def shown(verdict: Verdict | DecoderVerdict | LinkVerdict, step: Step) -> str:
+    """A line of the table."""
+    place = "start" if step.element is None else f"element {step.element}"
+    cell = ""
+    if step.cell is not None:
+        cell = verdict.place(step.cell) if isinstance(verdict, DecoderVerdict) else f"cell {step.cell}"
+    answer = "" if step.answer is None else f"reads {step.answer}"
+    mark = str(step.acting) if isinstance(step, LinkedStep) and step.acts else "*" if step.acts else " "
+    return f"  {place:11} {step.operation:4} {cell:7} {step.cells} {mark} {answer}".rstrip()
+
+
+def memory_of(report: InWordReport, name: str | None) -> Memory:
+    """The memory of a report of `inword`, which has to be the named one."""
+    if name is None:
+        raise ToolError("this report is of `inword`: --memory MEMORY has its backgrounds")
+    memory = read_memory(name)
+    told = {"name": memory.name, "words": memory.words, "bits": memory.bits, "backgrounds": len(memory.backgrounds)}
+    if told != {key: report.memory[key] for key in told}:
+        raise ToolError(f"{name} is another memory than the report's, which is {report.memory['name']}")
+    return memory
+
+
+# of an escape its primitive, the line that is said of it, whether a read differs, and its steps as lines
+Told = Iterator[Tuple[str, str, bool, List[str]]]
+
+
+def inside_word(report: InWordReport, memory: Memory) -> Told:
+    for verdict in report.escapes:
+        why, steps = in_word.reason(verdict, report.elements, memory)
+        said = f"{verdict.primitive} {verdict.kind} aggressor {verdict.aggressor} victim {verdict.victim}: {why}"
+        yield verdict.primitive, said, steps[-1].differs, [in_word.shown(step, memory) for step in steps]
+
+
+def links(report: LinkedReport) -> Told:
+    for verdict in report.escapes:
+        why, steps = linked.reason(verdict, report.elements)
+        yield verdict.primitive, f"{verdict.primitive}: {why}", steps[-1].differs, [shown(verdict, step) for step in steps]
+
+
+def between_words(report: Report | DecoderReport) -> Told:
+    for verdict in report.escapes:
+        if isinstance(verdict, DecoderVerdict):
+            why, steps = decoder.reason(verdict, report.elements)
+        else:
+            why, steps = reasons.reason(verdict, report.elements)
+        yield verdict.primitive, f"{verdict.primitive} {verdict.kind}: {why}", steps[-1].differs, [shown(verdict, step) for step in steps]
+
+
+def main(arguments: list[str]) -> int:
+    (name, *chosen), options = words_of(__doc__, arguments, {"--steps": 0, "--memory": 1}, 1)
+    report = read_any(name)
+    missing = [word for word in chosen if word not in {verdict.primitive for verdict in report.escapes}]
+    if missing:
+        raise ToolError(f"{name} has no escape of {missing[0]}")
+    if isinstance(report, InWordReport):
+        told = inside_word(report, memory_of(report, options.get("--memory")))
+    elif "--memory" in options:
+        raise ToolError("--memory is for a report of `inword`")
+    else:
+        told = links(report) if isinstance(report, LinkedReport) else between_words(report)
+    caught = 0
+    for primitive, said, differs, steps in told:
+        if not chosen or primitive in chosen:
+            caught += differs
+            print("\n".join([said, *(steps if "--steps" in options else [])]))
+    return 1 if caught else 0

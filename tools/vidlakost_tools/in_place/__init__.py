@@ -1,0 +1,1 @@
+"""Memories that stay in their places: their modules, the sequencer, and what judges how they were connected."""

@@ -1,0 +1,186 @@
+"""The testbench of a chip whose memories stay where they are: both ends of each bundle, bit by bit; then the test by
+the chip's own ports, sound and with a wrong bit at each memory, beside what the sequencer has to do."""
+from __future__ import annotations
+
+from typing import Callable
+
+from vidlakost_tools.access import tap
+from vidlakost_tools.access.block import zero
+from vidlakost_tools.collar.liberty import Found
+from vidlakost_tools.collar.text import MARK, PLANTED
+from vidlakost_tools.in_place.place_list import Places
+from vidlakost_tools.in_place.places_text import BENCH, EACH, FIRST, SIGNALS, TAP, WATCHED
+from vidlakost_tools.in_place.sequencer import PlaceTarget, length
+from vidlakost_tools.in_place.text import CYCLE, InPlace, length_of
+from vidlakost_tools.verilog.bench_end import over
+from vidlakost_tools.verilog.syntax import ranged
+
+
+class ChipBench:
+    """The testbench that is being written."""
+
+    def __init__(self, target: PlaceTarget, places: Places):
+        self.target, self.places, self.count = target, places, target.count
+        self.system = target.system
+        self.paths = [places.places[placed.name].path for placed in self.system.collars]
+        self.inner = [InPlace(placed.macro, placed.word) for placed in self.system.collars]
+        for one in self.inner:
+            one.text()
+        self.slow = max(places.clocks.values())
+
+    def net(self, number: int, name: str) -> str:
+        """A net inside the module of a memory, by the name that it has there."""
+        return f"dut.{self.paths[number]}.{self.inner[number].names.of(name)}"
+
+    def joined(self, one: Callable[[int], str]) -> str:
+        """What there is of each memory, that of memory 0 lowest."""
+        return "{" + ", ".join(one(number) for number in reversed(range(self.count))) + "}"
+
+    # ---- the chip
+
+    def declared(self, port: Found) -> str:
+        name, wide, places = f"c_{port.name}", ranged(port.width), self.places
+        if port.way == "output":
+            return f"  wire {wide}{name};"
+        if port.name in places.clocks:
+            # no two clocks ever change in one moment, so that it is known which was first
+            late = f"{0.11 + 0.03 * list(places.clocks).index(port.name):.2f}"
+            half = f"#({places.clocks[port.name]} / 2.0)"
+            return f"  reg {name} = 1'b0;\n  initial #{late} forever {half} {name} = ~{name};"
+        if port.name in places.start.values():
+            return f"  reg {name} = 1'b{int(places.start.get('trst_n') == port.name)};"
+        if port.name in places.values:
+            return f"  wire {wide}{name} = {places.values[port.name]};"
+        # what is at a port of the chip is nothing to the test
+        return f"  wire {wide}{name} = in_test ? {{{port.width}{{1'bx}}}} : {{{port.width}{{1'b0}}}};"
+
+    def links(self) -> str:
+        return ",\n    ".join(f".{port.name}(c_{port.name})" for port in self.places.ports)
+
+    def probes(self) -> str:
+        lines = []
+        for number, path in enumerate(self.paths):
+            low = 3 * number
+            lines += [f"    dut.{path}.probed = is_probed;", f"    dut.{path}.probe = of_probe[{low + 2}:{low}];"]
+            lines.append(f"    dut.{path}.planted = planted[{number}] ? 3'd4 : 3'd0;")
+            lines.append(f"    dut.{path}.planted_bit = planted_bit;")
+        return "\n".join(lines)
+
+    # ---- the sequencer
+
+    def watched(self) -> str:
+        access, groups = self.places.access, self.target.groups
+        loads, order = [], []
+        for number, placed in enumerate(self.system.collars):
+            weight = sum(part.unit.weight for part in placed.parts)
+            loads.append(f"      if (is_on[{number}] !== 1'b0) load = load + {weight};")
+        for at, group in enumerate(groups[1:], 1):
+            before = sum(1 << number for one in groups[:at] for number in one)
+            mask = f"{self.count}'h{before:x}"
+            for number in group:
+                told = f"{self.system.name}: {self.target.units[number].memory.name} begins, and over are %b"
+                order.append(f"      if (has_begun[{number}] !== 1'b0 && (are_over & {mask}) !== {mask})")
+                order.append(f'        $fatal(1, "{told}", are_over);')
+        on = self.joined(lambda number: f"{self.net(number, 'test')} & ~{self.net(number, 'end_2')}")
+        return WATCHED.format(
+            name=self.system.name,
+            count=self.count,
+            zero=zero(self.count),
+            access=access,
+            clock=f"dut.{access}.clk",
+            begun=self.joined(lambda number: f"dut.{self.paths[number]}.bist_in[0]"),
+            overs=self.joined(lambda number: f"dut.{self.paths[number]}.bist_out[0]"),
+            on=on,
+            loads="\n".join(loads),
+            budget=self.system.budget,
+            order="\n".join(order),
+        )
+
+    # ---- the ways to start
+
+    def limit(self) -> int:
+        """Within how many nanoseconds a test is over and read, by whichever clock."""
+        bits = max(length_of(placed.word) for placed in self.system.collars)
+        cycles = sum(max(length(self.system.collars[number]) for number in group) + 40 for group in self.target.groups)
+        scan = 20 * (tap.length(self.target) + 8) if self.places.has_tap else 0
+        return self.slow * (2 * cycles + 40 * bits) + 4 * scan + 1000
+
+    def tasks(self) -> str:
+        target, places = self.target, self.places
+        values = {
+            "name": target.name,
+            "count": self.count,
+            "zero": zero(self.count),
+            "access": places.access,
+            "limit": self.limit(),
+            "period": self.slow,
+            "settle": 40 * self.slow,
+            "word": target.word,
+            **places.start,
+        }
+        cases = []
+        for number, placed in enumerate(self.system.collars):
+            kept, bits = self.net(number, "first"), placed.word.bits
+            words = [f"{kept}[{CYCLE + bits - 1}:{CYCLE}]", f"{kept}[{CYCLE + 2 * bits - 1}:{CYCLE + bits}]"]
+            asked = f"when_read !== {kept}[{CYCLE - 1}:0] || wanted !== {words[0]} || got !== {words[1]}"
+            told = f'"{target.name}: memory {number} has kept %h", {kept}'
+            cases.append(f"        {number}: if ({asked})\n          $fatal(1, {told});")
+        way = TAP if places.has_tap else SIGNALS
+        if places.has_tap:
+            at = {part.name: part.bits for part in tap.parts(target)}
+            size = tap.length(target)
+            values.update(last=size - 1, length=size, rest=size - self.count, identity=target.identity)
+            values.update({name: at[name] for name in ("failing", "unit", "cycle")})
+            values.update(wanted=at["expected"], got=at["returned"])
+        return FIRST.format(cases="\n".join(cases), **values) + way.format(**values)
+
+    def faults(self) -> str:
+        """The first, the middle and the last bit of each memory."""
+        lines = []
+        for number, placed in enumerate(self.system.collars):
+            bits = placed.word.bits
+            lines.append(f'      if (asked == "" || asked == "{placed.name}") begin')
+            some = sorted({0, bits // 2, bits - 1})
+            lines += [f"        run({self.count}'d1 << {number}, 7'd{bit});" for bit in some]
+            told = f"{self.system.name}: a wrong bit at {placed.name} is found, first in cycle %0d"
+            lines += [f'        $display("{told}", when_read);', "      end"]
+        return "\n".join(lines)
+
+    def begins(self) -> str:
+        """What brings the chip to rest."""
+        trst = self.places.start.get("trst_n")
+        lines = [f"    c_{trst} = 1'b0;", f"    #20 c_{trst} = 1'b1;"] if trst else []
+        return "\n".join([*lines, f"    #{40 * self.slow};"])
+
+    def text(self) -> str:
+        places, count = self.places, self.count
+        return BENCH.format(
+            mark=MARK,
+            chip=places.chip,
+            name=self.system.name,
+            planted=PLANTED,
+            over=over(f"{self.system.name}_places_tb"),
+            declared="\n".join(self.declared(port) for port in places.ports),
+            links=self.links(),
+            access=places.access,
+            count=count,
+            zero=zero(count),
+            to_width=2 * count,
+            to_top=2 * count - 1,
+            of_width=3 * count,
+            of_top=3 * count - 1,
+            to_begins=self.joined(lambda number: f"dut.{places.access}.to_{number}"),
+            to_ends=self.joined(lambda number: f"dut.{self.paths[number]}.bist_in"),
+            of_begins=self.joined(lambda number: f"dut.{self.paths[number]}.bist_out"),
+            of_ends=self.joined(lambda number: f"dut.{places.access}.of_{number}"),
+            probes=self.probes(),
+            watched=self.watched(),
+            tasks=self.tasks(),
+            named="".join(f' && asked != "{placed.name}"' for placed in self.system.collars),
+            begins=self.begins(),
+            # without a TAP nothing tells which memories are to be ignored, so of the first one is told
+            told_of="" if places.has_tap else f" && (where & (({count}'d1 << number) - {count}'d1)) == {zero(count)}",
+            told_at_end=EACH if places.has_tap else "wrong bits at all memories are found",
+            settle=40 * self.slow,
+            faults=self.faults(),
+        )

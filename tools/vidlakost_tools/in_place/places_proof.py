@@ -1,0 +1,170 @@
+"""Whether a chip whose memories got a test in their places does in use what it did before: Yosys takes the memories
+out of both, and proves that each pin of each of them, each flip-flop and each output of the chip has what it had."""
+from __future__ import annotations
+
+import dataclasses
+import json
+import pathlib
+import re
+import tempfile
+from typing import Any, Mapping
+
+from vidlakost_tools.access.block import Port
+from vidlakost_tools.chip.system import Placed
+from vidlakost_tools.collar.model import boxes
+from vidlakost_tools.collar.pins import Pin, literal
+from vidlakost_tools.in_place.place_list import Places
+from vidlakost_tools.in_place.sequencer import PlaceTarget
+from vidlakost_tools.in_place.text import box
+from vidlakost_tools.tool import ToolError
+from vidlakost_tools.verilog import yosys
+
+# of one side: its boxes, its sources, its top, what its memories are called, and the name that the module gets
+SIDE = """design -reset
+read_verilog -lib {boxes}
+read_verilog {sources}
+hierarchy -check -top {top}
+proc
+memory_map
+flatten
+async2sync
+dffunmap
+opt_clean
+cd {top}
+{renamed}
+cd ..
+expose -evert -evert-dff {top}/c:*
+rename {top} {side}
+write_json {json}
+{left_out}design -stash {side}
+"""
+PROOF = """design -copy-from gold -as gold gold
+design -copy-from gate -as gate gate
+equiv_make gold gate equiv
+hierarchy -top equiv
+equiv_simple -undef
+equiv_status
+"""
+UNPROVED = re.compile(r"Unproven \$equiv .*?: \\?(\S+)_gold(?: \[(\d+)\])?")
+
+
+@dataclasses.dataclass
+class Side:
+    """A side of the proof, as Yosys tells it: of each port its direction and its bits."""
+
+    ports: Mapping[str, tuple[str, list[Any]]]
+
+
+def side_of(path: pathlib.Path, name: str) -> Side:
+    told = json.loads(path.read_text(encoding="utf-8"))["modules"][name]["ports"]
+    return Side({port: (one["direction"], one["bits"]) for port, one in told.items()})
+
+
+class Proof:
+    """What is asked of Yosys, in a folder of its own."""
+
+    def __init__(self, target: PlaceTarget, places: Places, folder: pathlib.Path):
+        self.target, self.places, self.folder = target, places, folder
+        self.collars = {placed.name: placed for placed in target.system.collars}
+        text = boxes([placed.macro for placed in target.system.collars])
+        words = {placed.word.name: placed for placed in target.system.collars}
+        text += "".join(box(placed.macro, placed.word) for placed in words.values())
+        reached: dict[str, list[str]] = {"access": ["start"], "tap": ["tck", "tms", "tdi", "trst_n"], "apb": []}
+        text += "".join(self.reach(kind, inputs) for kind, inputs in reached.items())
+        (folder / "boxes.v").write_text(text, encoding="utf-8")
+
+    def reach(self, kind: str, inputs: list[str]) -> str:
+        """The ports of what starts the test, which is nothing to the use of the chip."""
+        ports = [Port("input", "clk"), *(Port("input", name) for name in inputs), *self.target.ports()]
+        ports.append(Port("output", "test"))
+        if kind == "tap":
+            ports += [Port("output", "tdo"), Port("output", "tdo_en")]
+        if kind == "access":
+            state = [Port("output", "done"), Port("output", "fail", self.target.count), Port("output", "seen")]
+            ports += [*self.target.choice(), *state, *self.target.result()]
+        if kind == "apb":
+            inward = {"pclk": 1, "presetn": 1, "psel": 1, "penable": 1, "pwrite": 1, "paddr": 12, "pwdata": 32}
+            ports += [Port("input", name, width) for name, width in inward.items()]
+            ports += [Port("output", "prdata", 32), Port("output", "pready"), Port("output", "pslverr")]
+        told = ",\n  ".join(port.declared() for port in ports)
+        return f"(* blackbox *)\nmodule {self.target.name}_{kind}(\n  {told}\n);\nendmodule\n"
+
+    def script(self, side: str, left_out: list[str]) -> str:
+        places = self.places
+        sources = places.before if side == "gold" else places.sources
+        paths = {name: place.was if side == "gold" else place.path for name, place in places.places.items()}
+        numbers = {name: number for number, name in enumerate(self.collars)}
+        return SIDE.format(
+            boxes=yosys.quoted(self.folder / "boxes.v"),
+            sources=yosys.sources_of(sources),
+            top=places.chip,
+            renamed="\n".join(f"rename {path} place_{numbers[name]}" for name, path in paths.items()),
+            side=side,
+            json=yosys.quoted(self.folder / f"{side}.json"),
+            left_out="".join(f"delete -port {side}/w:{name}\n" for name in left_out),
+        )
+
+    def named(self, port: str, bit: str | None = None) -> str:
+        """A port of a side, as somebody who reads the sources calls it."""
+        found, of = re.fullmatch(r"place_(\d+)\.(.*)", port), f"[{bit}]" if bit else ""
+        return f"{found[2]}{of} of {list(self.collars)[int(found[1])]}" if found else f"{port}{of}"
+
+    def tied(self, gold: Side) -> list[str]:
+        """What inputs of the macros were tied to, where that is something else than the collar ties them to."""
+        found = []
+        for number, placed in enumerate(self.collars.values()):
+            for pin in placed.macro.of("tie"):
+                port = f"place_{number}.{pin.name}"
+                if port in gold.ports and not is_tied(gold, pin, placed, number):
+                    found.append(f"{pin.name} of {placed.name} is tied to {pin.value} by the pins, and was not before")
+        return found
+
+    def not_compared(self) -> set[str]:
+        """The pins of the macros that only these have, since the collar ties them or leaves them open."""
+        return {
+            f"place_{number}.{pin.name}"
+            for number, placed in enumerate(self.collars.values())
+            for pin in placed.macro.of("tie", "open", "power")
+        }
+
+    def differences(self) -> list[str]:
+        """What is another in use than it was; none where all is proved."""
+        yosys.run(self.script("gold", []), self.folder)
+        yosys.run(self.script("gate", []), self.folder)
+        gold, gate = side_of(self.folder / "gold.json", "gold"), side_of(self.folder / "gate.json", "gate")
+        beside = self.not_compared()
+        found = self.tied(gold)
+        for port, (way, bits) in gold.ports.items():
+            if port in beside:
+                continue
+            if port not in gate.ports:
+                found.append(f"{self.named(port)} is not there any more")
+            elif (gate.ports[port][0], len(gate.ports[port][1])) != (way, len(bits)):
+                found.append(f"{self.named(port)} has another direction or width than before")
+        if found:
+            return found
+        sides = self.script("gold", [port for port in gold.ports if port in beside])
+        sides += self.script("gate", [port for port in gate.ports if port not in gold.ports or port in beside])
+        lines = yosys.run(sides + PROOF, self.folder)
+        pairs = [UNPROVED.search(line) for line in lines]
+        left = [f"{self.named(found[1], found[2])} is not what it was" for found in pairs if found]
+        if not left and not any("Equivalence successfully proven!" in line for line in lines):
+            raise ToolError("Yosys says nothing of the proof", 1)
+        return list(dict.fromkeys(left))
+
+
+def is_tied(gold: Side, pin: Pin, placed: Placed, number: int) -> bool:
+    """Whether an input had what the pins tell."""
+    bits = gold.ports[f"place_{number}.{pin.name}"][1]
+    known = literal(pin.value)
+    if known:
+        return bits == [str(known[1] >> bit & 1) for bit in range(known[0])]
+    name = placed.macro.clk if pin.value == "clk" else pin.value
+    there = gold.ports.get(f"place_{number}.{name}")
+    return there is not None and bits == there[1]
+
+
+def differences(target: PlaceTarget, places: Places) -> list[str]:
+    """What is another in use than it was."""
+    with tempfile.TemporaryDirectory() as folder:
+        return Proof(target, places, pathlib.Path(folder)).differences()

@@ -1,0 +1,327 @@
+"""What starts the tests of memories that stay where they are, group behind group within a budget, and reads of the
+first failure what each of them has kept: the module NAME_access, which APB and JTAG stand round as of any chip."""
+from __future__ import annotations
+
+import dataclasses
+
+from vidlakost_tools.access.block import Port, Target, Unit, header, zero
+from vidlakost_tools.chip.steps import lanes_length
+from vidlakost_tools.chip.system import Placed, System, groups_of
+from vidlakost_tools.collar.planted import also
+from vidlakost_tools.collar.text import PLANTED, last_phase
+from vidlakost_tools.in_place.text import CYCLE
+from vidlakost_tools.verilog.syntax import ranged
+
+ABOUT = """// The memories of {name} are tested where they are, {count} in {groups} groups, one behind the other:
+{groups_told}
+//   start      of any clock: the test runs while it is 1, and what was found is kept until it falls
+//   ignore     a bit for each memory of whose first failure nothing is told; of any clock. Where it changes behind
+//              done, that of another memory is read, and unit is the new number as soon as all of it is there
+//   to_I, of_I the bundle of memory I, which is of any clock:
+{memories}
+//   test       1 while a test has memories
+//   done       the test is over, and of the first failure that is told all is read
+//   fail       a bit for each memory, the first one's lowest
+//   seen       a memory failed whose bit of ignore is 0; of the first of these, by its number, is told
+//   cycle      in which the wrong word stood on rdata; the last cycle of the reset of its own test is 0
+//   expected, returned, unit   the word that was due, that which came, and the number of the memory"""
+@dataclasses.dataclass
+class PlaceTarget(Target):
+    """The memories of a chip that stay in their places, each with a bundle."""
+
+    system: System = dataclasses.field(default_factory=lambda: System("", 1, []))
+    groups: list[list[int]] = dataclasses.field(default_factory=list)
+
+    def ports(self) -> list[Port]:
+        """The bundles."""
+        found = []
+        for number in range(self.count):
+            found += [Port("output", f"to_{number}", 2), Port("input", f"of_{number}", 3)]
+        return found
+
+    def group_of(self, number: int) -> int:
+        return next(at for at, group in enumerate(self.groups) if number in group)
+
+    def module(self) -> str:
+        """The module NAME_access."""
+        return Sequencer(self).text()
+
+    def how_planted(self) -> str:
+        return "//   +planted +unit=U +bit=B   each word that memory U answers has bit B wrong"
+
+    def beside_nets(self) -> str:
+        """Memories in their places, as far as their bundles tell of them, each with a clock of its own."""
+        return "".join(f"  reg clock_{number} = 1'b0;\n" for number in range(self.count))
+
+    def beside(self) -> str:
+        return "".join(self.stand_in(number) for number in range(self.count))
+
+    def stand_in(self, number: int) -> str:
+        """A memory that is over after some cycles, and has failed where it is planted so."""
+        bits = self.units[number].memory.bits
+        total = CYCLE + 2 * bits
+        ones = f"{{{bits}'d1 << at_bit, {bits}'d0, 32'd{number + 7}}}"
+        return STAND_IN.format(i=number, half=3 + number % 5, over=20 + number, last=total - 1, kept=ones)
+
+
+STAND_IN = """  initial forever #{half} clock_{i} = ~clock_{i};
+  reg [7:0] age_{i} = 8'd0;
+  reg [2:0] at_{i} = 3'd0;
+  reg on_{i} = 1'b0;
+  reg [{last}:0] word_{i} = {kept};
+  always @(posedge clock_{i}) begin
+    on_{i} <= to_{i}[0];
+    at_{i} <= {{at_{i}[1:0], to_{i}[1]}};
+    age_{i} <= !on_{i} ? 8'd0 : age_{i} == 8'd{over} ? age_{i} : age_{i} + 8'd1;
+    if (!on_{i}) word_{i} <= {kept};
+    else if (at_{i}[1] && !at_{i}[2]) word_{i} <= {{word_{i}[0], word_{i}[{last}:1]}};
+  end
+  assign of_{i} = {{age_{i} == 8'd{over} ? word_{i}[{last}] : on_{i},
+    planted && at_unit == {i} && age_{i} > 8'd9 && !at_{i}[2], age_{i} > 8'd{over} - 8'd1}};
+"""
+
+
+def length(placed: Placed) -> int:
+    """How many cycles the test of a memory in its place takes, by its own clock; a few more for what starts and ends
+    it."""
+    macro, found = placed.macro, 0
+    for phase in range(last_phase(macro)):
+        second = phase >= 2
+        march = max(part.unit.length for part in placed.parts)
+        found += (lanes_length(placed, second) if macro.masks else 1) + 2 if phase % 2 else march + 2
+    return found + 20
+
+
+def of_places(system: System) -> PlaceTarget:
+    """The target of memories in their places."""
+    numbers = {id(placed): number for number, placed in enumerate(system.collars)}
+    found = groups_of(system, system.collars, len(system.parts))
+    groups = [sorted(numbers[id(placed)] for placed in group) for group in found]
+    units = []
+    for number, placed in enumerate(system.collars):
+        # what a word of two descriptions has is more than a description may say, so only what is asked here is told
+        memory = dataclasses.replace(placed.word.first, name=placed.name, polarity=0, backgrounds=[0])
+        memory.bits = placed.word.bits
+        units.append(Unit(memory, f"_{number}"))
+    done = sum(max(length(system.collars[number]) for number in group) + 20 for group in groups) + 20
+    return PlaceTarget(system.name, "", units, True, done, system=system, groups=groups)
+
+
+BODY = """  // start and ignore come of another clock, and so does what the memories say
+  always @(posedge clk) begin
+{synchronised}
+  end
+  // a run begins where each memory has left the one before it, and ends where start falls
+  wire is_quiet = (over_2 | told_2) == {none};
+  always @(posedge clk) begin
+    was_quiet <= is_quiet;
+    test <= start_2 | run | ~is_quiet;
+    if (!start_2) run <= 1'b0;
+    else if (is_quiet && was_quiet) run <= 1'b1;
+  end
+  // the groups, one behind the other, and a turn more in which the last bits of bad come in
+{turns}
+  wire at_end = turn == {end};
+  always @(posedge clk)
+    if (!run) begin
+      turn <= {first};
+      begun <= {none};
+      found <= {none};
+    end else begin
+      if (turn_over) turn <= turn + {one};
+      begun <= begins;
+      if (!at_end) found <= found | bad_2;
+    end
+  assign fail = found;
+  // the first memory that failed and is not to be ignored, and how long its words are
+{choice}
+  wire is_told = is_read & is_open & unit == chosen;
+  wire is_acknowledged = ~{bad};
+  // a bit of what it has kept: a step rises, the memory acknowledges it, the bit is taken, and the step falls
+  always @(posedge clk)
+    if (!run || !at_end) begin
+      reading <= 1'b0;
+      is_read <= 1'b0;
+      stage <= 2'd0;
+      steps <= {none};
+      done <= 1'b0;
+      seen <= 1'b0;
+    end else begin
+      done <= !reading & (!is_open | is_told);
+      seen <= !reading & is_told;
+      if (!reading) begin
+        if (is_open && !is_told) begin
+          reading <= 1'b1;
+          is_read <= 1'b0;
+          whose <= chosen;
+          part <= 2'd0;
+          at <= {at_bits}'d0;
+          cycle <= 32'd0;
+          expected <= {word}'d0;
+          returned <= {word}'d0;
+        end
+      end else
+        case (stage)
+          2'd0: begin
+            {step} <= 1'b1;
+            stage <= 2'd1;
+          end
+          2'd1: if (is_acknowledged) stage <= 2'd2;
+          2'd2: begin
+            if (part == 2'd0) cycle[{at_cycle}] <= {told};
+            if (part == 2'd1) expected{at_word} <= {told};
+            if (part == 2'd2) returned{at_word} <= {told};
+            {step} <= 1'b0;
+            stage <= 2'd3;
+          end
+          default:
+            if (!is_acknowledged) begin
+              stage <= 2'd0;
+              at <= is_last ? {at_bits}'d0 : at + {at_bits}'d1;
+              if (is_last) part <= part + 2'd1;
+              if (is_last && part == 2'd2) begin
+                // the number changes with the last bit, so that the words are never those of another memory
+                reading <= 1'b0;
+                is_read <= 1'b1;
+                unit <= whose;
+              end
+            end
+        endcase
+    end
+endmodule
+"""
+
+
+class Sequencer:
+    """The module that is being written."""
+
+    def __init__(self, target: PlaceTarget):
+        self.target, self.count = target, target.count
+        # behind the groups are a turn in which the last bits of fail come in, and the end
+        self.end = len(target.groups) + 1
+        self.turn_bits = self.end.bit_length()
+        self.word_bits = (target.word - 1).bit_length()
+        self.at_bits = max(5, self.word_bits)
+
+    def turn(self, number: int) -> str:
+        return f"{self.turn_bits}'d{number}"
+
+    def vector(self, bits: list[str]) -> str:
+        return bits[0] if len(bits) == 1 else "{" + ", ".join(reversed(bits)) + "}"
+
+    def bit(self, net: str, number: int) -> str:
+        return net if self.count == 1 else f"{net}[{number}]"
+
+    def declared(self) -> list[str]:
+        wide = ranged(self.count)
+        vectors = ["begun", "steps", "found"]
+        vectors += [f"{name}_{number}" for name in ("over", "bad", "told", "ignore") for number in (1, 2)]
+        ones = ("start_1", "start_2", "run", "was_quiet", "reading", "is_read", "turn_over")
+        return [
+            *(f"  reg {wide}{name};" for name in vectors),
+            *(f"  reg {name};" for name in ones),
+            f"  reg {ranged(self.turn_bits)}turn;",
+            f"  reg {ranged(self.target.unit_bits)}whose;",
+            *(f"  reg [1:0] {name};" for name in ("stage", "part")),
+            f"  reg {ranged(self.at_bits)}at;",
+            f"  reg {ranged(self.at_bits)}last;",
+        ]
+
+    def bundles(self) -> list[str]:
+        """The bundles; a testbench can say something else to the memories, to see where it arrives."""
+        wide = 2 * self.count
+        lines = [f"`ifdef {PLANTED}", "  reg probed = 1'b0;", f"  reg [{wide - 1}:0] probe = {wide}'d0;", "`endif"]
+        for number in range(self.count):
+            value = f"{{{self.bit('steps', number)}, {self.bit('begun', number)}}}"
+            probe = f"probe[{2 * number + 1}:{2 * number}]"
+            lines += also(f"  assign to_{number} = {value}", f"& {{2{{~probed}}}} | {{2{{probed}}}} & {probe}")
+        return lines
+
+    def synchronised(self) -> list[str]:
+        parts = {"over": 0, "bad": 1, "told": 2}
+        values = {}
+        for name, bit in parts.items():
+            values[name] = self.vector([f"of_{number}[{bit}]" for number in range(self.count)])
+        return [
+            "    start_1 <= start;",
+            "    start_2 <= start_1;",
+            "    ignore_1 <= ignore;",
+            "    ignore_2 <= ignore_1;",
+            *(f"    {name}_1 <= {value};" for name, value in values.items()),
+            *(f"    {name}_2 <= {name}_1;" for name in parts),
+        ]
+
+    def turns(self) -> list[str]:
+        """Which memories are tested in a turn, and whether all of these are over."""
+        groups, begins = self.target.groups, []
+        for number in range(self.count):
+            turn = self.target.group_of(number)
+            begins.append(f"start_2 & turn >= {self.turn(turn)}" if turn else "start_2")
+        lines = ["  always @*", "    case (turn)"]
+        for at, group in enumerate(groups):
+            overs = " & ".join(self.bit("over_2", number) for number in group)
+            lines.append(f"      {self.turn(at)}: turn_over = {overs};")
+        lines.append(f"      {self.turn(len(groups))}: turn_over = 1'b1;")
+        lines += ["      default: turn_over = 1'b0;", "    endcase"]
+        return [*lines, f"  wire {ranged(self.count)}begins = {self.vector(begins)};"]
+
+    def choice(self) -> list[str]:
+        """Of which memory is told, and how many bits its words have."""
+        bits, count = self.target.unit_bits, self.count
+        chosen = "".join(f"{self.bit('open', number)} ? {bits}'d{number} : " for number in range(count - 1))
+        lasts = [unit.memory.bits - 1 for unit in self.target.units]
+        return [
+            f"  wire {ranged(count)}open = found & ~ignore_2;",
+            f"  wire is_open = open != {zero(count)};",
+            f"  wire {ranged(bits)}chosen = {chosen}{bits}'d{count - 1};",
+            "  always @*",
+            "    case (whose)",
+            *(f"      {bits}'d{number}: last = {self.at_bits}'d{last};" for number, last in enumerate(lasts[:-1])),
+            f"      default: last = {self.at_bits}'d{lasts[-1]};",
+            "    endcase",
+            f"  wire is_last = at == (part == 2'd0 ? {self.at_bits}'d31 : last);",
+        ]
+
+    def part_of(self, width: int) -> str:
+        """So many bits of the number of a bit."""
+        return "at" if width == self.at_bits else f"at[{width - 1}:0]" if width > 1 else "at[0]"
+
+    def body(self) -> str:
+        one = self.count == 1
+        return BODY.format(
+            synchronised="\n".join(self.synchronised()),
+            turns="\n".join(self.turns()),
+            choice="\n".join(self.choice()),
+            none=zero(self.count),
+            first=self.turn(0),
+            one=self.turn(1),
+            end=self.turn(self.end),
+            at_bits=self.at_bits,
+            word=self.target.word,
+            step="steps" if one else "steps[whose]",
+            bad="bad_2" if one else "bad_2[whose]",
+            told="told_2" if one else "told_2[whose]",
+            at_cycle=self.part_of(5),
+            at_word=f"[{self.part_of(self.word_bits)}]" if self.word_bits else "",
+        )
+
+    def text(self) -> str:
+        target, system = self.target, self.target.system
+        names = [unit.memory.name for unit in target.units]
+        members = [", ".join(names[one] for one in group) for group in target.groups]
+        groups = [f"//   group {at}: {told}" for at, told in enumerate(members)]
+        memories = [f"//              {number} {name}" for number, name in enumerate(names)]
+        about = ABOUT.format(
+            name=system.name,
+            count=self.count,
+            groups=len(groups),
+            groups_told="\n".join(groups),
+            memories="\n".join(memories),
+        )
+        state = [Port("output", name) for name in ("test", "done", "fail", "seen")]
+        state[2].width = self.count
+        ports = [Port("input", "clk"), Port("input", "start"), *target.choice(), *target.ports()]
+        ports += [*state, *target.result()]
+        kept = ("test", "done", "seen", *(port.name for port in target.result()))
+        lines = [*self.declared(), *self.bundles(), self.body()]
+        return header(about, f"{target.name}_access", ports, kept) + "\n".join(lines)

@@ -1,0 +1,182 @@
+"""The pages of the definitions that have to be trusted: those of the headline, those of the other clauses of the top call, and
+the index of both, which is committed."""
+from __future__ import annotations
+
+import hashlib
+import re
+from typing import Tuple
+
+from vidlakost_tools.pages.spec_graph import Clause, Definition, Graph, Key
+from vidlakost_tools.pages.trusted_parts import HEADLINE_TITLE, INDEX_TITLE, OTHERS_TITLE, PARTS, Part
+from vidlakost_tools.tool import ToolError
+
+RUN = "bist_app::run"
+HEADLINE = "compilation"
+File = Tuple[str, str]
+
+
+# ---- what stands on what
+
+
+def clauses_of(graph: Graph, call: str, clause: str | None = None) -> list[Clause]:
+    found = [one for one in graph.clauses if one.call == call and clause in (None, one.name)]
+    if not found:
+        raise ToolError(f"no public call {call} has {'a clause ' + clause if clause else 'clauses'}")
+    return found
+
+
+def below(graph: Graph, clauses: list[Clause]) -> list[Key]:
+    """What clauses stand on, each behind what it stands on itself."""
+    return graph.below({key for clause in clauses for key in clause.uses})
+
+
+def headline_and_others(graph: Graph) -> tuple[list[Key], list[Key]]:
+    """The definitions that the headline stands on, and those that only other clauses of the top call do."""
+    headline = set(below(graph, clauses_of(graph, RUN, HEADLINE)))
+    order = below(graph, clauses_of(graph, RUN))
+    return [key for key in order if key in headline], [key for key in order if key not in headline]
+
+
+def lines_of(graph: Graph, keys: list[Key]) -> int:
+    """The lines of these definitions, without comments."""
+    return sum(not line.strip().startswith(("--", "///")) for key in keys for line in graph.by_key[key].lines)
+
+
+def source_of(file: File) -> str:
+    crate, name = file
+    if name.startswith("declared."):
+        return f"crates/{crate}/src/{name[len('declared.'):].replace('.', '/')}.rt"
+    return f"crates/{crate}/specs/{name.replace('.', '/')}.antt"
+
+
+# ---- the order of files and definitions
+
+
+def part_of(key: Key) -> Part:
+    return next(part for part in PARTS if part.has(key.crate, key.file))
+
+
+def by_part(keys: list[Key]) -> list[tuple[Part, list[Key]]]:
+    """The definitions part by part, without the parts that have none."""
+    parts = [(part, [key for key in keys if part_of(key) is part]) for part in PARTS]
+    return [(part, found) for part, found in parts if found]
+
+
+def in_reading_order(graph: Graph, part: Part, keys: list[Key]) -> list[tuple[File, list[Definition]]]:
+    """The files of a part with their definitions: the order of the part's list, and else of what uses what."""
+    files: dict[File, list[Definition]] = {}
+    for key in keys:
+        files.setdefault((key.crate, key.file), []).append(graph.by_key[key])
+    places = {file: (part.place(*file), place) for place, file in enumerate(files)}
+    return [(file, sorted(files[file], key=lambda one: one.line)) for file in sorted(files, key=places.__getitem__)]
+
+
+# ---- the pages
+
+
+def shown(definition: Definition) -> list[str]:
+    mark = "///" if definition.kind == "type" else "--"
+    return [f"{mark} {line}" for line in definition.comment] + definition.lines
+
+
+def table(graph: Graph, keys: list[Key]) -> list[str]:
+    """How many definitions and lines each part has, and all together."""
+    made = ["| Part | Definitions | Lines |", "|---|--:|--:|"]
+    rows = [(part.title, found) for part, found in by_part(keys)] + [("All", keys)]
+    return made + [f"| {title} | {len(found):,} | {lines_of(graph, found):,} |" for title, found in rows]
+
+
+def sections(graph: Graph, keys: list[Key], heads: dict[File, str], is_further: bool) -> list[str]:
+    """The definitions whole, file by file, each part with what is said above it."""
+    made: list[str] = []
+    for part, found in by_part(keys):
+        words = part.further if is_further else part.words
+        made += ["", f"## {part.title}", "", words.strip(), ""]
+        for file, definitions in in_reading_order(graph, part, found):
+            said = heads.get(file, "")
+            made += [f"### `{source_of(file)}`", ""] + ([said, ""] if said else []) + ["```"]
+            for count, definition in enumerate(definitions):
+                made += ([""] if count else []) + shown(definition)
+            made += ["```", ""]
+    return made
+
+
+def heads_of(graph: Graph) -> dict[File, str]:
+    """What the head of each spec file says, without its kind."""
+    return {
+        (spec.crate, spec.name): re.sub(r"^(Trusted|Public|Inner)\. ", "", " ".join(spec.head)) for spec in graph.specs
+    }
+
+
+def clause_lines(clause: Clause) -> list[str]:
+    return ["```", f"ensures {HEADLINE} {{ {clause.text.strip().rstrip(' }')} }}", "```", ""]
+
+
+def headline_page(graph: Graph) -> str:
+    keys, _ = headline_and_others(graph)
+    made = [HEADLINE_TITLE] + clause_lines(clauses_of(graph, RUN, HEADLINE)[0])
+    made += table(graph, keys) + sections(graph, keys, heads_of(graph), is_further=False)
+    return "\n".join(made).rstrip() + "\n"
+
+
+def others_page(graph: Graph) -> str:
+    _, keys = headline_and_others(graph)
+    made = [OTHERS_TITLE] + table(graph, keys) + sections(graph, keys, heads_of(graph), is_further=True)
+    return "\n".join(made).rstrip() + "\n"
+
+
+# ---- the index
+
+
+def mark_of(definition: Definition) -> str:
+    return hashlib.sha256("\n".join(shown(definition)).encode()).hexdigest()[:10]
+
+
+def index_lines(graph: Graph, keys: list[Key]) -> list[str]:
+    made: list[str] = []
+    for part, found in by_part(keys):
+        for file, definitions in in_reading_order(graph, part, found):
+            made += [f"### `{source_of(file)}`", ""]
+            for one in definitions:
+                names = sorted({key.name for key in one.uses} - {one.key.name})
+                made.append(f"- {mark_of(one)} `{one.key.name}`" + (f": {' '.join(names)}" if names else ""))
+            made.append("")
+    return made
+
+
+def index_page(graph: Graph) -> str:
+    headline, others = headline_and_others(graph)
+    made = [INDEX_TITLE] + clause_lines(clauses_of(graph, RUN, HEADLINE)[0])
+    made += ["## The headline", ""] + table(graph, headline) + [""] + index_lines(graph, headline)
+    made += ["## The other clauses of the top call", ""] + table(graph, others) + [""] + index_lines(graph, others)
+    return "\n".join(made).rstrip() + "\n"
+
+
+# ---- the claims
+
+CLAIM = re.compile(r"`(\w+(?:::\w+)+)`(?: \((`\w+`(?:, `\w+`)*)\))?")
+
+
+def wrong_claims(graph: Graph, page: str) -> list[str]:
+    """The lines of a page's list of calls that name a call or a clause that does not exist, and what of it. A name alone is
+    that of a call of a crate that its line names."""
+    calls: dict[str, set[str]] = {}
+    for clause in graph.clauses:
+        calls.setdefault(clause.call, set()).add(clause.name)
+    wrong = []
+    before, heading, listed = page.rpartition("## Each call\n")
+    for number, line in enumerate(listed.splitlines(), before.count("\n") + 2 if heading else 1):
+        begun = line.split(": ", 1)[0] if line.startswith("- ") else ""
+        found = list(CLAIM.finditer(begun))
+        if begun and not found:
+            wrong.append(f"{number}: names no call")
+        for call, clauses in (one.groups() for one in found):
+            names = re.findall(r"\w+", clauses or "")
+            if call not in calls:
+                wrong.append(f"{number}: there is no public call {call}")
+            wrong += [f"{number}: {call} has no clause {name}" for name in names if name not in calls.get(call, names)]
+        crates = {one[1].split("::")[0] for one in found}
+        beside = {call.rsplit("::", 1)[-1] for call in calls if call.split("::")[0] in crates}
+        alone = re.findall(r"`(\w+)`", CLAIM.sub("", begun)) if found else []
+        wrong += [f"{number}: there is no public call {name} beside {found[0][1]}" for name in alone if name not in beside]
+    return wrong

@@ -1,0 +1,394 @@
+"""What a refusal of the program means in this very call, as a compiler says it: FILE:LINE:COLUMN, the line with a caret,
+what is wrong there, and what could stand there instead."""
+from __future__ import annotations
+
+import os
+import re
+from typing import Iterator, Mapping
+
+from vidlakost_tools.program import FORMATS, commands, form_of
+from vidlakost_tools.refusals import chips as diagnose_chips, texts as diagnose_texts, verilog as diagnose_verilog
+from vidlakost_tools.refusals.finding import Trier, close_to, listed, thousands
+from vidlakost_tools.tasks import tools
+from vidlakost_tools.text import lines_of, read_bytes, read_described, read_text, visible
+from vidlakost_tools.texts.faults import place_of, read_primitive
+from vidlakost_tools.texts.march import elements_of
+from vidlakost_tools.texts.memory import Memory, parse_memory
+from vidlakost_tools.tool import ToolError
+
+# the word of a call whose text a refusal speaks of
+SUBJECTS = {
+    "march": ["MARCH"],
+    "memory": ["MEMORY"],
+    "fault": ["FAULTS", "PRIM"],
+    "verilog": ["VERILOG"],
+    "chip": ["CHIPFILE"],
+}
+FIELDS = [
+    (r"line (\d+) byte (\d+)", ("line", "byte")),
+    (r"line (\d+)", ("line",)),
+    (r"byte (\d+)", ("byte",)),
+    (r"element (\d+) operation (\d+)", ("element", "operation")),
+    (r"element (\d+)", ("element",)),
+    (r"rows (.+)", ("rows",)),
+    (r"unit (\d+)", ("unit",)),
+]
+CONSOLE = "vidlakost"
+
+
+def values_of(code: str, rest: str) -> dict[str, str]:
+    """What a refusal carries, by name."""
+    if code == "N3":
+        return dict(zip(("x", "y"), rest.split()))
+    if code in ("N7", "D4", "C4"):
+        return {"names" if code == "N7" else "field": rest}
+    for form, names in FIELDS:
+        match = re.fullmatch(form, rest)
+        if match:
+            return dict(zip(names, match.groups()))
+    return {"name": rest} if rest else {}
+
+
+# what the file of `show` is called in the forms of the other commands
+SHOWN_AS = {"march": "MARCH", "memory": "MEMORY", "list": "FAULTS", "chip": "CHIPFILE", "module": "VERILOG"}
+
+
+def words_by_name(words: list[str]) -> dict[str, str]:
+    """The words of a call by their names in the command's form; the file of `show` by what it is read as."""
+    named = dict(zip(form_of(words[0])[1:], words[1:])) if words else {}
+    kind = named.get("KIND")
+    if kind in SHOWN_AS and "FILE" in named:
+        named[SHOWN_AS[kind]] = named.pop("FILE")
+    return named
+
+
+def is_there_still(word: str) -> bool:
+    """Whether a text can be read a second time: what came by a pipe or a device is gone, and to open it again may wait for
+    ever."""
+    return os.path.isfile(word)
+
+
+def once(word: str, said: str) -> list[str]:
+    """What is said of a text that could be read only once."""
+    meant = next((when for form, when in meanings() if re.fullmatch(form, said)), "the program refuses it")
+    return [f"{word}: error: {meant}", "  the text came by a pipe or a device, so its place is not shown"]
+
+
+def meanings() -> Iterator[tuple[str, str]]:
+    """The pattern of each refusal of the tables of FORMATS, and when it comes."""
+    for line in lines_of(read_text(FORMATS)):
+        cells = [cell.strip() for cell in re.split(r"(?<!\\)\|", line)[1:-1]]
+        form = re.fullmatch(r"`((?:march|memory|fault|verilog|chip) [A-Z][0-9]+)\b.*`", cells[0]) if len(cells) >= 2 else None
+        if form:
+            yield f"{form[1]}\\b.*", cells[1].replace("`", "").replace("\\|", "|")
+
+
+def refused_text(words: list[str], said: str) -> list[str]:
+    """A refusal of a march, a memory, a list, a primitive, a module or a chip file."""
+    kind, code, *rest = said.split(" ", 2)
+    named = words_by_name(words)
+    subjects = [word for word in SUBJECTS[kind] if word in named]
+    if not subjects:
+        return []
+    subject = "PRIM" if "PRIM" in subjects else subjects[0]
+    values = values_of(code, rest[0] if rest else "")
+    if subject == "PRIM":
+        return diagnose_texts.fault("PRIM", named["PRIM"].encode("utf-8", "replace"), code, values, True).lines()
+    if not is_there_still(named[subject]):
+        return once(named[subject], said)
+    text = read_bytes(named[subject])
+    if kind == "verilog":
+        Trier.reader = words[0]
+        found = diagnose_verilog.verilog(named[subject], text, code, values, named.get("MEMORY"))
+    elif kind == "fault":
+        found = diagnose_texts.fault(named[subject], text, code, values, False)
+    else:
+        tell = {"march": diagnose_texts.march, "memory": diagnose_texts.memory, "chip": diagnose_chips.chip}[kind]
+        found = tell(named[subject], text, code, values)
+    return [*found.lines(), *(f"  {note}" for note in [*another_kind(subject, kind, text), *other_reader(words[0])])]
+
+
+def other_reader(command: str) -> list[str]:
+    """The tool that takes what the subset has not; it asks `check` of modules of its own making, whose refusal it tells."""
+    return ["`vidlakost audit` takes a controller in any Verilog, and with other names of its ports"] if command == "check" else []
+
+
+# how a text of each kind begins; a comment ends at its first end alone, or many of them are tried in each division
+BEGINS = {
+    "a march": rb"\s*(?:\{\s*)?(?:any|up|down|del|[v^*])\b\s*[(;}]",
+    "a memory description": rb"(?:\s|#[^\n]*\n)*memory\b",
+    "a chip file": rb"(?:\s|#[^\n]*\n)*chip\b",
+    "a module of Verilog": rb"(?:\s|//[^\n]*\n|/\*(?:(?!\*/).)*\*/)*module\b",
+    "a list of primitives": rb"(?:\s|#[^\n]*\n)*(?:<|(?:SF|TF|WDF|D?RDF|IRF|CF[a-z]{2}|DRF|one|two|all|dyn[12])\b)",
+}
+KINDS = {
+    "march": "a march",
+    "memory": "a memory description",
+    "chip": "a chip file",
+    "verilog": "a module of Verilog",
+    "fault": "a list of primitives",
+}
+
+
+def another_kind(subject: str, kind: str, text: bytes) -> Iterator[str]:
+    """What is said of a text that begins with a byte-order mark, or as one of another kind does."""
+    if text.startswith((b"\xef\xbb\xbf", b"\xff\xfe", b"\xfe\xff")):
+        yield "the file begins with a byte-order mark: save it as plain UTF-8, without one"
+    elif not re.match(BEGINS[KINDS[kind]], text, re.DOTALL):
+        other = next((what for what, begin in BEGINS.items() if re.match(begin, text, re.DOTALL)), None)
+        if other:
+            yield f"the file looks like {other}, and {subject} is to be {KINDS[kind]}: have two words changed places?"
+
+
+# ---- the words of a call
+
+
+def wrong_word(name: str, word: str, named: Mapping[str, str]) -> str | None:
+    """What is wrong with one word of a command, by itself."""
+    if name == "KIND":
+        return None if word in SHOWN_AS else f"KIND is {listed([*SHOWN_AS], 'or')}, and not '{word}'"
+    if not word:
+        return f"{name} is empty"
+    if word.startswith("-"):
+        return f"{name} is '{word}', and no word begins with '-'"
+    size = int(named["SIZE"]) if re.fullmatch(r"\d{1,9}", named.get("SIZE", "")) else None
+    if name in ("SIZE", "NUMBER"):
+        least, most = (2, 4096) if name == "SIZE" else (0, 65534)
+        if not re.fullmatch(r"0|[1-9]\d{0,8}", word):
+            return f"{name} is a decimal number without a leading zero, and not '{word}'"
+        if not least <= int(word) <= most:
+            return f"{name} is {thousands(least)} to {thousands(most)}, and not {word}"
+    if name == "CONTENT" and not re.fullmatch("[01]+", word):
+        return f"CONTENT has the digits 0 and 1, one for each cell, and not '{word}'"
+    if name == "CONTENT" and size is not None and len(word) != size:
+        return f"CONTENT has {len(word)} digits, and SIZE is {size}"
+    if name == "DIRS" and not re.fullmatch("[ud]{1,64}", word):
+        return f"DIRS is a letter u or d for each element, 1 to 64 of them, and not '{word}'"
+    if name in ("AGG", "VIC"):
+        return wrong_cell(name, word, named, size)
+    return None
+
+
+def wrong_cell(name: str, word: str, named: Mapping[str, str], size: int | None) -> str | None:
+    if word == "none" and name == "AGG":
+        return None
+    number = r"(?:0|[1-9]\d{0,8})"
+    if size is None and "SIZE" not in named:
+        return (
+            None
+            if re.fullmatch(rf"{number}\.{number}", word)
+            else f"{name} is a cell as two numbers with a full stop between, its word's index and its bit, as 6.3, "
+            f"and not '{word}'"
+        )
+    if not re.fullmatch(number, word):
+        return f"{name} is the number of a cell{' or none' if name == 'AGG' else ''}, and not '{word}'"
+    if size is not None and int(word) >= size:
+        return f"{name} is cell {word}, and there are the cells 0 to {size - 1}"
+    return f"AGG and VIC are both cell {word}" if name == "VIC" and word == named.get("AGG") else None
+
+
+def usage(words: list[str]) -> list[str]:
+    """What is wrong with the words of a call."""
+    names = [command.name for command in commands()]
+    if not words or words[0] not in names:
+        meant = close_to(words[0], [*names, *tools()]) if words else None
+        what = f"'{words[0]}' is no command" if words else "there is no command"
+        return [
+            f"{CONSOLE}: error: {what}" + (f"; did you mean '{meant}'?" if meant else ""),
+            f"  the commands are {listed(names, 'and')}",
+        ]
+    form = form_of(words[0])
+    line = [f"  usage: {CONSOLE} {' '.join(form)}"]
+    if len(words) != len(form):
+        few = len(words) < len(form)
+        what = (
+            f"{listed(form[len(words):], 'and')} {'is' if len(form) - len(words) == 1 else 'are'} missing"
+            if few
+            else f"'{words[len(form)]}' is one word too many"
+        )
+        return [f"{CONSOLE}: error: {words[0]} takes {len(form) - 1} words, and there are {len(words) - 1}: {what}", *line]
+    named = words_by_name(words)
+    for name, word in named.items():
+        wrong = wrong_word(name, word, named)
+        if wrong:
+            return [f"{CONSOLE}: error: {wrong}", *line]
+    files = [name for name in named if name not in ("PRIM", "SIZE", "CONTENT", "AGG", "VIC", "DIRS", "NUMBER", "KIND")]
+    for place, name in enumerate(files):
+        same = next((other for other in files[:place] if named[other] == named[name]), None)
+        if same:
+            return [
+                f"{CONSOLE}: error: {same} and {name} are both '{named[name]}', and no two files of a call have one name",
+                *line,
+            ]
+    return [f"{CONSOLE}: error: the words are not those of {words[0]}", *line]
+
+
+# ---- files
+
+
+def absent(word: str) -> list[str]:
+    folder = os.path.dirname(word) or "."
+    if not os.path.isdir(folder):
+        return [f"{word}: error: there is no folder '{folder}'"]
+    meant = close_to(
+        os.path.basename(word), [name for name in os.listdir(folder) if os.path.isfile(os.path.join(folder, name))]
+    )
+    return [
+        f"{word}: error: there is no such file"
+        + (f"; did you mean '{os.path.join(os.path.dirname(word), meant)}'?" if meant else "")
+    ]
+
+
+def why_not(word: str, mode: str) -> str:
+    """Why a file can't be opened, as the system says it."""
+    if os.path.isdir(word):
+        return "it is a folder"
+    folder = os.path.dirname(word) or "."
+    if mode == "w" and not os.path.isdir(folder):
+        return f"there is no folder '{folder}'"
+    if mode == "w" and not os.path.exists(word):
+        return (
+            "no file may be made in this folder"
+            if not os.access(folder, os.W_OK)
+            else "the system gave no more room, or failed"
+        )
+    return "it may not be opened" if not os.access(word, os.R_OK if mode == "r" else os.W_OK) else "the system failed"
+
+
+def file_of(words: list[str], said: str) -> list[str]:
+    """A file that is missing, too large, or can't be read or written."""
+    what, place = said.rsplit(" ", 1)
+    word = words[int(place)]
+    if what == "absent":
+        return absent(word)
+    if what == "too large":
+        size = f"{os.path.getsize(word):,} bytes" if os.path.isfile(word) else "more bytes than may be"
+        return [f"{word}: error: the file has {size}, and an input at most 1,048,576"]
+    mode, verb = ("r", "read") if what == "read failed" else ("w", "written")
+    return [f"{word}: error: the file could not be {verb}: {why_not(word, mode)}"]
+
+
+# ---- cells, directions and cycles
+
+
+def memory_file(named: Mapping[str, str]) -> Memory:
+    return parse_memory(read_described(named["MEMORY"]))
+
+
+def device(words: list[str], said: str) -> list[str]:
+    named = words_by_name(words)
+    if not is_there_still(named.get("MEMORY", "")):
+        return []
+    if said != "device V2" or "VIC" not in named:
+        return [
+            f"{CONSOLE}: error: "
+            + (
+                "there is no model of a memory to run beside"
+                if said == "device V4"
+                else "the model has too little room for this memory"
+            )
+        ]
+    memory = memory_file(named)
+    for name in ("AGG", "VIC"):
+        if named[name] == "none":
+            continue
+        word, bit = place_of(named[name])
+        if word >= memory.words:
+            return [
+                f"{name}: error: {named[name]} is outside {memory.name}: "
+                f"its words are 0 to {thousands(memory.words - 1)}, by physical index"
+            ]
+        if bit >= memory.bits:
+            return [f"{name}: error: {named[name]} is outside {memory.name}: the bits of its words are 0 to {memory.bits - 1}"]
+    return [f"VIC: error: aggressor {named['AGG']} and victim {named['VIC']} are in one word; the cells have to stand in two"]
+
+
+def misfit(words: list[str], said: str) -> list[str]:
+    named = words_by_name(words)
+    if said == "misfit aggressor":
+        two = read_primitive(named["PRIM"]).aggressor is not None
+        cells, wanted = ("two cells", "the cell of its aggressor") if two else ("one cell", "none")
+        return [f"AGG: error: {named['PRIM']} has {cells}, so AGG is {wanted}, and not '{named['AGG']}'"]
+    if not is_there_still(named["MARCH"]):
+        return []
+    elements = elements_of(read_text(named["MARCH"]))
+    directions = named["DIRS"]
+    lines = [f"DIRS: error: '{directions}' has {len(directions)} letters, and {named['MARCH']} has {len(elements)} elements"]
+    shown = [
+        f"  {element.text:24} {directions[place] if place < len(directions) else '(no letter)'}"
+        for place, element in enumerate(elements)
+    ]
+    for place, (element, letter) in enumerate(zip(elements, directions)):
+        wants = {"up": "u", "down": "d", "del": "u"}.get(element.order, letter)
+        if letter != wants:
+            shown[place] += "   a pause has u" if element.is_pause else f"   this element goes {element.order}: {wants}"
+            lines[0] = (
+                f"DIRS: error: letter {place} is '{letter}', and does not agree with element {place}"
+                if len(directions) == len(elements)
+                else lines[0]
+            )
+    return lines + shown
+
+
+def too_long(words: list[str], said: str) -> list[str]:
+    named = words_by_name(words)
+    if not is_there_still(named["MEMORY"]) or not is_there_still(named["MARCH"]):
+        return [f"{named['MEMORY']}: error: the test takes {thousands(said.split(' ')[2])} cycles, and at most 2,000,000 are run"]
+    memory, elements = memory_file(named), elements_of(read_text(named["MARCH"]))
+    one = sum(map(memory.cycles_of, elements))
+    most = (2000000 - memory.latency - 2) // one if one <= 2000000 else 0
+    cure = (
+        f"with {most} background{'s' if most > 1 else ''} it would not be too long"
+        if most
+        else "a shorter march, or fewer words, would do"
+    )
+    return [
+        f"{named['MEMORY']}: error: the test takes {thousands(said.split(' ')[2])} cycles, and at most 2,000,000 are run",
+        f"  the march takes {thousands(one)} cycles in each of {len(memory.backgrounds)} backgrounds; {cure}",
+        "  (compile has no such limit)",
+    ]
+
+
+def not_text(words: list[str]) -> list[str]:
+    for place, word in enumerate(words):
+        try:
+            word.encode("utf-8")
+        except UnicodeEncodeError:
+            return [f"{CONSOLE}: error: word {place} is not UTF-8"]
+    return [f"{CONSOLE}: error: the words could not be read"]
+
+
+def no_primitives(words: list[str]) -> list[str]:
+    return [f"{words_by_name(words).get('FAULTS', 'the list')}: warning: the list holds no primitive, so nothing was judged"]
+
+
+def lines(words: list[str], said: str, status: int) -> list[str]:
+    """What is said of a refusal; nothing where the call is not one that can be explained."""
+    return list(map(visible, told_lines(words, said, status)))
+
+
+def told_lines(words: list[str], said: str, status: int) -> list[str]:
+    try:
+        if status <= 1:
+            return no_primitives(words) if said.startswith("total 0 ") else []
+        if status == 2:
+            return usage(words)
+        if words[0] == "chip" and said.startswith("unit ") and not is_there_still(words[1]):
+            return once(words[1], said.split(" ", 2)[2])
+        if words[0] == "chip" and said.startswith("unit "):
+            return told_lines(*diagnose_chips.unit_call(words[1], said), status)
+        if status in (3, 4, 5, 14, 15):
+            return refused_text(words, said)
+        if status in (6, 7, 8, 10) and said:
+            return file_of(words, said)
+        by_status = {11: device, 12: too_long, 13: misfit}
+        if status in by_status:
+            return by_status[status](words, said)
+        return {
+            8: [f"{CONSOLE}: error: the line of the answer could not be written"],
+            9: [f"{CONSOLE}: error: there was no memory"],
+            16: not_text(words),
+        }.get(status, [])
+    except (OSError, IndexError, ValueError, KeyError, StopIteration, TypeError, ToolError):
+        # a file that changed meanwhile, or words that are no command's
+        return []

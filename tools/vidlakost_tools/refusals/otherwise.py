@@ -1,0 +1,143 @@
+"""What other tools may read otherwise than the program does, though the standard is on its side: bytes in a module's
+comments that some obey or end a line at, a `?` that some take for a digit, shifts so far that some take another value, and
+names of a chip that SystemVerilog reserves."""
+from __future__ import annotations
+
+import re
+from typing import Iterator
+
+from vidlakost_tools.refusals.finding import place
+from vidlakost_tools.refusals.verilog import Events
+from vidlakost_tools.text import read_bytes, read_described, statements
+from vidlakost_tools.verilog.syntax import COMMENT, Expression, Unread
+
+# what may stand in a comment, or as a blank, and why another tool may go another way
+IN_TEXT = [
+    (rb"\r(?!\n)", "a carriage return that no line feed follows: some tools end a line, and a comment with it, there"),
+    (rb"\f", "a form feed: some tools end a line, and a comment with it, there"),
+]
+IN_COMMENT = [
+    (rb"\x0b", "a vertical tab in a comment: some tools end a line, and the comment with it, there"),
+    (rb"[\x00-\x08\x0e-\x1f\x7f]", "a control byte in a comment: some tools end the text, or the comment, there"),
+    (rb"`", "a back quote in a comment: some tools obey a directive there"),
+    (rb"\\\r?(?:\n|\Z)", "a backslash that ends a line of a comment: to some tools the next line is the comment's too"),
+    (
+        rb"\b(?:(?:translate|synthesis)_o(?:n|ff)|full_case|parallel_case|synopsys|pragma|synthesis[ \t]+\w+)\b",
+        "a comment that tools which make gates obey",
+    ),
+]
+BEHIND_DECIMAL = (
+    rb"'[dD][0-9][0-9_]*(\?)",
+    "a `?` right behind a decimal literal: Verilator and Yosys take it for a digit, and refuse the module",
+)
+# from here on Yosys takes the amount of a shift for a negative number
+FAR = 1 << 31
+FAR_SHIFT = "a shift whose amount can be 2147483648 or more: Yosys takes another value"
+RESERVED = set(
+    """accept_on alias always_comb always_ff always_latch assert assume before bind bins binsof bit break byte chandle checker
+    class clocking const constraint context continue cover covergroup coverpoint cross dist do endchecker endclass endclocking
+    endgroup endinterface endpackage endprogram endproperty endsequence enum eventually expect export extends extern final
+    first_match foreach forkjoin global iff ignore_bins illegal_bins implements implies import inside int interconnect
+    interface intersect join_any join_none let local logic longint matches modport nettype new nexttime null package packed
+    priority program property protected pure rand randc randcase randsequence ref reject_on restrict return s_always
+    s_eventually s_nexttime s_until s_until_with sequence shortint shortreal soft solve static string strong struct super
+    sync_accept_on sync_reject_on tagged this throughout timeprecision timeunit type typedef union unique unique0 until
+    until_with untyped var virtual void wait_order weak wildcard with within""".split()
+)
+
+
+class Shifts(Events):
+    """The places of the shifts of a module whose amount can be too far."""
+
+    def __init__(self, text: bytes):
+        self.far: list[int] = []
+        self.known: dict[int, int | None] = {}
+        super().__init__(text)
+
+    def width(self, it: Expression) -> int | None:
+        if id(it) not in self.known:
+            self.known[id(it)] = super().width(it)
+            if it.kind == "infix" and it.token.text in ("<<", ">>") and self.greatest(it.operands[1]) >= FAR:
+                self.far.append(it.token.at)
+        return self.known[id(it)]
+
+    def greatest(self, it: Expression) -> int:
+        """A number that an expression doesn't exceed."""
+        if it.kind == "literal":
+            return it.value
+        if it.kind == "choice":
+            return max(map(self.greatest, it.operands[1:]))
+        if it.kind == "join":
+            number = 0
+            for part in it.operands:
+                number = number << (self.width(part) or 0) | self.greatest(part)
+            return number
+        return (1 << (self.width(it) or 0)) - 1
+
+
+def far_shift(text: bytes) -> int | None:
+    """The place of the first shift whose amount can be too far."""
+    try:
+        return min(Shifts(text).far, default=None)
+    except Unread:
+        return None
+
+
+def blanked(match: re.Match[bytes]) -> bytes:
+    """Blanks in the place of a comment."""
+    return b" " * len(match[0])
+
+
+def places_in(text: bytes) -> Iterator[tuple[int, str]]:
+    """Of each kind the first byte, and what it is."""
+    pattern, why = BEHIND_DECIMAL
+    behind = re.search(pattern, re.sub(COMMENT.encode(), blanked, text, flags=re.DOTALL))
+    if behind:
+        yield behind.start(1), why
+    far = far_shift(text)
+    if far is not None:
+        yield far, FAR_SHIFT
+    for pattern, why in IN_TEXT:
+        found = re.search(pattern, text)
+        if found:
+            yield found.start(), why
+    found_comments = re.finditer(COMMENT.encode(), text, re.DOTALL)
+    comments = [(match.start(), match[0] + text[match.end() : match.end() + 1]) for match in found_comments]
+    for pattern, why in IN_COMMENT:
+        hits = (begin + found.start() for begin, comment in comments for found in [re.search(pattern, comment)] if found)
+        first = next(hits, None)
+        if first is not None:
+            yield first, why
+
+
+def of_module(name: str, text: bytes) -> list[str]:
+    """The warnings of a module that is read."""
+    lines = []
+    for at, why in sorted(places_in(text)):
+        row, column = place(text, at)
+        lines.append(f"{name}:{row}:{column}: warning: {why}")
+    return [*lines, "  what is found of this module need not hold in a tool that does so"] if lines else []
+
+
+def of_chip(name: str, text: str) -> list[str]:
+    """The warnings of a chip file: its name, as the name of a module, beside the words and ports that are taken."""
+    said = [(line, rest) for line, word, rest in statements(text) if word == "name"]
+    units = sum(word == "unit" for _, word, _ in statements(text))
+    ports = {"clk", "reset", "done", "fail"} | {
+        f"{port}_{unit}" for port in ("rdata", "en", "we", "addr", "wdata") for unit in range(units)
+    }
+    for line, chip in said:
+        if chip in RESERVED:
+            return [f"{name}:{line}: warning: SystemVerilog reserves '{chip}': a tool that reads it refuses the chip's module"]
+        if chip in ports:
+            return [f"{name}:{line}: warning: '{chip}' is also a port of the chip's module, which some tools refuse"]
+    return []
+
+
+def warnings_of(words: list[str]) -> list[str]:
+    """What is said of a call that is done."""
+    if words[:1] in (["check"], ["benchfile"]) and len(words) == 4:
+        return of_module(words[1], read_bytes(words[1]))
+    if words[:1] == ["chip"] and len(words) == 3:
+        return of_chip(words[1], read_described(words[1]))
+    return []

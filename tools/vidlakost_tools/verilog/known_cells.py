@@ -1,0 +1,106 @@
+"""The cells of a netlist that Yosys made for a family of FPGAs: Yosys' own models of those that the netlist uses, without their
+times and without what their registers hold at first."""
+from __future__ import annotations
+
+import pathlib
+import re
+import shutil
+from typing import Any, Mapping
+
+from vidlakost_tools.collar.vendor import modules_in
+from vidlakost_tools.text import LARGE_BYTES, lines_of, read_bytes
+from vidlakost_tools.tool import ToolError
+
+# of each family the models' file in Yosys' share folder, and the cells of it that are logic and registers alone
+FAMILIES = {"ice40": ("ice40/cells_sim.v", "SB_LUT4|SB_CARRY|SB_GB|SB_DFFN?E?(?:S|R|SS|SR)?")}
+KNOWN = "SB_LUT4, SB_CARRY, SB_GB, and SB_DFF with N, E, S, R, SS and SR behind it"
+MODULE = re.compile(r"^module\s+(\w+)\b.*?^endmodule\b", re.MULTILINE | re.DOTALL)
+DIRECTIVE = re.compile(r"\s*`(ifdef|ifndef|elsif|else|endif)\b\s*(\w*)")
+DEFINE = re.compile(r"\s*`define\s+(\w+)(?:\((\w+)\))?[ \t]*(.*)")
+MACRO = re.compile(r"`(\w+)(?:\(([^()]*)\))?")
+
+
+def share() -> pathlib.Path:
+    """Yosys' share folder."""
+    program = shutil.which("yosys") or ""
+    for folder in (pathlib.Path(program).resolve().parent, pathlib.Path(program).parent):
+        place = folder.parent / "share" / "yosys"
+        if place.is_dir():
+            return place
+    raise ToolError("Yosys' share folder is not beside its program")
+
+
+def taken_lines(text: str) -> list[str]:
+    """The lines that stand where no macro is defined but those of the text itself."""
+    kept: list[str] = []
+    defined: set[str] = set()
+    # of each open condition whether its branch is taken, and whether one was
+    branches: list[tuple[bool, bool]] = []
+    for line in lines_of(text):
+        found = DIRECTIVE.match(line)
+        if found is None:
+            if all(is_taken for is_taken, _ in branches):
+                kept.append(line)
+                defined |= {match[1] for match in [DEFINE.match(line)] if match}
+            continue
+        kind, name = found.groups()
+        if kind in ("ifdef", "ifndef"):
+            is_taken = (name in defined) == (kind == "ifdef")
+            branches.append((is_taken, is_taken))
+        elif not branches:
+            raise ToolError(f"`{kind} without a begin in the models of Yosys")
+        elif kind == "endif":
+            branches.pop()
+        else:
+            _, was = branches.pop()
+            is_taken = not was and (kind == "else" or name in defined)
+            branches.append((is_taken, was or is_taken))
+    return kept
+
+
+def models(text: str) -> dict[str, str]:
+    """Of each module of the models its text, with the macros in it written out; initial values are left out."""
+    macros: dict[str, tuple[str, str]] = {}
+    lines = []
+    for line in taken_lines(text):
+        define = DEFINE.match(line)
+        if define:
+            value = re.sub(r"\s*//.*", "", define[3])
+            macros[define[1]] = (define[2] or "", "" if value.startswith("initial") else value)
+        elif not line.strip().startswith(("`timescale", "//", "(*")):
+            lines.append(line)
+
+    def written(match: re.Match[str]) -> str:
+        parameter, value = macros.get(match[1], ("", match[0]))
+        rest = f"({match[2]})" if match[2] is not None and not parameter else ""
+        return (re.sub(rf"\b{parameter}\b", match[2] or "", value) if parameter else value) + rest
+
+    whole = MACRO.sub(written, "\n".join(lines))
+    return {match[1]: match[0] for match in MODULE.finditer(whole)}
+
+
+def family_of(options: Mapping[str, Any]) -> str | None:
+    """The family that `--cells` names."""
+    family = options.get("--cells")
+    if family is not None and family not in FAMILIES:
+        raise ToolError(f"--cells knows {', '.join(FAMILIES)}: of it {KNOWN}")
+    return family
+
+
+def cells_of(options: Mapping[str, Any], texts: list[str]) -> str:
+    """The models of the cells that sources name and do not have themselves; nothing where no family is named."""
+    family = family_of(options)
+    if family is None:
+        return ""
+    file, known = FAMILIES[family]
+    path = share() / file
+    if not path.is_file():
+        raise ToolError(f"this Yosys has no models of {family}'s cells")
+    given = models(read_bytes(path, LARGE_BYTES).decode("utf-8", "replace"))
+    named = sorted({match[0] for text in texts for match in re.finditer(r"\bSB_\w+\b", text)})
+    own = {name for text in texts for name in modules_in(text)}
+    used = [name for name in named if re.fullmatch(known, name) and name not in own]
+    missing = next((name for name in used if name not in given or "`" in given[name]), None)
+    if missing:
+        raise ToolError(f"the models of this Yosys have no {missing} that can be read")
+    return "\n\n".join(given[name] for name in used) + "\n"
