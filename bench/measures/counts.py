@@ -105,7 +105,7 @@ def sources(folder: pathlib.Path) -> list[Figure]:
 
 def selftest(folder: pathlib.Path) -> list[Figure]:
     """Right, wrong and hostile input for the launcher and the tools."""
-    return counted("python3 -m tests.integration")
+    return counted("python3", "-m", "tests.integration")
 
 
 def gate(folder: pathlib.Path) -> list[Figure]:

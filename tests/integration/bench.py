@@ -23,7 +23,7 @@ class Bench:
         for name, text in FILES.items():
             (folder / name).parent.mkdir(exist_ok=True)
             (folder / name).write_bytes(text.encode("utf-8", "surrogateescape"))
-        for name in ("examples", "tools"):
+        for name in ("dev", "examples", "tools"):
             (folder / name).symlink_to(ROOT / name)
         (folder / "vidlakost").symlink_to(ROOT / "vidlakost")
 

@@ -1,10 +1,12 @@
 """How a tool starts and ends, its words, and the files that it writes.
 
-A tool calls `start(main)` once. What goes wrong in it (a file that is missing, words that are wrong, an input that the
+`tools/NAME` calls `command` once, and a script of the repository's own `start(main)`. What goes wrong in it (a file that is missing, words that are wrong, an input that the
 program refuses, a reader that closes the pipe) becomes a line on standard error and a status there, and nowhere else."""
 from __future__ import annotations
 
+import argparse
 import contextlib
+import importlib
 import io
 import os
 import pathlib
@@ -15,7 +17,7 @@ import sys
 import tempfile
 import threading
 import time
-from typing import Any, Callable, Iterable, Iterator, Mapping, TextIO, cast
+from typing import Any, Callable, Iterable, Iterator, Mapping, NoReturn, Sequence, TextIO, cast
 
 from vidlakost_tools.text import Path, cut, harmless, shown, visible
 
@@ -47,37 +49,49 @@ def usage_of(doc: str | None) -> str:
     return found[0] if found else doc or ""
 
 
+class Words(argparse.ArgumentParser):
+    """The words of a call and its options; what is wrong with them is a `ToolError` that shows the usage."""
+
+    def __init__(self, doc: str, allowed: Mapping[str, int | list[str]]):
+        super().__init__(add_help=False, allow_abbrev=False, argument_default=argparse.SUPPRESS)
+        self.doc = doc
+        self.add_argument("words", nargs="*")
+        for option, told in allowed.items():
+            if told == 0:
+                self.add_argument(option, dest=option, action="store_true")
+            elif told == 1:
+                self.add_argument(option, dest=option)
+            elif isinstance(told, int):
+                self.add_argument(option, dest=option, nargs=told)
+            else:
+                self.add_argument(option, dest=option, action="append")
+
+    def error(self, message: str) -> NoReturn:
+        found = re.match(r"argument (--[\w-]+): expected", message)
+        raise ToolError(f"{found[1]} needs a word behind it\n{usage_of(self.doc)}" if found else f"{message}\n{usage_of(self.doc)}")
+
+
 def words_of(
-    doc: str | None, allowed: Mapping[str, int | list[str]] | None = None, least: int = 0, most: int | None = None
+    doc: str | None,
+    arguments: Sequence[str],
+    allowed: Mapping[str, int | list[str]] | None = None,
+    least: int = 0,
+    most: int | None = None,
 ) -> tuple[list[str], dict[str, Any]]:
-    """The words of the call and its options. `allowed` gives of each option how many words it takes, a list where it
-    may come many times; `--help` prints the description."""
-    doc, allowed = doc or "", allowed or {}
-    plain: list[str] = []
-    options: dict[str, Any] = {}
-    rest = list(sys.argv[1:])
-    if "--help" in rest or rest == ["-h"]:
+    """The words of a call and its options. `allowed` gives of each option how many words it takes, a list where it may
+    come many times; `--help` prints the description."""
+    doc = doc or ""
+    if "--help" in arguments or [*arguments] == ["-h"]:
         print(doc.strip())
         raise SystemExit(0)
-    while rest:
-        word = rest.pop(0)
-        if not word.startswith("--"):
-            plain.append(word)
-            continue
-        if word not in allowed:
-            raise ToolError(f"there is no option {word}\n{usage_of(doc)}")
-        told = allowed[word]
-        count = told if isinstance(told, int) else 1
-        if len(rest) < count:
-            raise ToolError(f"{word} needs a word behind it\n{usage_of(doc)}")
-        given = [rest.pop(0) for _ in range(count)]
-        if isinstance(told, int):
-            options[word] = given[0] if count == 1 else given or True
-        else:
-            options.setdefault(word, []).extend(given)
-    if len(plain) < least or most is not None and len(plain) > most:
-        raise ToolError(f"{'too few' if len(plain) < least else 'too many'} words\n{usage_of(doc)}")
-    return plain, options
+    found, unknown = Words(doc, allowed or {}).parse_known_intermixed_args([*arguments])
+    if unknown:
+        raise ToolError(f"there is no option {unknown[0]}\n{usage_of(doc)}")
+    options = vars(found)
+    words = options.pop("words", [])
+    if len(words) < least or most is not None and len(words) > most:
+        raise ToolError(f"{'too few' if len(words) < least else 'too many'} words\n{usage_of(doc)}")
+    return words, options
 
 
 class Answers:
@@ -91,6 +105,16 @@ class Answers:
 
     def __getattr__(self, name: str) -> Any:
         return getattr(self.inner, name)
+
+
+def command(name: str) -> None:
+    """Runs the tool of this name with the words of the call."""
+
+    def main() -> int | None:
+        tool = importlib.import_module(f"vidlakost_tools.commands.{name}")
+        return cast("Callable[[list[str]], int | None]", tool.main)(sys.argv[1:])
+
+    start(main)
 
 
 def start(main: Callable[[], int | None]) -> None:

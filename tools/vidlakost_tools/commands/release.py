@@ -30,7 +30,6 @@ import tempfile
 import zlib
 from typing import Dict, Iterator, List, Mapping
 
-from vidlakost_tools import tasks
 from vidlakost_tools.pages import debian, trusted_pages
 from vidlakost_tools.pages.debian import PROGRAM
 from vidlakost_tools.pages.spec_graph import Graph
@@ -45,7 +44,7 @@ MADE: Dict[str, List[str]] = {
     "share/bash-completion/completions/vidlakost": ["--completion"],
 }
 # tools of the repository's own, which the checkout alone needs
-INNER = {"release", *tasks.INNER}
+INNER = {"release"}
 
 
 # the head of the first page where the program is not known to be proved
@@ -129,7 +128,7 @@ def tree(unproved: bool) -> dict[str, tuple[bytes, bool]]:
         files["README.md"] = (WARNING + files["README.md"][0], False)
     for name, option in MADE.items():
         made = subprocess.run(
-            [sys.executable, str(ROOT / "tools" / "manual"), *option], stdout=subprocess.PIPE, check=True
+            [sys.executable, str(ROOT / "dev" / "manual"), *option], stdout=subprocess.PIPE, check=True
         )
         files[name] = (made.stdout, False)
     graph = Graph(ROOT)

@@ -7,6 +7,8 @@ usage: vidlakost replay REPORT          prints a call for each escape line
 The march of the report is written to a file beside it, REPORT.m, which the calls name. An escape of a dynamic primitive
 (two operations) has no call, since `sim` takes primitives of at most one; --run replays it in a plain model of the
 definition (`Array` in tools/vidlakost_tools/faults.py), which `python3 -m tests.integration` compares with `sim`."""
+from __future__ import annotations
+
 import os
 import pathlib
 import shlex

@@ -7,8 +7,8 @@ import re
 from typing import Tuple
 
 from vidlakost_tools.pages.spec_graph import Clause, Definition, Graph, Key
-from vidlakost_tools.pages.trusted_parts import HEADLINE_TITLE, INDEX_TITLE, OTHERS_TITLE, PARTS, Part
 from vidlakost_tools.tool import ToolError
+from vidlakost_tools.pages.trusted_parts import HEADLINE_TITLE, INDEX_TITLE, OTHERS_TITLE, PARTS, Part
 
 RUN = "bist_app::run"
 HEADLINE = "compilation"

@@ -1,0 +1,1 @@
+"""What each part does by itself, without the program."""
