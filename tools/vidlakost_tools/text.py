@@ -3,7 +3,9 @@ from __future__ import annotations
 
 import errno
 import os
+import pathlib
 import re
+import string
 from typing import Iterator, Union
 
 # the name of a file
@@ -101,3 +103,19 @@ def harmless(text: str) -> str:
     if text.replace("\n", "").replace("\t", "").isprintable():
         return text
     return "".join(letter if letter in "\n\t" or "\udc80" <= letter <= "\udcff" else visible(letter) for letter in text)
+
+
+class Template(string.Template):
+    """A text with `@@{NAME}` for what is filled in: a `$` and a brace are those of its language."""
+
+    delimiter = "@@"
+
+
+def beside(module: str, name: str) -> str:
+    """A text from the folder `templates` beside a module."""
+    return (pathlib.Path(module).resolve().parent / "templates" / name).read_text(encoding="utf-8")
+
+
+def template(module: str, name: str) -> Template:
+    """The same, to be filled in."""
+    return Template(beside(module, name))

@@ -6,7 +6,7 @@ import dataclasses
 from typing import Callable, Sequence
 
 from vidlakost_tools.refusals.otherwise import RESERVED
-from vidlakost_tools.text import read_described, statements
+from vidlakost_tools.text import read_described, statements, template
 from vidlakost_tools.texts.chip import Chip
 from vidlakost_tools.texts.memory import Memory
 from vidlakost_tools.tool import ToolError
@@ -374,57 +374,12 @@ def access(target: Target) -> str:
 
 # ---- from one clock to the other
 
-CROSS = """// Between the clock of a bus and that of the memories of {name}: a start goes over when the one before it
-// has arrived, and the state comes back behind two registers, `done` behind three, so that no `done` is seen before
-// what it stands for.
-module {name}_cross(
-  input clock,
-  input reset_n,
-  input want,
-  input test,
-  input done,
-  input {fails}fail,
-  input seen,
-  output reg start,
-  output has_test,
-  output is_done,
-  output {fails}has_failed,
-  output is_seen
-);
-  reg test_1;
-  reg test_2;
-  reg done_1;
-  reg done_2;
-  reg done_3;
-  reg {fails}fail_1;
-  reg {fails}fail_2;
-  reg seen_1;
-  reg seen_2;
-  assign has_test = want & start & test_2;
-  assign is_done = has_test & done_3;
-  assign has_failed = has_test ? fail_2 : {zero};
-  assign is_seen = has_test & seen_2;
-  always @(posedge clock or negedge reset_n)
-    if (!reset_n) start <= 1'b0;
-    else if (test_2 == start) start <= want;
-  always @(posedge clock) begin
-    test_1 <= test;
-    test_2 <= test_1;
-    done_1 <= done;
-    done_2 <= done_1;
-    done_3 <= done_2;
-    fail_1 <= fail;
-    fail_2 <= fail_1;
-    seen_1 <= seen;
-    seen_2 <= seen_1;
-  end
-endmodule
-"""
+CROSS = template(__file__, "block_cross.sv")
 
 
 def cross(target: Target) -> str:
     """The module NAME_cross."""
-    return CROSS.format(name=target.name, fails=ranged(target.count), zero=zero(target.count))
+    return CROSS.substitute(name=target.name, fails=ranged(target.count), zero=zero(target.count))
 
 
 def inside(target: Target, clock: str, reset_n: str) -> str:
@@ -455,33 +410,8 @@ def inside(target: Target, clock: str, reset_n: str) -> str:
 
 # ---- memories for the testbenches
 
-MODEL = """// Memories for the testbenches of {name}, not for a chip. Where `planted` is 1, one bit of one word{unit} is
-// stuck.
-module {name}_model(
-  input clk,
-  {ports},
-  input planted,
-  input [9:0] at_unit,
-  input [15:0] at_address,
-  input [5:0] at_bit,
-  input at_value
-);
-{parts}endmodule
-"""
-PART = """  reg {word}words{s} [0:{last}];
-  reg {word}answers{s} [1:{latency}];
-  wire {word}stuck{s};
-  wire {word}read{s};
-  assign stuck{s} = (planted && at_unit == 10'd{number} && at_address == {address}) ? {one} << at_bit : {zero};
-  assign read{s} = (words{s}[addr{s}] & ~stuck{s}) | (at_value ? stuck{s} : {zero});
-  assign rdata{s} = answers{s}[{latency}];
-  always @(posedge clk) begin : memory{s}
-    integer i;
-    if (en{s} && we{s}) words{s}[addr{s}] <= wdata{s};
-    answers{s}[1] <= (en{s} && !we{s}) ? read{s} : {{{bits}{{1'bx}}}};
-    for (i = 1; i < {latency}; i = i + 1) answers{s}[i + 1] <= answers{s}[i];
-  end
-"""
+MODEL = template(__file__, "block_model.sv")
+PART = template(__file__, "block_part.sv")
 
 
 def model(target: Target) -> str:
@@ -490,7 +420,7 @@ def model(target: Target) -> str:
     for number, unit in enumerate(target.units):
         it = unit.memory
         parts.append(
-            PART.format(
+            PART.substitute(
                 s=unit.suffix,
                 number=number,
                 word=ranged(it.bits),
@@ -506,7 +436,7 @@ def model(target: Target) -> str:
     turned = [Port(ways[port.direction], port.name, port.width) for port in target.ports()]
     ports = ",\n  ".join(port.declared() for port in turned)
     which = " of one unit" if target.is_chip else ""
-    return MODEL.format(name=target.name, ports=ports, parts="".join(parts), unit=which)
+    return MODEL.substitute(name=target.name, ports=ports, parts="".join(parts), unit=which)
 
 
 def model_links(target: Target) -> str:

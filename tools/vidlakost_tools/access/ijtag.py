@@ -8,40 +8,11 @@ from typing import Iterator, Sequence
 from vidlakost_tools.access import log_window, network
 from vidlakost_tools.access.block import Target
 from vidlakost_tools.access.tap import parts
+from vidlakost_tools.text import beside, template
 
 CLIENT = ("si", "so", "sel", "capture", "shift", "update", "reset_n", "tck")
-PORTS = """  TCKPort tck;
-  SelectPort sel;
-  CaptureEnPort capture;
-  ShiftEnPort shift;
-  UpdateEnPort update;
-  ScanInPort si;
-  ResetPort reset_n { ActivePolarity 0; }
-  ScanOutPort so { Source SOURCE; }
-  ScanInterface client { CLIENT }"""
-SIB = """Module NAME_sib {
-PORTS
-  ScanInPort from_so;
-  ScanOutPort to_si { Source bit; }
-  ToSelectPort to_sel { Source bit; }
-  ToCaptureEnPort to_capture;
-  ToShiftEnPort to_shift;
-  ToUpdateEnPort to_update;
-  ToResetPort to_reset_n { ActivePolarity 0; }
-  ToTCKPort to_tck;
-  ScanInterface host {
-    Port from_so; Port to_si; Port to_sel; Port to_capture; Port to_shift; Port to_update; Port to_reset_n; Port to_tck;
-  }
-  ScanRegister bit {
-    ScanInSource si;
-    CaptureSource bit;
-    ResetValue 1'b0;
-  }
-  ScanMux way SelectedBy bit {
-    1'b0 : bit;
-    1'b1 : from_so;
-  }
-}"""
+PORTS = beside(__file__, "ijtag_ports.sv")
+SIB = beside(__file__, "ijtag_sib.sv")
 
 
 @dataclasses.dataclass(frozen=True)
@@ -155,46 +126,11 @@ def icl(target: Target) -> str:
     return "\n".join([*lines, *tap(target), ""])
 
 
-PDL = """iPDLLevel 0 -version STD_1687_2014;
-iProcsForModule {name}_register;
-
-iProc run_bist {{ }} {{
-  iNote -comment "the test takes {cycles} cycles of clk, which is at least as fast as TCK";
-  iWrite start 0b0;
-  iApply;
-  iRunLoop 16 -tck;
-  iWrite start 0b1;
-  iApply;
-  iRunLoop {turns} -tck;
-  iRead done 0b1;
-  iRead fail 0b0;
-  iRead seen 0b0;
-  iApply;
-}}
-
-iProc end_bist {{ }} {{
-  iWrite start 0b0;
-  iApply;
-  iRunLoop 16 -tck;
-}}
-"""
-PDL_LOG = """
-iProcsForModule {name}_log_register;
-
-iProc read_entry {{ }} {{
-  iNote -comment "while start is 1 and the test is over; each call reads the next entry, and last is 1 in the last one";
-  iRead valid;
-  iRead last;
-  iRead more;
-{unit}  iRead cycle;
-  iRead expected;
-  iRead returned;
-  iApply;
-}}
-"""
+PDL = template(__file__, "ijtag_pdl.pdl")
+PDL_LOG = template(__file__, "ijtag_pdl_log.sv")
 
 
 def pdl(target: Target) -> str:
     unit = "  iRead unit;\n" if target.is_chip else ""
-    log = PDL_LOG.format(name=target.name, unit=unit) if target.depth is not None else ""
-    return PDL.format(name=target.name, cycles=target.length, turns=target.length + 16) + log
+    log = PDL_LOG.substitute(name=target.name, unit=unit) if target.depth is not None else ""
+    return PDL.substitute(name=target.name, cycles=target.length, turns=target.length + 16) + log

@@ -6,6 +6,7 @@ import dataclasses
 
 from vidlakost_tools.access import network
 from vidlakost_tools.access.block import Port, Target, extended, zero
+from vidlakost_tools.text import template
 from vidlakost_tools.verilog.syntax import ranged
 
 # where the window stands, how many bytes an entry has in it, and the bits of the number of an entry
@@ -130,19 +131,7 @@ def rdl(target: Target) -> list[str]:
     return lines
 
 
-APB_READS = """      // the entries of the log
-      if (round == 0) begin
-{choose}        get(12'h028);
-        entries = heard[6:0];
-        more_came = heard[31];
-        for (entry = 0; entry < entries; entry = entry + 1) begin
-          get(12'h800 + 12'd32 * entry[11:0]);
-          when_read = heard;
-{words}          $display("{form}cycle %0d expected %h returned %h"{unit}, when_read, wanted, got);
-        end
-        if (more_came) $display("more");
-{again}      end
-"""
+APB_READS = template(__file__, "log_window_apb_reads.sv")
 
 
 def apb_reads(target: Target) -> str:
@@ -161,7 +150,7 @@ def apb_reads(target: Target) -> str:
         choose = f"        for (of_unit = 0; of_unit < {target.count}; of_unit = of_unit + 1) begin\n"
         choose += "        put(12'h02c, of_unit);\n"
         again, form, unit = "        end\n", "unit %0d ", ", of_unit"
-    return APB_READS.format(choose=choose, words="".join(lines), form=form, unit=unit, again=again)
+    return APB_READS.substitute(choose=choose, words="".join(lines), form=form, unit=unit, again=again)
 
 
 APB_DECLARED = "  integer entry;\n  integer entries;\n  integer of_unit;\n  reg more_came;\n"
@@ -216,19 +205,7 @@ def tap_parts(target: Target) -> dict[str, str]:
     }
 
 
-TAP_READS = """      if (round == 0) begin
-        // the entries of the log, one in each scan
-        {begin}
-        heard = 0;
-        while (heard[{last}] !== 1'b1) begin
-          shift({length}, {word});
-          if (heard[{valid}]) $display("{form}cycle %0d expected %h returned %h"{unit}, heard[{cycle}], heard[{wanted}], heard[{got}]);
-          if (heard[{more}]) more_came = 1'b1;
-        end
-        if (more_came) $display("more");
-        {end}
-      end
-"""
+TAP_READS = template(__file__, "log_window_tap_reads.sv")
 
 
 def scan_length(target: Target) -> int:
@@ -256,46 +233,13 @@ def tap_reads(target: Target, size: int, width: int) -> str:
         begin = f"shift({network.whole(target, size)}, {network.constant(width, network.to_log(size))});"
         word, end = is_open, f"shift({scan}, {network.constant(width, 1)});"
     form, unit = ("unit %0d ", f", heard[{at['unit']}]") if target.is_chip else ("", "")
-    return TAP_READS.format(
+    return TAP_READS.substitute(
         length=scan, last=at["last"], valid=at["valid"], more=at["more"], cycle=at["cycle"], wanted=at["expected"],
         got=at["returned"], form=form, unit=unit, begin=begin, word=word, end=end,
     )
 
 
-TCL = """# Runs the self-test of {name} by OpenOCD, and prints its log as `vidlakost bitmap`, `diagnosis` and `locate --line` read it.
-# A player of {name}.svf ends the test also where it found something, and the log with it: so `start` stays at 1 here.
-#   openocd -f {name}.cfg -c "source {name}_log.tcl" -c run_and_read -c shutdown
-proc run_and_read {{}} {{
-  irscan bist.tap 0x8
-{open}  drscan bist.tap {stopped}
-  runtest 16
-  drscan bist.tap {started}
-  set polls 0
-  while 1 {{
-    runtest 1000
-    set state [drscan bist.tap {started}]
-    if {{[format %d 0x[lindex $state 1]] != 0}} {{ break }}
-    incr polls
-    if {{$polls > {polls}}} {{ error "done did not come" }}
-  }}
-  puts stdout "fail [format %d 0x[lindex $state 2]]"
-  read_log
-}}
-proc read_log {{}} {{
-  {to_log}
-  set more 0
-  for {{set scan 0}} {{$scan < {most}}} {{incr scan}} {{
-    set entry [drscan bist.tap {fields}]
-    if {{[format %d 0x[lindex $entry {at_valid}]] != 0}} {{
-      puts stdout "{unit}cycle [format %d 0x[lindex $entry {at_cycle}]] expected [lindex $entry {at_expected}] returned [lindex $entry {at_returned}]"
-    }}
-    if {{[format %d 0x[lindex $entry {at_more}]] != 0}} {{ set more 1 }}
-    if {{[format %d 0x[lindex $entry {at_last}]] != 0}} {{ break }}
-  }}
-  if {{$more}} {{ puts stdout "more" }}
-  {to_end}
-}}
-"""
+TCL = template(__file__, "log_window_tcl.tcl")
 
 
 def tcl(target: Target, widths: list[int]) -> str:
@@ -306,7 +250,7 @@ def tcl(target: Target, widths: list[int]) -> str:
     unit = f"unit [format %d 0x[lindex $entry {at['at_unit']}]] " if target.is_chip else ""
     # behind the parts of the register stand the bits of the network, and round those of the log
     own, of_log = (" 1 1 1 0", "1 0 {} 1 1") if target.has_sib else ("", "{}")
-    return TCL.format(
+    return TCL.substitute(
         name=target.name,
         open="  drscan bist.tap 2 1\n" if target.has_sib else "",
         stopped=f"1 0 {rest}{own}",

@@ -4,35 +4,9 @@ self-test, and its register: so the register has the lowest bits of a scan, as w
 from __future__ import annotations
 
 from vidlakost_tools.access.block import Target
+from vidlakost_tools.text import template
 
-SIB = """// A segment insertion bit of IEEE 1687 for {name}: while it is 1, what hangs at to_si and from_so is in the
-// path behind it.
-module {name}_sib(
-  input tck,
-  input reset_n,
-  input sel,
-  input capture,
-  input shift,
-  input update,
-  input si,
-  output so,
-  output to_sel,
-  output to_si,
-  input from_so
-);
-  reg shifted;
-  reg held;
-  assign to_sel = sel & held;
-  assign to_si = shifted;
-  assign so = held ? from_so : shifted;
-  always @(posedge tck)
-    if (sel & capture) shifted <= held;
-    else if (sel & shift) shifted <= si;
-  always @(negedge tck or negedge reset_n)
-    if (!reset_n) held <= 1'b0;
-    else if (sel & update) held <= shifted;
-endmodule
-"""
+SIB = template(__file__, "network_sib.sv")
 INSTANCE = """  {name}_sib {of}_sib(.tck(tck), .reset_n(sib_reset_n), .sel(instruction == BIST),
     .capture(state == CAPTURE_DR), .shift(state == SHIFT_DR), .update(state == UPDATE_DR),
     .si({si}), .so({of}_so), .to_sel({of}_sel), .to_si({of}_si), .from_so({of}_data[0]));
@@ -47,7 +21,7 @@ RESET = """  // no state is decoded on its way to a reset
 
 def block(target: Target) -> str:
     """The module NAME_sib."""
-    return SIB.format(name=target.name)
+    return SIB.substitute(name=target.name)
 
 
 def segments(target: Target) -> list[str]:

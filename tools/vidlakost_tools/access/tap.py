@@ -6,6 +6,7 @@ import dataclasses
 from vidlakost_tools.access import log_window, network
 from vidlakost_tools.access.bench import most, testbench
 from vidlakost_tools.access.block import Port, Target, extended, header, inside, links, model_links, zero
+from vidlakost_tools.text import beside, template
 from vidlakost_tools.verilog.bench_end import FINISH
 
 IR_BITS = 4
@@ -66,82 +67,7 @@ TAP = """// A TAP of IEEE 1149.1 for the self-test of {name}. The instruction re
 // The register of {whose} has {length} bits, the lowest first:
 {table}
 {log}// A test runs while `start` is 1. trst_n is 0 at power-up; Test-Logic-Reset ends a test."""
-BODY = """  localparam RESET = 4'd0, IDLE = 4'd1, SELECT_DR = 4'd2, CAPTURE_DR = 4'd3, SHIFT_DR = 4'd4, EXIT1_DR = 4'd5,
-    PAUSE_DR = 4'd6, EXIT2_DR = 4'd7, UPDATE_DR = 4'd8, SELECT_IR = 4'd9, CAPTURE_IR = 4'd10, SHIFT_IR = 4'd11,
-    EXIT1_IR = 4'd12, PAUSE_IR = 4'd13, EXIT2_IR = 4'd14, UPDATE_IR = 4'd15;
-  localparam EXTEST = 4'h0, SAMPLE = 4'h1, IDCODE = 4'h2, BIST = 4'h8{log_name};
-  reg [3:0] state;
-  reg [3:0] instruction;
-  reg [3:0] shifted;
-  reg [31:0] identity;
-  reg bypass;
-  reg boundary;
-  reg [{last}:0] data;
-  reg want;
-  reg out;
-  reg drives;
-{held}{log_held}{inside}{log_wires}{sib_held}  always @(posedge tck or negedge trst_n)
-    if (!trst_n) state <= RESET;
-    else
-      case (state)
-        RESET: state <= tms ? RESET : IDLE;
-        IDLE: state <= tms ? SELECT_DR : IDLE;
-        SELECT_DR: state <= tms ? SELECT_IR : CAPTURE_DR;
-        CAPTURE_DR: state <= tms ? EXIT1_DR : SHIFT_DR;
-        SHIFT_DR: state <= tms ? EXIT1_DR : SHIFT_DR;
-        EXIT1_DR: state <= tms ? UPDATE_DR : PAUSE_DR;
-        PAUSE_DR: state <= tms ? EXIT2_DR : PAUSE_DR;
-        EXIT2_DR: state <= tms ? UPDATE_DR : SHIFT_DR;
-        UPDATE_DR: state <= tms ? SELECT_DR : IDLE;
-        SELECT_IR: state <= tms ? RESET : CAPTURE_IR;
-        CAPTURE_IR: state <= tms ? EXIT1_IR : SHIFT_IR;
-        SHIFT_IR: state <= tms ? EXIT1_IR : SHIFT_IR;
-        EXIT1_IR: state <= tms ? UPDATE_IR : PAUSE_IR;
-        PAUSE_IR: state <= tms ? EXIT2_IR : PAUSE_IR;
-        EXIT2_IR: state <= tms ? UPDATE_IR : SHIFT_IR;
-        default: state <= tms ? SELECT_DR : IDLE;
-      endcase
-  always @(posedge tck) begin
-    if (state == CAPTURE_IR) shifted <= 4'b0001;
-    if (state == SHIFT_IR) shifted <= {{tdi, shifted[3:1]}};
-    if (state == CAPTURE_DR) begin
-      identity <= 32'h{identity:08x};
-      bypass <= 1'b0;
-      boundary <= 1'b0;
-      data <= {{{captured}}};
-{log_capture}    end
-    if (state == SHIFT_DR)
-      case (instruction)
-        EXTEST, SAMPLE: boundary <= tdi;
-        IDCODE: identity <= {{tdi, identity[31:1]}};
-{data_shift}{log_shift}        default: bypass <= tdi;
-      endcase
-  end
-  always @(negedge tck or negedge trst_n)
-    if (!trst_n) begin
-      instruction <= IDCODE;
-      want <= 1'b0;
-{reset}{log_reset}    end else if (state == RESET) begin
-      instruction <= IDCODE;
-      want <= 1'b0;
-{reset}{log_reset}    end else if (state == UPDATE_IR) begin
-      instruction <= shifted;
-{log_reset}    end
-{data_update}{log_update}  always @(negedge tck) begin
-    drives <= state == SHIFT_IR || state == SHIFT_DR;
-    if (state == SHIFT_IR) out <= shifted[0];
-    else
-      case (instruction)
-        EXTEST, SAMPLE: out <= boundary;
-        IDCODE: out <= identity[0];
-        BIST: out <= {data_out};
-{log_out}        default: out <= bypass;
-      endcase
-  end
-  assign tdo = out;
-  assign tdo_en = drives;
-endmodule
-"""
+BODY = template(__file__, "tap_body.sv")
 
 
 def pins() -> list[Port]:
@@ -164,13 +90,13 @@ def block(target: Target) -> str:
     ignore = parts(target)[-1]
     log = {"log_wires": "", **log_window.tap_parts(target)}
     update = f"      ignore <= data{ignore.bits};\n" if target.is_chip else ""
-    body = BODY.format(
+    body = BODY.substitute(
         last=length(target) - 1,
         held=f"  reg {Port('', 'ignore', target.count).declared().strip()};\n" if target.is_chip else "",
         inside=inside(target, "tck", "trst_n") + log_window.inside(target),
         **log,
         **network.tap_parts(target, length(target) - 1, log, log_size - 1, update),
-        identity=target.identity,
+        identity=format(target.identity, "08x"),
         captured=", ".join(part.source for part in reversed(parts(target))),
         reset=f"      ignore <= {zero(target.count)};\n" if target.is_chip else "",
     )
@@ -295,105 +221,18 @@ def bench(target: Target) -> str:
 
 # ---- a model that OpenOCD plays to
 
-BOARD = """// {name}_tap and memories, for a trial with OpenOCD.
-module {name}_board(
-  input clk,
-  input tck,
-  input tms,
-  input tdi,
-  input trst_n,
-  output tdo,
-  output tdo_en,
-  output test,
-  input planted,
-  input [9:0] at_unit,
-  input [15:0] at_address,
-  input [5:0] at_bit,
-  input at_value
-);
-{wires}  {name}_tap tap({pins},
-    .clk(clk), {ports}, .test(test));
-{model}endmodule
-"""
+BOARD = template(__file__, "tap_board.sv")
 
 
 def board(target: Target) -> str:
     wires = "".join(f"  wire {Port('', port.name, port.width).declared().strip()};\n" for port in target.ports())
-    return BOARD.format(
+    return BOARD.substitute(
         name=target.name, wires=wires, pins=links(pins()), ports=links(target.ports()), model=model_links(target)
     )
 
 
-SOCKET = r"""// A model of NAME_board behind OpenOCD's driver remote_bitbang: Vboard PORT [UNIT ADDRESS BIT VALUE].
-#include "Vboard.h"
-#include "verilated.h"
-#include <arpa/inet.h>
-#include <cstdlib>
-#include <sys/socket.h>
-#include <unistd.h>
-
-static int listen_at(int port) {
-  int listener = socket(AF_INET, SOCK_STREAM, 0), on = 1;
-  setsockopt(listener, SOL_SOCKET, SO_REUSEADDR, &on, sizeof on);
-  sockaddr_in place{};
-  place.sin_family = AF_INET;
-  place.sin_port = htons(port);
-  place.sin_addr.s_addr = htonl(INADDR_LOOPBACK);
-  if (bind(listener, reinterpret_cast<sockaddr *>(&place), sizeof place) || listen(listener, 1)) return -1;
-  return accept(listener, nullptr, nullptr);
-}
-
-int main(int count, char **words) {
-  if (count != 2 && count != 6) return 2;
-  Vboard board;
-  board.planted = count == 6;
-  if (count == 6) {
-    board.at_unit = atoi(words[2]);
-    board.at_address = atoi(words[3]);
-    board.at_bit = atoi(words[4]);
-    board.at_value = atoi(words[5]);
-  }
-  int host = listen_at(atoi(words[1]));
-  if (host < 0) return 3;
-  for (int level : {1, 0, 1}) {
-    board.trst_n = level;
-    board.eval();
-  }
-  char letter;
-  while (read(host, &letter, 1) == 1 && letter != 'Q') {
-    if (letter >= '0' && letter <= '7') {
-      board.tck = letter >> 2 & 1;
-      board.tms = letter >> 1 & 1;
-      board.tdi = letter & 1;
-    } else if (letter >= 'r' && letter <= 'u') {
-      board.trst_n = !((letter - 'r') >> 1);
-    } else if (letter == 'R') {
-      char bit = board.tdo ? '1' : '0';
-      if (write(host, &bit, 1) != 1) return 4;
-    }
-    board.eval();
-    // the clock of the memories runs beside TCK
-    for (int i = 0; i < 4; i++) {
-      board.clk = 1;
-      board.eval();
-      board.clk = 0;
-      board.eval();
-    }
-  }
-  return 0;
-}
-"""
-CONFIG = """# OpenOCD with a model of {name}_board at port 9877 of this machine.
-adapter driver remote_bitbang
-remote_bitbang port 9877
-remote_bitbang host localhost
-transport select jtag
-jtag newtap bist tap -irlen 4 -expected-id 0x{identity:08x}
-gdb_port disabled
-tcl_port disabled
-telnet_port disabled
-init
-"""
+SOCKET = beside(__file__, "tap_socket.cpp")
+CONFIG = template(__file__, "tap_config.cfg")
 
 
 def socket(target: Target) -> str:
@@ -401,4 +240,4 @@ def socket(target: Target) -> str:
 
 
 def config(target: Target) -> str:
-    return CONFIG.format(name=target.name, identity=target.identity)
+    return CONFIG.substitute(name=target.name, identity=format(target.identity, "08x"))

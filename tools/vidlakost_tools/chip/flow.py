@@ -12,7 +12,7 @@ from vidlakost_tools.chip.system import Part, Placed, System
 from vidlakost_tools.collar.clock_mux import chosen_clocks
 from vidlakost_tools.collar.pins import literal
 from vidlakost_tools.collar.watch import GATES as GATES_DEFINE
-from vidlakost_tools.text import shown
+from vidlakost_tools.text import beside, shown, template
 from vidlakost_tools.texts.memory import Memory
 from vidlakost_tools.tool import ToolError
 
@@ -20,105 +20,9 @@ MARK = "# made by vidlakost flow"
 # what a makefile and a shell take as it is
 PLAIN = re.compile(r"[A-Za-z0-9_./+@][A-Za-z0-9_./+@-]*")
 
-HEAD = """{mark}: every step of {name}, from {chip}
-# make -j runs it, and its status is that of the whole; SIM is iverilog or verilator, LAUNCHER the command vidlakost. What is
-# planted in the whole runs in PARTS at once. MORE is what a simulator is told besides, as a -D that a vendor's model wants,
-# LINT_MORE what Verilator's lint is, and SYNTH_MORE what Yosys is as it reads. LIBERTY is the library to whose cells Yosys maps,
-# MACRO_LIBERTY are those of the macros, for OpenSTA, and MHZ is the clock of the test.
-ROOT := {root}
-OUT := {out}
-LAUNCHER ?= vidlakost
-SIM ?= $(if $(shell command -v iverilog),iverilog,verilator)
-MORE ?=
-LINT_MORE ?=
-SYNTH_MORE ?=
-LIBERTY ?=
-MACRO_LIBERTY ?=
-MHZ ?= 100
-PARTS ?= 1
-SHELL := /bin/bash
-.SHELLFLAGS := -o pipefail -c
-LINTED := $(shell command -v verilator)
-MADE := $(shell command -v yosys)
-TIMED := $(shell command -v sta)
-
-.PHONY: all reports collars gates top lint synthesis access sta clean FORCE
-.DELETE_ON_ERROR:
-
-all: reports collars gates top lint synthesis access sta
-	@echo "{name}: every step is done"
-
-# A step is run again unless each file that it reads or writes is as it was when the step was done, whatever its date: beside
-# the step $(1) stand the sums of the files $(2), and of those that a simulator was seen to read.
-sums = {{ echo "$(SIM) $(MORE) $(LINTED) $(LINT_MORE) $(MADE) $(SYNTH_MORE) $(LIBERTY) $(MACRO_LIBERTY) $(MHZ)"; sha256sum -- $(2); \\
-  test ! -e $(1).read || (cd $(dir $(1)) && xargs sha256sum -- <$(notdir $(1)).read); }} 2>&1
-kept = $(call sums,$(1),$(2)) | cmp -s - $(1).sums
-again = rm -f -- $(1).sums $(1).read
-# what a model opens while it runs no compiler tells: beside such a model a step is run each time
-opens = test -e $(1).read && (cd $(dir $(1)) && xargs grep -qE '[$$](readmem|fopen|sdf_annotate|system)' <$(notdir $(1)).read)
-done = {{ $(call opens,$(1)) || $(call sums,$(1),$(2)) >$(1).sums; }}
-
-# the steps are those of this chip file as it was when the makefile was written
-FORCE:
-	@cd $(ROOT) && echo "{sum}  {chip}" | sha256sum -c --status 2>/dev/null || \
-	  {{ echo "{name}: {chip} is another than the one that this makefile is of: run vidlakost flow again" >&2; exit 1; }}
-
-# in a folder with files.f: the testbench, sound and with what it plants; each passes where its last line says so, and only there
-ifeq ($(SIM),verilator)
-build = verilator --binary $(MORE) --top-module $(1) --Mdir built -f files.f >built.log && \\
-  sed 's/^.* : *//' built/V$(1)__ver.d | xargs -n 1 | grep -v verilator_bin >$(2).read
-run = built/V$(1)
-else
-build = iverilog -g2012 $(MORE) -M $(2).read -o tb -c files.f
-run = vvp -n tb
-endif
-passed = {{ tail -n 1 $(2) | grep -qx "$(1): passed" || {{ echo "$(1): not passed"; exit 1; }}; }}
-sound = $(run) | tee run.log && $(call passed,$(1),run.log)
-simulate = $(build) && $(sound) && $(run) +planted | tee run.log && $(call passed,$(1),run.log)
-# what is planted, side by side, each run with a log of its own
-shares = $$(seq 0 $$(($(PARTS) - 1)))
-sides = {{ rm -f run_*.log; for part in $(shares); do $(run) +planted +parts=$(PARTS) +part=$$part >run_$$part.log & done; wait; \\
-  for part in $(shares); do cat run_$$part.log; $(call passed,$(1),run_$$part.log); done; }}
-
-# to the cells of a library, where one is named, whose models Yosys makes of their functions; else to gates of its own
-CELLS := $(if $(LIBERTY),$(abspath $(LIBERTY)))
-MACRO_CELLS := $(if $(MACRO_LIBERTY),$(abspath $(MACRO_LIBERTY)))
-# without a library of the macros what they answer has no time, and OpenSTA says so; with one it may tell of the pins of the
-# macros in sta.known alone: those that are tied, and the clocks that the test chooses
-untimed = {{ grep -E "^Error|port .* not found" sta.txt || {{ test -n "$(MACRO_CELLS)" && {{ \
-  grep "^Warning" sta.txt | grep -vE "pins? with multiple clocks|unconstrained endpoint" || \
-  grep "^  [^ ]" sta.txt | grep -vxF -f ../sta.known; }}; }}; }}
-# behind that Yosys is told which pins of the cells are outputs, or it would find that nothing drives what they drive
-mapped = $(if $(CELLS),dfflibmap -liberty $(CELLS); abc -liberty $(CELLS); clean; read_liberty -lib -ignore_miss_func $(CELLS))
-counted = stat $(if $(CELLS),-liberty $(CELLS))
-modelled = $(if $(CELLS),read_liberty -ignore_miss_func $(CELLS); write_verilog -noattr cells.v)
-# a flip-flop begins with a bit by chance: gates of a few kinds hand an unknown one on where the module does not
-drawn = sed -i 's/^  reg \\([A-Za-z_0-9]*\\);/  reg \\1 = $$random;/' cells.v
-# the netlist of the module $(1), of the files $(2) beside the boxes $(3): simulated as the module was, but for what is planted
-netlist = yosys -q -p "read_verilog $(SYNTH_MORE) -lib $(3); read_verilog $(SYNTH_MORE) $(2); synth -flatten -top $(1); $(mapped); \
-  check -assert; write_verilog -noattr $(1)_gates.v" >gates.log 2>&1 && \
-  $(if $(CELLS),yosys -q -p "$(modelled)" >>gates.log 2>&1 && $(drawn),true) || {{ tail -n 5 gates.log; exit 1; }}
-
-reports: {reports} reports.html{testers}
-collars: {collars}
-gates: {gates}
-top: chip/passed
-lint: chip/lint.txt
-access: chip/access
-sta: chip/sta.txt
-synthesis: chip/synthesis.txt
-
-clean:
-	rm -f -- $(foreach step,{steps},$(step) $(step).sums $(step).read)
-"""
+HEAD = template(__file__, "flow_head.mk")
 # a report and the controller; that primitives escape is no failure of the step
-COMPILE = """
-{name}.report: FORCE
-	@mkdir -p {folder}
-	@$(call kept,$@,{files}) || {{ $(call again,$@); \\
-	  (cd $(ROOT) && $(LAUNCHER) compile {march} {memory} {list} $(OUT)/{folder}/{name}_bist.v $(OUT)/$@; test $$? -le 1) && \\
-	  $(call done,$@,{files}); }}
-"""
+COMPILE = template(__file__, "flow_compile.mk")
 COLLAR = """
 {name}/passed: {needs} FORCE
 	@$(call kept,$@,{files}) || {{ $(call again,$@); \\
@@ -126,74 +30,10 @@ COLLAR = """
 	  (cd {name} && $(call simulate,{name}_collar_tb,passed)) && touch $@ && $(call done,$@,{files}); }}
 """
 # the gates of a collar in its testbench, sound
-GATES = """
-{name}/gates: {name}/passed chip/made FORCE
-ifneq ($(MADE),)
-	@$(call kept,$@,{files} $(CELLS)) || {{ $(call again,$@); \\
-	  (cd {name} && $(call netlist,{name}_collar,{name}_collar.v {modules},../chip/{whole}_boxes.v) && \\
-	  iverilog -g2012 $(MORE) -D{define} -o gates_tb {name}_collar_tb.sv {name}_collar_gates.v {model} $(if $(CELLS),cells.v) && \\
-	  vvp -n gates_tb | tee gates_run.log && $(call passed,{name}_collar_tb,gates_run.log)) && touch $@ && $(call done,$@,{files} $(CELLS)); }}
-else
-	@echo "{whole}: yosys is not installed, so there are no gates of {name}"
-endif
-"""
-TOP = """
-chip/made: FORCE
-	@mkdir -p chip
-	@$(call kept,$@,{read} {written}) || {{ $(call again,$@); \\
-	  (cd $(ROOT) && $(LAUNCHER) top {words} $(OUT)/chip --access{models}{mux} >/dev/null) && touch $@ && $(call done,$@,{read} {written}); }}
-
-chip/passed: chip/made FORCE
-	@$(call kept,$@,{written}) || {{ $(call again,$@); \\
-	  (cd chip && $(call build,{name}_system_tb,passed) && $(call sound,{name}_system_tb) && $(call sides,{name}_system_tb)) && \\
-	  touch $@ && $(call done,$@,{written}); }}
-
-# what is installed looks at the whole; of a macro it sees the ports alone, whoever wrote its model
-chip/lint.txt: chip/made FORCE
-ifneq ($(LINTED),)
-	@$(call kept,$@,{written} $@) || {{ $(call again,$@); \\
-	  (cd chip && verilator --lint-only -Wall -Wno-DECLFILENAME $(LINT_MORE) --top-module {name}_system {modules} {name}_boxes.v \\
-	  >lint.txt 2>&1 || {{ cat lint.txt; exit 1; }}) && $(call done,$@,{written} $@); }}
-else
-	@echo "{name}: verilator is not installed, so nothing is linted" | tee $@
-endif
-
-chip/synthesis.txt: chip/made FORCE
-ifneq ($(MADE),)
-	@$(call kept,$@,{written} $(CELLS) $@) || {{ $(call again,$@); \\
-	  (cd chip && yosys -q -E synthesis.d -p "read_verilog $(SYNTH_MORE) -lib {name}_boxes.v; read_verilog $(SYNTH_MORE) {modules}; \\
-	  synth -top {name}_system; $(mapped); check -assert; write_verilog -noattr {name}_system_gates.v; \\
-	  tee -q -o synthesis.txt $(counted)" >synthesis.log 2>&1 || {{ tail -n 5 synthesis.log; exit 1; }}; \\
-	  sed 's/^[^:]*: //' synthesis.d | xargs -n 1 >synthesis.txt.read) && \\
-	  $(call done,$@,{written} $(CELLS) $@); }}
-else
-	@echo "{name}: yosys is not installed, so nothing is synthesized" | tee $@
-endif
-"""
+GATES = template(__file__, "flow_gates.mk")
+TOP = beside(__file__, "flow_top.mk")
 # what a tester starts the whole by, in its testbenches; and the timing of that, where there are cells and OpenSTA
-ACCESS = """
-chip/access: chip/made FORCE
-	@$(call kept,$@,{read} {written}) || {{ $(call again,$@); \\
-	  (cd $(ROOT) && $(LAUNCHER) access {words} $(OUT)/chip --apb --jtag >/dev/null && \\
-	  $(LAUNCHER) sdc {words} $(OUT)/chip --mhz $(MHZ) >/dev/null) && \\
-	  (cd chip && for kind in access apb tap; do iverilog -g2012 $(MORE) -o $${{kind}}_tb -c {name}_$$kind.f && \\
-	  vvp -n $${{kind}}_tb | tee $${{kind}}_run.log && $(call passed,{name}_$${{kind}}_tb,$${{kind}}_run.log) || exit 1; done) && \\
-	  touch $@ && $(call done,$@,{read} {written}); }}
-
-chip/sta.txt: chip/access FORCE
-ifeq ($(and $(CELLS),$(TIMED),$(MADE)),)
-	@echo "{name}: the timing is looked at where LIBERTY names cells, and sta and yosys are installed" | tee $@
-else
-	@$(call kept,$@,{written} $(CELLS) $(MACRO_CELLS) $@) || {{ $(call again,$@); \\
-	  (cd chip && yosys -q -p "read_verilog $(SYNTH_MORE) -lib {name}_boxes.v; read_verilog $(SYNTH_MORE) {name}_access.v {modules}; \\
-	  synth -flatten -top {name}_access; $(mapped); splitnets -ports; clean; write_verilog -noattr {name}_access_gates.v" >sta.log 2>&1 && \\
-	  {{ for file in $(CELLS) $(MACRO_CELLS); do echo "read_liberty $$file"; done; \\
-	  printf '%s\\n' "read_verilog {name}_access_gates.v" "link_design {name}_access" "read_sdc {name}_test.sdc" \\
-	  "check_setup -verbose" "report_checks -format summary"; }} >sta.tcl && \\
-	  sta -no_splash -exit sta.tcl >sta.txt 2>&1 && ! $(untimed) || {{ tail -n 5 sta.log sta.txt; exit 1; }}) && \\
-	  $(call done,$@,{written} $(CELLS) $(MACRO_CELLS) $@); }}
-endif
-"""
+ACCESS = beside(__file__, "flow_access.mk")
 PAGES = """
 reports.html: {reports} FORCE
 	@$(call kept,$@,{files} $@) || {{ $(call again,$@); \\
@@ -271,7 +111,7 @@ class Flow:
             name, march, memory = part.memory.name, plain(part.unit.march), plain(part.unit.memory_file)
             files = [*map(self.given, (march, memory, self.list_file)), f"{name}.report", *self.controllers([part.memory])]
             values = {"march": march, "memory": memory, "list": plain(self.list_file), "files": " ".join(files)}
-            made.append(COMPILE.format(name=name, folder=self.folder_of(name), **values))
+            made.append(COMPILE.substitute(name=name, folder=self.folder_of(name), **values))
         return made
 
     def collared(self) -> list[str]:
@@ -310,7 +150,7 @@ class Flow:
         modules = " ".join(f"{memory.name}_bist.v" for memory in placed.word.memories)
         model = " ".join([model, *self.cell_of(placed, "")])
         values = {"files": " ".join(files), "modules": modules, "model": model, "whole": self.system.name, "define": GATES_DEFINE}
-        return GATES.format(name=placed.word.name, **values)
+        return GATES.substitute(name=placed.word.name, **values)
 
     def inputs(self) -> list[str]:
         """What describes the chip, as the makefile names it."""
@@ -375,7 +215,7 @@ class Flow:
         testers = "".join(f" {page}" for page, _ in self.chips())
         gates = " ".join(f"{placed.word.name}/gates" for placed in self.collars())
         steps = f"{reports} reports.html{testers} {passed} {gates} chip/made chip/passed chip/lint.txt chip/synthesis.txt chip/access chip/sta.txt"
-        head = HEAD.format(
+        head = HEAD.substitute(
             mark=MARK,
             name=self.system.name,
             chip=plain(self.chip_file),

@@ -14,6 +14,7 @@ from vidlakost_tools.collar.bench import Bench, planted_inputs, shared
 from vidlakost_tools.collar.pins import RESERVED, Pin, bit_of
 from vidlakost_tools.collar.text import FOOT, HEAD, MARK, PLANTED, Names, halves, memory_name, own_ports, planted_names
 from vidlakost_tools.collar.watch import GATES, POWER
+from vidlakost_tools.text import template
 from vidlakost_tools.tool import ToolError
 from vidlakost_tools.verilog.bench_end import FINISH, over
 from vidlakost_tools.verilog.syntax import ranged
@@ -326,13 +327,7 @@ endmodule
 {foot}"""
 
 
-USE = """
-  task use_{name};
-    begin
-{uses}
-    end
-  endtask
-"""
+USE = template(__file__, "text_use.sv")
 
 
 def in_test(pin: Pin, net: str, width: int) -> str:
@@ -409,7 +404,7 @@ def bench(system: System) -> str:
         one = Bench(placed.macro, placed.word, placed.name)
         declared += one.declared()
         power += one.power()
-        tasks += one.tasks() + USE.format(name=placed.name, uses=one.uses())
+        tasks += one.tasks() + USE.substitute(name=placed.name, uses=one.uses())
         links += chip_side(placed, one)
         again.append(one.again())
     links += [f".{name}()" for name, _ in seen_by_tester(system)]

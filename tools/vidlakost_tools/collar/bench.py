@@ -6,6 +6,7 @@ from vidlakost_tools.collar.pins import Macro, Pin, Word
 from vidlakost_tools.collar.planted import count, inputs, some_of
 from vidlakost_tools.collar.text import FOOT, HEAD, MARK, PLANTED, has_other_lanes, last_phase
 from vidlakost_tools.collar.watch import GATES, POWER
+from vidlakost_tools.text import template
 from vidlakost_tools.verilog.bench_end import FINISH, over
 from vidlakost_tools.verilog.syntax import ranged
 
@@ -60,75 +61,15 @@ BENCH = """{mark} {tool}: a testbench of {module}. It uses the chip's port, runs
   end
 endmodule
 {foot}"""
-DUT = """  {module} dut(
-`ifndef {gates}
-    .planted(planted), .planted_bit(planted_bit), .numbered(numbered),
-`endif
-{power}    .clk(clk), .test(test), .done(done), .fail(fail),
-    {links}
-  );
-"""
-TASKS = """
-  task {what}{n}(input [{top}:0] place, input [{high}:0] word);
-    begin
-{write}
-      @(negedge clk);
-{idle}
-    end
-  endtask
-"""
-READS = """
-  task see{n}(input [{top}:0] place, input [{high}:0] word);
-    begin
-{read}
-      @(negedge clk);
-{idle}
-      {wait}
-      if ({rdata} !== word) $fatal(1, "{name}: {rdata_name} reads %h at %0d, and %h was written", {rdata}, place, word);
-      @(negedge clk);
-    end
-  endtask
-"""
+DUT = template(__file__, "bench_dut.sv")
+TASKS = template(__file__, "bench_tasks.sv")
+READS = template(__file__, "bench_reads.sv")
 # in which order two words are read one behind another: no shift of it is the same
 ORDER = "0010011010111100"
 # the most cycles that an answer is waited for there
 LONGEST = 7
-FOLLOWS = """
-  task follow{n}(input [{high}:0] word);
-    reg [{top}:0] place;
-    reg [15:0] ahead;
-    reg [{longest}:0] behind;
-    reg [{longest}:1] fits;
-    begin
-      put{w}({width}'d0, word);
-      put{w}({width}'d{last}, ~word);
-      ahead = 16'b{order};
-      behind = {{{longest} + 1{{1'b0}}}};
-      fits = {{{longest}{{1'b1}}}};
-      for (turn = 0; turn < 16 + {longest}; turn = turn + 1) begin
-        place = ahead[0] ? {width}'d{last} : {width}'d0;
-{read}
-        if (turn > 15) begin
-{idle}
-        end
-        #4;
-        behind = behind << 1;
-{looks}
-        behind[0] = ahead[0];
-        ahead = ahead >> 1;
-        @(negedge clk);
-      end
-{told}
-    end
-  endtask
-"""
-PLACES = """    put{w}(0, {zeros});
-    for (spot = 0; spot < {width}; spot = spot + 1) put{w}(1 << spot, {zeros});
-    for (spot = 0; spot < {width}; spot = spot + 1) begin
-      put{w}(1 << spot, {ones});
-{sees}
-      put{w}(1 << spot, {zeros});
-    end"""
+FOLLOWS = template(__file__, "bench_follows.sv")
+PLACES = template(__file__, "bench_places.sv")
 # each bit of a pin of the chip's alone has another value for a cycle, so that what hangs on it is told from all else
 MOVES = """    for (spot = 0; spot < {width}; spot = spot + 1) begin
       {net} = {net} ^ ({width}'d1 << spot);
@@ -140,19 +81,7 @@ WALKS = """    for (spot = 0; spot < {bits}; spot = spot + 1) begin
       put{w}({last}, ~({bits}'d1 << spot));
 {sees}
     end"""
-LANES = """    for (lane = 0; lane <= {width}; lane = lane + 1) begin
-      put{n}(0, {zeros});
-      {lanes} = {width}'d1 << lane;
-      put{n}(0, {ones});
-      {expected} = {spread};
-      {lanes} = {all};
-      see{n}(0, {expected});
-      put{n}({last}, {ones});
-      {lanes} = {width}'d1 << lane;
-      put{n}({last}, {zeros});
-      {lanes} = {all};
-      see{n}({last}, ~{expected});
-    end"""
+LANES = template(__file__, "bench_lanes.sv")
 
 
 def under_power(lines: list[str]) -> str:
@@ -288,13 +217,13 @@ class Bench:
             told = {"n": self.port(second), "top": self.width - 1, "high": self.bits - 1, "name": self.name}
             idle = self.set_pins(second, None)
             if not second or self.macro.second_writes:
-                made += TASKS.format(**told, what="put", write=self.set_pins(second, True), idle=idle)
+                made += TASKS.substitute(**told, what="put", write=self.set_pins(second, True), idle=idle)
                 if self.macro.of("en", second=second):
-                    made += TASKS.format(**told, what="skip", write=self.set_pins(second, True, enabled=False), idle=idle)
+                    made += TASKS.substitute(**told, what="skip", write=self.set_pins(second, True, enabled=False), idle=idle)
             answers, latency = self.macro.answers(second), self.macro.latency(self.word)
             wait = f"repeat ({latency - 1}) @(negedge clk);\n      #4;" if latency > 1 else "#4;"
             read = self.set_pins(second, False)
-            made += READS.format(**told, read=read, idle=idle, wait=wait, rdata=self.inside(answers), rdata_name=answers.name)
+            made += READS.substitute(**told, read=read, idle=idle, wait=wait, rdata=self.inside(answers), rdata_name=answers.name)
             made += self.follows(second)
         return made
 
@@ -313,7 +242,7 @@ class Bench:
                 said = f"{told} behind {late} cycle{'s' * (late > 1)}: latency {late + registers} fits"
                 said += f", and the description says {latency + registers}"
                 fatal.insert(-1, f"      if (fits[{late}] === 1'b1) $fatal(1, \"{said}\");")
-        return FOLLOWS.format(
+        return FOLLOWS.substitute(
             n=self.port(second),
             w=self.port(second and macro.second_writes),
             high=self.bits - 1,
@@ -346,7 +275,7 @@ class Bench:
             for pin in macro.lane_pins(writes):
                 name = self.lanes_name(pin)
                 lines.append(
-                    LANES.format(
+                    LANES.substitute(
                         width=pin.width,
                         last=last,
                         n=put,
@@ -373,7 +302,7 @@ class Bench:
         for reads in (False, True)[: 1 + self.macro.has_second]:
             see = self.port(reads)
             sees += [f"      see{see}(1 << spot, {ones});", f"      see{see}(0, {zeros});"]
-        return PLACES.format(w=put, width=self.width, zeros=zeros, ones=ones, sees="\n".join(sees))
+        return PLACES.substitute(w=put, width=self.width, zeros=zeros, ones=ones, sees="\n".join(sees))
 
     def walks(self, put: str) -> str:
         """Words with one bit at 1, and beside them those with one at 0: every two bits differ in some, both ways."""
@@ -445,7 +374,7 @@ class Bench:
 
     def dut(self) -> str:
         """Its instance."""
-        return DUT.format(module=self.module, gates=GATES, power=self.power(), links=self.links())
+        return DUT.substitute(module=self.module, gates=GATES, power=self.power(), links=self.links())
 
     def most(self) -> int:
         """The most cycles of a test: no march has more than 256 operations and 64 pauses."""

@@ -44,6 +44,7 @@ from typing import Any, Iterator, Mapping
 
 from vidlakost_tools.files import look_first, marked, refuse_no_folder, write_own
 from vidlakost_tools.program import run, vectors_of
+from vidlakost_tools.text import template
 from vidlakost_tools.texts.chip import Chip, read_chip
 from vidlakost_tools.texts.faults import Primitive, Sense, place_of, read_primitive
 from vidlakost_tools.texts.march import Element, march_of
@@ -53,159 +54,10 @@ from vidlakost_tools.verilog import rule_of_ports, stream
 from vidlakost_tools.verilog.bench_end import FINISH, over
 
 # what one memory needs: its port, itself, its commands, and their comparison; `cycle` is 0 in the cycle of its reset
-PART = """
-  reg {bits_range}rdata = {bits}'h0;
-  wire en, we, fail;
-  wire {width_range}addr;
-  wire {bits_range}wdata;
-
-  // the memory: stored words by physical index, answers on their way, and cycles without a command
-  reg {bits_range}words [0:{last}];
-  reg {bits_range}pending [0:{latency}];
-  reg [31:0] idle = 32'd0;
-  reg {bits_range}own;
-  reg {width_range}index;
-  integer found;
-
-  // the commands of the march: a bit for a write, the address, the word
-  localparam COUNT = {count};
-  localparam CYCLES = {cycles};
-{commands}  reg {bits_range}expected [0:{latency}];
-  reg compares [0:{latency}];
-  integer cycle;
-  integer j = 0;
-  integer gap = 0;
-  integer i;
-  reg [5:0] port_differs = 6'b0;
-  reg read_differs = 1'b0;
-  reg is_command;
-  reg {bits_range}want;
-
-  // the index of an address: the scrambling's way back
-  function {width_range}index_of(input {width_range}a);
-    begin
-{way_back}
-    end
-  endfunction
-
-  // whether command k stands behind so many idle cycles: the pauses of the march
-  function integer gap_before(input integer k);
-    begin
-{gaps}
-    end
-  endfunction
-{fault}
-  task prepare;
-    begin
-      work_out;
-      for (i = 0; i <= {last}; i = i + 1) words[i] = {content};
-      for (i = 0; i <= {latency}; i = i + 1) begin
-        pending[i] = {bits}'h0;
-        expected[i] = {bits}'h0;
-        compares[i] = 1'b0;
-      end{closed}
-      gap = gap_before(0);
-    end
-  endtask
-
-  // the ports of this cycle beside the commands; a further cycle of age for the words that are awaited
-  task compare_ports;
-    begin
-      is_command = cycle > 0 && j < COUNT && gap == 0;
-      differs(0, en !== is_command, "en", {{63'h0, is_command}}, {{63'h0, en}});
-      if (is_command) begin
-        differs(1, we !== command[{entry}], "we", {{63'h0, command[{entry}]}}, {{63'h0, we}});
-        differs(2, addr !== command[{entry_address}:{bits}], "addr", {{{address_zeros}'h0, command[{entry_address}:{bits}]}},
-          {{{address_zeros}'h0, addr}});
-        if (command[{entry}])
-          differs(3, wdata !== command[{top_bit}:0], "wdata", {word_64_command}, {word_64_data});
-      end
-{done}      differs(5, fail !== (cycle > 0 && read_differs), "fail", {{63'h0, cycle > 0 && read_differs}}, {{63'h0, fail}});
-      compares[{latency}] = is_command && !command[{entry}];
-      expected[{latency}] = command[{top_bit}:0];
-      if (is_command) begin
-        j = j + 1;
-        step_on;
-        gap = gap_before(j);
-      end else if (cycle > 0 && gap > 0) gap = gap - 1;
-    end
-  endtask
-
-  task differs(input integer which, input wrong, input [8 * 5:1] port, input [63:0] wanted, input [63:0] got);
-    if (wrong && !port_differs[which]) begin
-      port_differs[which] = 1'b1;
-      $display("differs cycle %0d port %0s expected %0h got %0h", cycle, port, wanted, got);
-    end
-  endtask
-
-  // the word on rdata beside the one that its read expects
-  task compare_read;
-    begin
-      if (compares[0] && rdata !== expected[0] && !read_differs) begin
-        read_differs = 1'b1;
-        $display("read cycle %0d expected %0h returned %0h", cycle, expected[0], rdata);
-      end
-      for (i = 0; i < {latency}; i = i + 1) begin
-        compares[i] = compares[i + 1];
-        expected[i] = expected[i + 1];
-      end
-    end
-  endtask
-
-  // a cycle of the memory: its own answer goes to the end of those on their way
-  task memory_cycle;
-    begin
-      own = {bits}'h0;
-      if (en) begin
-        idle = 32'd0;
-        index = index_of(addr);
-        if ({{1'b0, index}} < {words}) begin
-{access}
-        end
-      end else begin
-        if (idle < 32'd{pause}) idle = idle + 32'd1;{rest}
-      end
-      for (i = 0; i < {latency} - 1; i = i + 1) pending[i] = pending[i + 1];
-      pending[{latency} - 1] = own;
-    end
-  endtask
-"""
+PART = template(__file__, "testbench_part.sv")
 DONE = """      differs(4, done !== (cycle >= CYCLES - 1), "done", {63'h0, cycle >= CYCLES - 1}, {63'h0, done});
 """
-TOP = """// A testbench of {name}_bist: a memory of {words} words of {bits} bits{planted}.
-`timescale 1ns / 1ns
-module {name}_tb;
-{over}  reg clk = 1'b0;
-  // it rises, so that what waits for an event sees one
-  reg reset = 1'b0;
-  wire done;
-  integer done_cycle = -1;
-{part}
-  {name}_bist dut(.clk(clk), .reset(reset), .rdata(rdata), .en(en), .we(we), .addr(addr), .wdata(wdata), .done(done),
-    .fail(fail));
-
-  initial begin
-    if ($test$plusargs("dump")) begin
-      $dumpfile("{name}_tb.vcd");
-      $dumpvars(0, {name}_tb);
-    end
-    prepare;
-    #1 reset = 1'b1;
-    for (cycle = 0; cycle < CYCLES; cycle = cycle + 1) begin
-      #4 compare_ports;
-      compare_read;
-      if (done && done_cycle < 0) done_cycle = cycle;
-      memory_cycle;
-      #1 clk = 1'b1;
-      #1 rdata = pending[0];
-      reset = 1'b0;
-      #4 clk = 1'b0;
-    end
-    if (done_cycle < 0) $display("fail %0d done none", fail);
-    else $display("fail %0d done %0d", fail, done_cycle);
-{ending}  end
-endmodule
-"""
+TOP = template(__file__, "testbench_top.sv")
 
 
 def way_back(memory: Memory) -> str:
@@ -367,48 +219,7 @@ def commands_of(options: Mapping[str, Any], tests: list[tuple[str, str, Memory]]
 
 
 HEAD = "// A testbench of "
-CHIP = """// A testbench of {name}: {count} memories in {groups} groups{planted}.
-`timescale 1ns / 1ns
-module {name}_tb;
-{over}  reg clk = 1'b0;
-  // it rises, so that what waits for an event sees one
-  reg reset = 1'b0;
-  wire done;
-  wire [{last}:0] fail;
-  integer now;
-  integer done_cycle = -1;
-  integer weights;
-  reg is_heavy = 1'b0;
-{parts}
-  {name} dut(.clk(clk), .reset(reset), .done(done), .fail(fail),
-    {links});
-
-  initial begin
-    if ($test$plusargs("dump")) begin
-      $dumpfile("{name}_tb.vcd");
-      $dumpvars(0, {name}_tb);
-    end
-{prepare}
-    #1 reset = 1'b1;
-    for (now = 0; now <= {done}; now = now + 1) begin
-{starts}
-      #4 weights = {weights};
-      if (weights > {budget} && !is_heavy) begin
-        is_heavy = 1'b1;
-        $display("weights cycle %0d %0d", now, weights);
-      end
-{turns}
-      if (done && done_cycle < 0) done_cycle = now;
-      #1 clk = 1'b1;
-      #1 reset = 1'b0;
-{answers}
-      #4 clk = 1'b0;
-    end
-    if (done_cycle < 0) $display("fail %b done none", fail);
-    else $display("fail %b done %0d", fail, done_cycle);
-{ending}  end
-endmodule
-"""
+CHIP = template(__file__, "testbench_chip.sv")
 # the names of a part that each unit has for itself; those of ports are then the ports of the chip
 OWN = set(
     "rdata en we fail addr wdata words pending idle own index found commands command expected compares cycle j gap i port_differs "
@@ -439,7 +250,7 @@ def chip_testbench(chip: Chip, unit: int | None, fault: tuple[str, Fault | None]
         parts.append(text.replace(declared, f"{declared}  assign fail_{number} = fail[{number}];\n", 1))
     ports = [f".{port}_{number}({port}_{number})" for number in numbers for port in ("rdata", "en", "we", "addr", "wdata")]
     differs = " || ".join(f"port_differs_{number} != 6'b0" for number in numbers)
-    return CHIP.format(
+    return CHIP.substitute(
         name=chip.name,
         count=len(chip.units),
         groups=chip.groups,
@@ -472,7 +283,7 @@ def part(memory: Memory, elements: list[Element], fault: Fault | None, content: 
     each_run = count // len(memory.backgrounds)
     entry = memory.width + memory.bits
     zeros = "" if memory.bits == 64 else f"{64 - memory.bits}'h0, "
-    return PART.format(
+    return PART.substitute(
         name=memory.name,
         words=memory.words,
         bits=memory.bits,
@@ -504,7 +315,7 @@ def part(memory: Memory, elements: list[Element], fault: Fault | None, content: 
 def testbench(
     memory: Memory, elements: list[Element], fault: tuple[str, Fault | None] | None, content: int, options: Mapping[str, Any]
 ) -> str:
-    return TOP.format(
+    return TOP.substitute(
         name=memory.name,
         words=memory.words,
         bits=memory.bits,

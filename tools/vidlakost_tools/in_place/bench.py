@@ -6,96 +6,11 @@ from vidlakost_tools.collar.bench import Bench, indented
 from vidlakost_tools.collar.planted import INPUTS, some_of
 from vidlakost_tools.collar.watch import GATES
 from vidlakost_tools.in_place.text import CYCLE, InPlace, length_of
+from vidlakost_tools.text import template
 from vidlakost_tools.verilog.syntax import ranged
 
-DUT = """  reg step = 1'b0;
-  wire told;
-  {module} dut(
-{power}    .{clk}(clk), .bist_in({{step, test}}), .bist_out({{told, fail, done}}),
-    {links}
-  );
-`ifndef {gates}
-  always @({wakes}) begin
-{planted}
-  end
-`endif
-"""
-FIRST = """
-`ifndef {gates}
-  // what stood at the collar when its test found the first wrong word
-  reg [{cycle}:0] age;
-  reg is_kept;
-  reg {word}given_ago [0:{latency}];
-  reg {word}taken_ago;
-  reg [{top}:0] kept;
-  integer ago;
-  always @(posedge clk) begin
-    taken_ago <= dut.collar.taken;
-    given_ago[0] <= dut.collar.given;
-    for (ago = 1; ago <= {latency}; ago = ago + 1) given_ago[ago] <= given_ago[ago - 1];
-    if (dut.collar.test !== 1'b1) begin
-      age <= 0;
-      is_kept <= 1'b0;
-    end else begin
-      age <= age + 1;
-      if (dut.collar.fail === 1'b1 && !is_kept) begin
-        is_kept <= 1'b1;
-        kept <= {{taken_ago, given_ago[{latency}], age}};
-      end
-    end
-  end
-  reg [{top}:0] first;
-  task steps(input level, input wanted);
-    begin
-      step = level;
-      waited = 0;
-      while (fail !== wanted) begin
-        @(negedge clk);
-        waited = waited + 1;
-        if (waited > 16) $fatal(1, "{name}: a step is not acknowledged");
-      end
-    end
-  endtask
-  // all of a first failure, twice, since its bits go round
-  task first_failure(input [6:0] which, input [31:0] from);
-    integer turn;
-    integer bit_of;
-    begin
-      planted = 3'd4;
-      planted_bit = which;
-      repeat (4) @(negedge clk);
-      test = 1'b1;
-{disturbed}      // no test is as long as the number of a cycle, so it begins with bits that differ
-      repeat (3) @(negedge clk);
-      dut.{count} = from;
-      age = from;
-      waited = 0;
-      while (done !== 1'b1) begin
-        if (waited > 2 && told !== 1'b1) $fatal(1, "{name}: told is %b while the test has the memory", told);
-        @(negedge clk);
-        waited = waited + 1;
-        if (waited > {most}) $fatal(1, "{name}: done did not come");
-      end
-      repeat (4) @(negedge clk);
-      for (turn = 0; turn < 2; turn = turn + 1) begin
-        for (bit_of = 0; bit_of < {length}; bit_of = bit_of + 1) begin
-          steps(1'b1, 1'b0);
-          first[bit_of] = told;
-          steps(1'b0, 1'b1);
-          if (done !== 1'b1) $fatal(1, "{name}: done is %b while the first failure is read", done);
-        end
-        if (first !== kept) $fatal(1, "{name}: the first failure is %h, and %h stood at the collar", first, kept);
-        if ((first[{top}:{middle}] ^ first[{middle} - 1:{low}]) !== {bits}'d1 << which)
-          $fatal(1, "{name}: expected and returned are %h, and bit %0d is wrong", first, which);
-      end
-{settled}      test = 1'b0;
-      planted = 3'd0;
-      repeat (8) @(negedge clk);
-      if ({{told, fail, done}} !== 3'd0) $fatal(1, "{name}: the bundle is %b behind the test", {{told, fail, done}});
-    end
-  endtask
-`endif
-"""
+DUT = template(__file__, "bench_dut.sv")
+FIRST = template(__file__, "bench_first.sv")
 
 
 class PlaceBench(Bench):
@@ -109,7 +24,7 @@ class PlaceBench(Bench):
 
     def dut(self) -> str:
         names = [name for name, _ in INPUTS]
-        return DUT.format(
+        return DUT.substitute(
             module=self.module,
             clk=self.macro.clk,
             power=self.power(),
@@ -121,7 +36,7 @@ class PlaceBench(Bench):
 
     def tasks(self) -> str:
         low = CYCLE
-        return super().tasks() + FIRST.format(
+        return super().tasks() + FIRST.substitute(
             name=self.word.name,
             gates=GATES,
             cycle=CYCLE - 1,

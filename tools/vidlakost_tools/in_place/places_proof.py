@@ -16,35 +16,13 @@ from vidlakost_tools.collar.pins import Pin, literal
 from vidlakost_tools.in_place.place_list import Places
 from vidlakost_tools.in_place.sequencer import PlaceTarget
 from vidlakost_tools.in_place.text import box
+from vidlakost_tools.text import beside, template
 from vidlakost_tools.tool import ToolError
 from vidlakost_tools.verilog import yosys
 
 # of one side: its boxes, its sources, its top, what its memories are called, and the name that the module gets
-SIDE = """design -reset
-read_verilog -lib {boxes}
-read_verilog {sources}
-hierarchy -check -top {top}
-proc
-memory_map
-flatten
-async2sync
-dffunmap
-opt_clean
-cd {top}
-{renamed}
-cd ..
-expose -evert -evert-dff {top}/c:*
-rename {top} {side}
-write_json {json}
-{left_out}design -stash {side}
-"""
-PROOF = """design -copy-from gold -as gold gold
-design -copy-from gate -as gate gate
-equiv_make gold gate equiv
-hierarchy -top equiv
-equiv_simple -undef
-equiv_status
-"""
+SIDE = template(__file__, "places_proof_side.sv")
+PROOF = beside(__file__, "places_proof_proof.sv")
 UNPROVED = re.compile(r"Unproven \$equiv .*?: \\?(\S+)_gold(?: \[(\d+)\])?")
 
 
@@ -94,7 +72,7 @@ class Proof:
         sources = places.before if side == "gold" else places.sources
         paths = {name: place.was if side == "gold" else place.path for name, place in places.places.items()}
         numbers = {name: number for number, name in enumerate(self.collars)}
-        return SIDE.format(
+        return SIDE.substitute(
             boxes=yosys.quoted(self.folder / "boxes.v"),
             sources=yosys.sources_of(sources),
             top=places.chip,

@@ -10,21 +10,10 @@ from vidlakost_tools.chip.system import Placed, System, groups_of
 from vidlakost_tools.collar.planted import also
 from vidlakost_tools.collar.text import PLANTED, last_phase
 from vidlakost_tools.in_place.text import CYCLE
+from vidlakost_tools.text import template
 from vidlakost_tools.verilog.syntax import ranged
 
-ABOUT = """// The memories of {name} are tested where they are, {count} in {groups} groups, one behind the other:
-{groups_told}
-//   start      of any clock: the test runs while it is 1, and what was found is kept until it falls
-//   ignore     a bit for each memory of whose first failure nothing is told; of any clock. Where it changes behind
-//              done, that of another memory is read, and unit is the new number as soon as all of it is there
-//   to_I, of_I the bundle of memory I, which is of any clock:
-{memories}
-//   test       1 while a test has memories
-//   done       the test is over, and of the first failure that is told all is read
-//   fail       a bit for each memory, the first one's lowest
-//   seen       a memory failed whose bit of ignore is 0; of the first of these, by its number, is told
-//   cycle      in which the wrong word stood on rdata; the last cycle of the reset of its own test is 0
-//   expected, returned, unit   the word that was due, that which came, and the number of the memory"""
+ABOUT = template(__file__, "sequencer_about.sv")
 @dataclasses.dataclass
 class PlaceTarget(Target):
     """The memories of a chip that stay in their places, each with a bundle."""
@@ -61,24 +50,10 @@ class PlaceTarget(Target):
         bits = self.units[number].memory.bits
         total = CYCLE + 2 * bits
         ones = f"{{{bits}'d1 << at_bit, {bits}'d0, 32'd{number + 7}}}"
-        return STAND_IN.format(i=number, half=3 + number % 5, over=20 + number, last=total - 1, kept=ones)
+        return STAND_IN.substitute(i=number, half=3 + number % 5, over=20 + number, last=total - 1, kept=ones)
 
 
-STAND_IN = """  initial forever #{half} clock_{i} = ~clock_{i};
-  reg [7:0] age_{i} = 8'd0;
-  reg [2:0] at_{i} = 3'd0;
-  reg on_{i} = 1'b0;
-  reg [{last}:0] word_{i} = {kept};
-  always @(posedge clock_{i}) begin
-    on_{i} <= to_{i}[0];
-    at_{i} <= {{at_{i}[1:0], to_{i}[1]}};
-    age_{i} <= !on_{i} ? 8'd0 : age_{i} == 8'd{over} ? age_{i} : age_{i} + 8'd1;
-    if (!on_{i}) word_{i} <= {kept};
-    else if (at_{i}[1] && !at_{i}[2]) word_{i} <= {{word_{i}[0], word_{i}[{last}:1]}};
-  end
-  assign of_{i} = {{age_{i} == 8'd{over} ? word_{i}[{last}] : on_{i},
-    planted && at_unit == {i} && age_{i} > 8'd9 && !at_{i}[2], age_{i} > 8'd{over} - 8'd1}};
-"""
+STAND_IN = template(__file__, "sequencer_stand_in.sv")
 
 
 def length(placed: Placed) -> int:
@@ -107,89 +82,7 @@ def of_places(system: System) -> PlaceTarget:
     return PlaceTarget(system.name, "", units, True, done, system=system, groups=groups)
 
 
-BODY = """  // start and ignore come of another clock, and so does what the memories say
-  always @(posedge clk) begin
-{synchronised}
-  end
-  // a run begins where each memory has left the one before it, and ends where start falls
-  wire is_quiet = (over_2 | told_2) == {none};
-  always @(posedge clk) begin
-    was_quiet <= is_quiet;
-    test <= start_2 | run | ~is_quiet;
-    if (!start_2) run <= 1'b0;
-    else if (is_quiet && was_quiet) run <= 1'b1;
-  end
-  // the groups, one behind the other, and a turn more in which the last bits of bad come in
-{turns}
-  wire at_end = turn == {end};
-  always @(posedge clk)
-    if (!run) begin
-      turn <= {first};
-      begun <= {none};
-      found <= {none};
-    end else begin
-      if (turn_over) turn <= turn + {one};
-      begun <= begins;
-      if (!at_end) found <= found | bad_2;
-    end
-  assign fail = found;
-  // the first memory that failed and is not to be ignored, and how long its words are
-{choice}
-  wire is_told = is_read & is_open & unit == chosen;
-  wire is_acknowledged = ~{bad};
-  // a bit of what it has kept: a step rises, the memory acknowledges it, the bit is taken, and the step falls
-  always @(posedge clk)
-    if (!run || !at_end) begin
-      reading <= 1'b0;
-      is_read <= 1'b0;
-      stage <= 2'd0;
-      steps <= {none};
-      done <= 1'b0;
-      seen <= 1'b0;
-    end else begin
-      done <= !reading & (!is_open | is_told);
-      seen <= !reading & is_told;
-      if (!reading) begin
-        if (is_open && !is_told) begin
-          reading <= 1'b1;
-          is_read <= 1'b0;
-          whose <= chosen;
-          part <= 2'd0;
-          at <= {at_bits}'d0;
-          cycle <= 32'd0;
-          expected <= {word}'d0;
-          returned <= {word}'d0;
-        end
-      end else
-        case (stage)
-          2'd0: begin
-            {step} <= 1'b1;
-            stage <= 2'd1;
-          end
-          2'd1: if (is_acknowledged) stage <= 2'd2;
-          2'd2: begin
-            if (part == 2'd0) cycle[{at_cycle}] <= {told};
-            if (part == 2'd1) expected{at_word} <= {told};
-            if (part == 2'd2) returned{at_word} <= {told};
-            {step} <= 1'b0;
-            stage <= 2'd3;
-          end
-          default:
-            if (!is_acknowledged) begin
-              stage <= 2'd0;
-              at <= is_last ? {at_bits}'d0 : at + {at_bits}'d1;
-              if (is_last) part <= part + 2'd1;
-              if (is_last && part == 2'd2) begin
-                // the number changes with the last bit, so that the words are never those of another memory
-                reading <= 1'b0;
-                is_read <= 1'b1;
-                unit <= whose;
-              end
-            end
-        endcase
-    end
-endmodule
-"""
+BODY = template(__file__, "sequencer_body.sv")
 
 
 class Sequencer:
@@ -288,7 +181,7 @@ class Sequencer:
 
     def body(self) -> str:
         one = self.count == 1
-        return BODY.format(
+        return BODY.substitute(
             synchronised="\n".join(self.synchronised()),
             turns="\n".join(self.turns()),
             choice="\n".join(self.choice()),
@@ -311,7 +204,7 @@ class Sequencer:
         members = [", ".join(names[one] for one in group) for group in target.groups]
         groups = [f"//   group {at}: {told}" for at, told in enumerate(members)]
         memories = [f"//              {number} {name}" for number, name in enumerate(names)]
-        about = ABOUT.format(
+        about = ABOUT.substitute(
             name=system.name,
             count=self.count,
             groups=len(groups),

@@ -9,6 +9,7 @@ import tempfile
 from typing import Sequence
 
 from vidlakost_tools.audit.fail_lanes import Found, Plan
+from vidlakost_tools.text import template
 from vidlakost_tools.verilog import replayed, yosys
 from vidlakost_tools.verilog.front_end import Plain
 from vidlakost_tools.verilog.replayed import Case
@@ -49,35 +50,14 @@ def differs_within(
     return Case(cycle, numbers.get("rdata", [0] * (cycle + 1)), resets, {name: numbers[name] for name in more if name in numbers})
 
 
-JUDGE = """module judge(input clk, input {word}rdata, output ok, output [31:0] cycle, output again);
-  reg [31:0] step;
-  reg [{late}:0] bad;
-  reg [{bits}:0] answer;
-  wire reset = step == 0;
-  wire fail;
-  {module} dut(.clk(clk), .reset(reset), .rdata(rdata), .fail(fail));
-  always @*
-    case (step)
-{answers}
-      default: answer = 0;
-    endcase
-  wire [{late}:0] known = reset ? 0 : bad;
-  always @(posedge clk) begin
-    step <= step + 1;
-    bad <= {{known, 1'b0}} | known[{late}] << {late} | (answer[{bits}] & (answer[{top}:0] != rdata));
-  end
-  assign ok = step < {first} | fail == known[{late}];
-  assign cycle = step;
-  assign again = reset;
-endmodule
-"""
+JUDGE = template(__file__, "model_checker_judge.sv")
 
 
 def judge_of(module: str, plan: Plan) -> str:
     """A module beside another that says in each cycle whether `fail` is as it has to be: 1 from the cycle behind the first wrong
     answer on, or so many later."""
     answers = "\n".join(f"      {cycle}: answer = {{1'b1, {plan.bits}'h{word:x}}};" for cycle, word in plan.answers.items())
-    return JUDGE.format(
+    return JUDGE.substitute(
         word=ranged(plan.bits),
         late=plan.late,
         bits=plan.bits,

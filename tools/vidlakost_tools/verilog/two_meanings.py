@@ -6,7 +6,7 @@ import dataclasses
 import re
 from typing import Any, Iterator
 
-from vidlakost_tools.text import LARGE_BYTES, lines_of, read_bytes, shown
+from vidlakost_tools.text import LARGE_BYTES, lines_of, read_bytes, shown, template
 from vidlakost_tools.tool import ToolError
 from vidlakost_tools.verilog.yosys_cells import place_of, short
 
@@ -15,14 +15,7 @@ from vidlakost_tools.verilog.yosys_cells import place_of, short
 WIRES = ("holds", "later", "alone", "open", "may", "taken")
 CELL = "  cell {kind} {name}$cell\n{pins}    connect \\Y {name}\n  end"
 PIN = "    parameter \\{pin}_SIGNED 0\n    parameter \\{pin}_WIDTH 1\n    connect \\{pin} {signal}\n"
-HOLDS = """  process {name}$process
-    assign {name} 1'0
-    switch {signal}
-      case {row}
-        assign {name} 1'1
-      case
-    end
-  end"""
+HOLDS = template(__file__, "two_meanings_holds.sv")
 
 
 @dataclasses.dataclass
@@ -53,7 +46,7 @@ class Rows:
         found = []
         for at, row in enumerate(self.rows):
             holds, later, alone, is_open, may, taken = (self.name(what, at) for what in WIRES)
-            found.append(HOLDS.format(name=holds, signal=self.signal, row=row))
+            found.append(HOLDS.substitute(name=holds, signal=self.signal, row=row))
             behind = [self.name(what, at + 1) for what in ("holds", "later")] if at + 1 < len(self.rows) else ["1'0", "1'0"]
             found += [gate("$or", later, *behind), gate("$not", alone, later), gate("$or", may, is_open, alone)]
             found.append(gate("$and", taken, holds, may))

@@ -6,6 +6,7 @@ import functools
 import re
 from typing import Iterator
 
+from vidlakost_tools.text import beside, template
 from vidlakost_tools.texts.march import Element
 from vidlakost_tools.texts.memory import Memory
 from vidlakost_tools.tool import ToolError
@@ -24,120 +25,7 @@ RESERVED = set(
 # what the architecture itself names
 OWN = set("ieee std_logic std_logic_vector unsigned work rtl std truth is_known known choose same is_true".split())
 
-FUNCTIONS = """  -- what Verilog says of a bit that is not known: it stays so in what it decides
-  function truth(value : boolean) return unsigned is
-  begin
-    if value then return "1"; else return "0"; end if;
-  end truth;
-  function is_known(value : unsigned) return boolean is
-  begin
-    for i in value'range loop
-      if value(i) /= '0' and value(i) /= '1' then return false; end if;
-    end loop;
-    return true;
-  end is_known;
-  function known(value : boolean; left, right : unsigned) return unsigned is
-  begin
-    if is_known(left) and is_known(right) then return truth(value); else return "X"; end if;
-  end known;
-  function any(value : unsigned) return unsigned is
-    variable all_known : boolean := true;
-  begin
-    for i in value'range loop
-      if value(i) = '1' then return "1"; end if;
-      if value(i) /= '0' then all_known := false; end if;
-    end loop;
-    if all_known then return "0"; else return "X"; end if;
-  end any;
-  function each(value : unsigned) return unsigned is
-  begin
-    return not any(not value);
-  end each;
-  function odd(value : unsigned) return unsigned is
-    variable made : unsigned(0 downto 0) := "0";
-  begin
-    for i in value'range loop
-      made(0) := made(0) xor value(i);
-    end loop;
-    return made;
-  end odd;
-  function is_true(value : unsigned) return boolean is
-    variable made : unsigned(0 downto 0);
-  begin
-    made := any(value);
-    return made(0) = '1';
-  end is_true;
-  function same(left, right : unsigned) return boolean is
-    variable a : unsigned(left'length - 1 downto 0) := left;
-    variable b : unsigned(right'length - 1 downto 0) := right;
-  begin
-    for i in a'range loop
-      if a(i) /= b(i) then return false; end if;
-    end loop;
-    return true;
-  end same;
-  function choose(condition, yes, no : unsigned) return unsigned is
-    variable decides : unsigned(0 downto 0);
-    variable a : unsigned(yes'length - 1 downto 0) := yes;
-    variable b : unsigned(no'length - 1 downto 0) := no;
-  begin
-    decides := any(condition);
-    if decides(0) = '1' then return a; end if;
-    if decides(0) = '0' then return b; end if;
-    for i in a'range loop
-      if a(i) /= b(i) then a(i) := 'X'; end if;
-    end loop;
-    return a;
-  end choose;
-  -- in VHDL-87 the bounds of a concatenation may lie below 0
-  function join(left, right : unsigned) return unsigned is
-    variable made : unsigned(left'length + right'length - 1 downto 0);
-  begin
-    made(made'length - 1 downto right'length) := left;
-    made(right'length - 1 downto 0) := right;
-    return made;
-  end join;
-  function equal(left, right : unsigned) return unsigned is
-  begin
-    return known(same(left, right), left, right);
-  end equal;
-  function less(left, right : unsigned) return unsigned is
-    variable a : unsigned(left'length - 1 downto 0) := left;
-    variable b : unsigned(right'length - 1 downto 0) := right;
-  begin
-    if not (is_known(a) and is_known(b)) then return "X"; end if;
-    for i in a'range loop
-      if a(i) /= b(i) then return truth(b(i) = '1'); end if;
-    end loop;
-    return "0";
-  end less;
-  function plus(left, right : unsigned) return unsigned is
-    variable unknown : unsigned(left'length - 1 downto 0) := (others => 'X');
-  begin
-    if is_known(left) and is_known(right) then return left + right; else return unknown; end if;
-  end plus;
-  function minus(left, right : unsigned) return unsigned is
-    variable unknown : unsigned(left'length - 1 downto 0) := (others => 'X');
-  begin
-    if is_known(left) and is_known(right) then return left - right; else return unknown; end if;
-  end minus;
-  function shifted(value, places : unsigned; is_left : boolean) return unsigned is
-    variable unknown : unsigned(value'length - 1 downto 0) := (others => 'X');
-    variable made : unsigned(value'length - 1 downto 0) := value;
-    variable p : unsigned(places'length - 1 downto 0) := places;
-    variable step : natural := 1;
-  begin
-    if not is_known(p) then return unknown; end if;
-    for i in 0 to p'high loop
-      if p(i) = '1' then
-        if is_left then made := shift_left(made, step); else made := shift_right(made, step); end if;
-      end if;
-      -- by as many places as it has a word is empty, and by more too
-      if step < made'length then step := step + step; end if;
-    end loop;
-    return made;
-  end shifted;
-"""
+FUNCTIONS = beside(__file__, "vhdl_text_functions.vhd")
 OWN |= set(re.findall(r"function (\w+)\(", FUNCTIONS))
 INFIX = {
     "&": "({} and {})",
@@ -335,86 +223,7 @@ def rows(elements: list[Element], memory: Memory, commands: list[str]) -> Iterat
         yield f"{ports}{int(cycle == last)}0{answer}"
 
 
-BENCH = """-- Compares the ports of {name} in each cycle with {file}, below its head a line a cycle: en, we, addr,
--- wdata, done, fail, and the word on rdata, where - is open. With the generic plant the lowest bit of rdata is wrong
--- in that cycle, and fail has to rise behind it.
-library ieee;
-use ieee.std_logic_1164.all;
-use std.textio.all;
-
-entity {bench} is
-  generic (plant : integer := -1);
-end {bench};
-
-architecture test of {bench} is
-  component {entity}
-    port (
-{ports}
-    );
-  end component;
-  for dut : {entity} use entity work.{entity};
-  signal clk, reset, en, we, done, fail : std_logic := '0';
-  signal rdata : {word};
-  signal addr : {address};
-  signal wdata : {word};
-begin
-  dut : {entity} port map (clk => clk, reset => reset, rdata => rdata, en => en, we => we, addr => addr, wdata => wdata,
-    done => done, fail => fail);
-
-  process
-    file table : text open read_mode is "{file}";
-    variable row : line;
-    variable wanted : string(1 to {length});
-    variable cycle : integer := 0;
-    variable wrong : integer := 0;
-    variable failed : boolean := false;
-    variable fails : boolean := false;
-
-    procedure compare(got : std_logic; place : integer; port_name : string) is
-      variable want : character := wanted(place);
-    begin
-      if port_name = "fail" and failed then want := '1'; end if;
-      if (want = '1' and got /= '1') or (want = '0' and got /= '0') then
-        report "differs cycle " & integer'image(cycle) & " port " & port_name;
-        wrong := wrong + 1;
-      end if;
-    end compare;
-  begin
-    if not endfile(table) then readline(table, row); end if;
-    while not endfile(table) loop
-      readline(table, row);
-      read(row, wanted);
-      if cycle = 0 then reset <= '1'; else reset <= '0'; end if;
-{drive}      if cycle = plant then
-        if wanted({lowest}) = '-' then
-          report "no answer stands on rdata in the cycle of plant" severity failure;
-        end if;
-        {low} <= not {low_wanted};
-      end if;
-      wait for 4 ns;
-      compare(en, 1, "en");
-      compare(we, 2, "we");
-{compares}      compare(done, {done}, "done");
-      compare(fail, {fail}, "fail");
-      fails := fail = '1';
-      wait for 1 ns;
-      clk <= '1';
-      wait for 5 ns;
-      clk <= '0';
-      if cycle = plant then failed := true; end if;
-      cycle := cycle + 1;
-    end loop;
-    assert cycle = {cycles} report "the cycles could not be read" severity failure;
-    assert wrong = 0 report "the ports are not as the march's commands say" severity failure;
-    if fails then
-      report "fail 1 done " & integer'image(cycle - 1);
-    else
-      report "fail 0 done " & integer'image(cycle - 1);
-    end if;
-    wait;
-  end process;
-end test;
-"""
+BENCH = template(__file__, "vhdl_text_bench.vhd")
 
 
 def vector_compare(name: str, width: int, first: int) -> str:
@@ -448,7 +257,7 @@ def bench(module: Module, elements: list[Element], memory: Memory) -> str:
     low = "rdata(0)" if wide else "rdata"
     names = Names(all_names(module))
     flip = f"        if wanted({lowest}) = '1' then {low} <= '0'; else {low} <= '1'; end if;\n"
-    text = BENCH.format(
+    text = BENCH.substitute(
         name=module.name,
         file=f"{module.name}_cycles.txt",
         bench=Names([]).of(f"{module.name}_tb"),

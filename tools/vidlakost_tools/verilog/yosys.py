@@ -11,7 +11,7 @@ import shutil
 import subprocess
 from typing import Any, Mapping
 
-from vidlakost_tools.text import LARGE_BYTES, SOURCE_BYTES, Path, lines_of, read_bytes, shown
+from vidlakost_tools.text import LARGE_BYTES, SOURCE_BYTES, Path, beside, lines_of, read_bytes, shown, template
 from vidlakost_tools.tool import ToolError, identifier, telling
 from vidlakost_tools.verilog import known_cells, members, simulation, two_meanings, unread
 from vidlakost_tools.verilog.vhdl import is_vhdl
@@ -267,101 +267,12 @@ def written_contents(module: dict[str, Any]) -> str:
 OPEN = "setundef -undriven -anyseq\n"
 # So is a bit beyond the word of which a part is selected: Yosys' own passes take any other bit for it. A part that is always
 # within its word stays as it is. And so is what is written to a part that begins below its word, which Yosys drops whole.
-BEYOND = """(* techmap_celltype = "$shiftx" *)
-module selected(A, B, Y);
-  parameter A_SIGNED = 0;
-  parameter B_SIGNED = 0;
-  parameter A_WIDTH = 1;
-  parameter B_WIDTH = 1;
-  parameter Y_WIDTH = 1;
-  input [A_WIDTH-1:0] A;
-  input [B_WIDTH-1:0] B;
-  output [Y_WIDTH-1:0] Y;
-  wire _TECHMAP_FAIL_ = !B_SIGNED && B_WIDTH < 16 && (1 << B_WIDTH) - 1 + Y_WIDTH <= A_WIDTH;
-  wire [Y_WIDTH-1:0] word, inside, open;
-  \\$shift #(.A_SIGNED(0), .B_SIGNED(B_SIGNED), .A_WIDTH(A_WIDTH), .B_WIDTH(B_WIDTH), .Y_WIDTH(Y_WIDTH))
-    words(.A(A), .B(B), .Y(word)), insides(.A({A_WIDTH{1'b1}}), .B(B), .Y(inside));
-  \\$anyseq #(.WIDTH(Y_WIDTH)) opens(.Y(open));
-  genvar at;
-  generate
-    for (at = 0; at < Y_WIDTH; at = at + 1) assign Y[at] = inside[at] ? word[at] : open[at];
-  endgenerate
-endmodule
-
-(* techmap_celltype = "$shift" *)
-module written(A, B, Y);
-  parameter A_SIGNED = 0;
-  parameter B_SIGNED = 0;
-  parameter A_WIDTH = 1;
-  parameter B_WIDTH = 1;
-  parameter Y_WIDTH = 1;
-  input [A_WIDTH-1:0] A;
-  input [B_WIDTH-1:0] B;
-  output [Y_WIDTH-1:0] Y;
-  wire _TECHMAP_FAIL_ = !B_SIGNED || B_WIDTH != 33;
-  wire [Y_WIDTH-1:0] far, near, open;
-  \\$shift #(.A_SIGNED(A_SIGNED), .B_SIGNED(1), .A_WIDTH(A_WIDTH), .B_WIDTH(34), .Y_WIDTH(Y_WIDTH))
-    fars(.A(A), .B({B[B_WIDTH-1], B}), .Y(far));
-  \\$shift #(.A_SIGNED(A_SIGNED), .B_SIGNED(1), .A_WIDTH(A_WIDTH), .B_WIDTH(32), .Y_WIDTH(Y_WIDTH))
-    nears(.A(A), .B(B[31:0]), .Y(near));
-  \\$anyseq #(.WIDTH(Y_WIDTH)) opens(.Y(open));
-  assign Y = far == near ? far : open;
-endmodule
-"""
+BEYOND = beside(__file__, "yosys_beyond.v")
 # A shift by 2 ** 31 or more leaves nothing, or the sign. Yosys' own passes take such a constant for a negative number, also
 # where it becomes one late, so the amount's bits from 31 on are looked at beside the shift, unless they are 0 already.
-FAR = """(* techmap_celltype = "$shl $shr $sshl $sshr" *)
-module far(A, B, Y);
-  parameter A_SIGNED = 0;
-  parameter B_SIGNED = 0;
-  parameter A_WIDTH = 1;
-  parameter B_WIDTH = 1;
-  parameter Y_WIDTH = 1;
-  parameter _TECHMAP_CELLTYPE_ = "";
-  parameter _TECHMAP_CONSTMSK_B_ = 0;
-  parameter _TECHMAP_CONSTVAL_B_ = 0;
-  input [A_WIDTH-1:0] A;
-  input [B_WIDTH-1:0] B;
-  output [Y_WIDTH-1:0] Y;
-  localparam [B_WIDTH-1:0] MAYBE = ~_TECHMAP_CONSTMSK_B_ | _TECHMAP_CONSTVAL_B_;
-  wire _TECHMAP_FAIL_ = B_WIDTH < 32 || MAYBE >> 31 == 0;
-  wire [Y_WIDTH-1:0] near;
-  wire fill = _TECHMAP_CELLTYPE_ == "$sshr" && A_SIGNED ? A[A_WIDTH-1] : 1'b0;
-  generate
-    if (_TECHMAP_CELLTYPE_ == "$shl" || _TECHMAP_CELLTYPE_ == "$sshl")
-      \\$shl #(.A_SIGNED(A_SIGNED), .B_SIGNED(0), .A_WIDTH(A_WIDTH), .B_WIDTH(31), .Y_WIDTH(Y_WIDTH))
-        nears(.A(A), .B(B[30:0]), .Y(near));
-    else if (_TECHMAP_CELLTYPE_ == "$shr")
-      \\$shr #(.A_SIGNED(A_SIGNED), .B_SIGNED(0), .A_WIDTH(A_WIDTH), .B_WIDTH(31), .Y_WIDTH(Y_WIDTH))
-        nears(.A(A), .B(B[30:0]), .Y(near));
-    else
-      \\$sshr #(.A_SIGNED(A_SIGNED), .B_SIGNED(0), .A_WIDTH(A_WIDTH), .B_WIDTH(31), .Y_WIDTH(Y_WIDTH))
-        nears(.A(A), .B(B[30:0]), .Y(near));
-  endgenerate
-  assign Y = |(B >> 31) ? {Y_WIDTH{fill}} : near;
-endmodule
-"""
+FAR = beside(__file__, "yosys_far.v")
 # What is divided by 0 is open. The cell itself stays, so that the pass goes over each once.
-BY_ZERO = """(* techmap_celltype = "$div $mod $divfloor $modfloor" *)
-module by_zero(A, B, Y);
-  parameter A_SIGNED = 0;
-  parameter B_SIGNED = 0;
-  parameter A_WIDTH = 1;
-  parameter B_WIDTH = 1;
-  parameter Y_WIDTH = 1;
-  parameter _TECHMAP_CELLTYPE_ = "";
-  input [A_WIDTH-1:0] A;
-  input [B_WIDTH-1:0] B;
-  output [Y_WIDTH-1:0] Y;
-  wire [B_WIDTH-1:0] one = |B ? B : 1;
-  wire [Y_WIDTH-1:0] word, open;
-  \\$anyseq #(.WIDTH(Y_WIDTH)) opens(.Y(open));
-  generate
-{cells}
-  endgenerate
-  assign Y = |B ? word : open;
-endmodule
-"""
+BY_ZERO = template(__file__, "yosys_by_zero.v")
 DIVIDED = """    if (_TECHMAP_CELLTYPE_ == "{kind}")
       \\{kind} #(.A_SIGNED(A_SIGNED), .B_SIGNED(B_SIGNED), .A_WIDTH(A_WIDTH), .B_WIDTH(B_WIDTH), .Y_WIDTH(Y_WIDTH))
         words(.A(A), .B(one), .Y(word));"""
@@ -627,7 +538,7 @@ def read(files: list[str], options: Mapping[str, Any], folder: pathlib.Path) -> 
     beyond, far, zero = folder / "beyond.v", folder / "far.v", folder / "zero.v"
     beyond.write_text(BEYOND)
     far.write_text(FAR)
-    zero.write_text(BY_ZERO.format(cells="\n".join(DIVIDED.format(kind=kind) for kind in DIVISIONS)))
+    zero.write_text(BY_ZERO.substitute(cells="\n".join(DIVIDED.format(kind=kind) for kind in DIVISIONS)))
     script = f"{begin}{dropped}setattr -unset init w:*\n{OPEN}techmap -map {quoted(beyond)} t:$shiftx t:$shift\n"
     script += f"techmap -map {quoted(far)} t:$shl t:$shr t:$sshl t:$sshr\n"
     script += f"techmap -max_iter 1 -map {quoted(zero)} {' '.join(f't:{kind}' for kind in DIVISIONS)}\ncheck -assert\n"

@@ -1,0 +1,32 @@
+
+chip/made: FORCE
+	@mkdir -p chip
+	@$(call kept,$@,{read} {written}) || {{ $(call again,$@); \
+	  (cd $(ROOT) && $(LAUNCHER) top {words} $(OUT)/chip --access{models}{mux} >/dev/null) && touch $@ && $(call done,$@,{read} {written}); }}
+
+chip/passed: chip/made FORCE
+	@$(call kept,$@,{written}) || {{ $(call again,$@); \
+	  (cd chip && $(call build,{name}_system_tb,passed) && $(call sound,{name}_system_tb) && $(call sides,{name}_system_tb)) && \
+	  touch $@ && $(call done,$@,{written}); }}
+
+# what is installed looks at the whole; of a macro it sees the ports alone, whoever wrote its model
+chip/lint.txt: chip/made FORCE
+ifneq ($(LINTED),)
+	@$(call kept,$@,{written} $@) || {{ $(call again,$@); \
+	  (cd chip && verilator --lint-only -Wall -Wno-DECLFILENAME $(LINT_MORE) --top-module {name}_system {modules} {name}_boxes.v \
+	  >lint.txt 2>&1 || {{ cat lint.txt; exit 1; }}) && $(call done,$@,{written} $@); }}
+else
+	@echo "{name}: verilator is not installed, so nothing is linted" | tee $@
+endif
+
+chip/synthesis.txt: chip/made FORCE
+ifneq ($(MADE),)
+	@$(call kept,$@,{written} $(CELLS) $@) || {{ $(call again,$@); \
+	  (cd chip && yosys -q -E synthesis.d -p "read_verilog $(SYNTH_MORE) -lib {name}_boxes.v; read_verilog $(SYNTH_MORE) {modules}; \
+	  synth -top {name}_system; $(mapped); check -assert; write_verilog -noattr {name}_system_gates.v; \
+	  tee -q -o synthesis.txt $(counted)" >synthesis.log 2>&1 || {{ tail -n 5 synthesis.log; exit 1; }}; \
+	  sed 's/^[^:]*: //' synthesis.d | xargs -n 1 >synthesis.txt.read) && \
+	  $(call done,$@,{written} $(CELLS) $@); }}
+else
+	@echo "{name}: yosys is not installed, so nothing is synthesized" | tee $@
+endif
