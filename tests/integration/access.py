@@ -8,8 +8,8 @@ import socket
 import subprocess
 
 from tests.integration.bench import Bench
-from tests.integration.cases import FILES
 from tests.integration.explore import comes
+from tests.integration.files import FILES
 
 MARCH = "{any(w0);up(r0,w1);up(r1,w0);down(r0,w1);down(r1,w0);any(r0)}"
 LATE = (

@@ -6,7 +6,7 @@ import pathlib
 import re
 import subprocess
 
-from tests.integration.cases import FILES
+from tests.integration.files import FILES
 from vidlakost_tools.program import ROOT
 
 # what is said after ten seconds, which a machine under load may take for any run

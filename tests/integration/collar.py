@@ -5,11 +5,10 @@ import concurrent.futures
 import os
 import pathlib
 import shutil
-
 from typing import List, Tuple
 
 from tests.integration.bench import Bench
-from tests.integration.cases import FILES
+from tests.integration.files import FILES
 from vidlakost_tools.collar import random_pins
 from vidlakost_tools.files import summed
 

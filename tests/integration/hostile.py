@@ -10,7 +10,7 @@ import time
 from typing import List, Tuple
 
 from tests.integration.bench import Bench
-from tests.integration.cases import FILES, REPORT
+from tests.integration.files import FILES, REPORT
 
 LOOSE = "memory 1\nname s # was\rname {name}\nwords 4 # was\rwords 8\nbits 1\n"
 LONG = REPORT.replace("content 00", "content " + "01" * 4000)

@@ -18,6 +18,7 @@ from tests.integration import (
     design as designs,
     ends,
     explore,
+    files,
     harm,
     hostile,
     search as searches,
@@ -146,7 +147,7 @@ def model_and_sim(bench: Bench) -> None:
     """The plain model answers as `sim` does, on random calls."""
     chance = random.Random(4)
     for _ in range(150):
-        march, primitive = chance.choice(cases.MARCHES), chance.choice(cases.PRIMITIVES)
+        march, primitive = chance.choice(files.MARCHES), chance.choice(cases.PRIMITIVES)
         elements = elements_of(march)
         verdict = random_instance(chance, primitive, "", elements)
         (bench.folder / "random.m").write_text(march)
@@ -195,9 +196,9 @@ def testbench_and_benchfault(bench: Bench) -> None:
     if not shutil.which("iverilog"):
         print("iverilog is not installed, so the testbench is not compared with benchfault")
         return
-    chance, memory = random.Random(8), parse_memory(cases.FILES["scrambled.mem"])
+    chance, memory = random.Random(8), parse_memory(files.FILES["scrambled.mem"])
     for number in range(10):
-        (bench.folder / "planted.m").write_text(chance.choice(cases.MARCHES))
+        (bench.folder / "planted.m").write_text(chance.choice(files.MARCHES))
         primitive, cells = chance.choice(cases.PRIMITIVES), [
             f"{word}.{chance.randrange(memory.bits)}" for word in chance.sample(range(memory.words), 2)
         ]
@@ -248,8 +249,8 @@ def places_of_rules(bench: Bench) -> None:
 def rows_and_reads(bench: Bench) -> None:
     """A read is located where `vectors` has it, and a summary's cycles are those of `bench`."""
     os.environ.update(VIDLAKOST_PROGRAM=bench.environment["VIDLAKOST_PROGRAM"])
-    memory = parse_memory(cases.FILES["scrambled.mem"])
-    elements = elements_of(cases.FILES["c.m"])
+    memory = parse_memory(files.FILES["scrambled.mem"])
+    elements = elements_of(files.FILES["c.m"])
     bench.run(["./vidlakost", "vectors", "c.m", "scrambled.mem", "scrambled.vectors"])
     rows = (bench.folder / "scrambled.vectors").read_text().splitlines()
     for cycle in (5, 17, 30, 41, len(rows)):

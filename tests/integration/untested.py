@@ -10,7 +10,8 @@ import re
 import shutil
 
 from tests.integration.bench import Bench
-from vidlakost_tools.collar.pins import Macro, Pin, Word, pin_width, read_macro
+from vidlakost_tools.collar.pin_lines import read_macro
+from vidlakost_tools.collar.pins import Macro, Pin, Word, pin_width
 from vidlakost_tools.collar.planted import some_of
 from vidlakost_tools.collar.untested import untested
 from vidlakost_tools.program import ROOT

@@ -16,11 +16,11 @@ from vidlakost_tools.audit.random_comparison import agree
 from vidlakost_tools.audit.waveform import code_of, shown, write_save
 from vidlakost_tools.texts.memory import parse_memory
 from vidlakost_tools.tool import ToolError
-from vidlakost_tools.verilog import clock_tree, model_checker, replayed, yosys, yosys_cells as cells
+from vidlakost_tools.verilog import clock_tree, model_checker, replayed, source_texts, yosys, yosys_cells as cells
 from vidlakost_tools.verilog.front_end import Plain
 from vidlakost_tools.verilog.replayed import Case, Test
+from vidlakost_tools.verilog.source_texts import blanked
 from vidlakost_tools.verilog.vhdl import literal_of, placed, with_defaults
-from vidlakost_tools.verilog.yosys import blanked
 from vidlakost_tools.verilog.yosys_operators import Drive, NotWords, Writer
 
 
@@ -354,21 +354,21 @@ class Texts(unittest.TestCase):
             for text in ("(* \\wand *) wire a;", "(* a = (1), wor *) wire a;", "(* hierconn *) wire \\u.x ;", f"{typed} x = s.a[2];", f"{typed} x = |s.a[2:1];", "struct packed { logic [W-1:0] w; } s; x = s.w[1];", "struct packed { logic [3:1] w; } s; x = s.w[0];", f"{typed} logic [W:0] a; x = s.a[1]; // [9:0] a"):
                 source.write_text(text)
                 with self.assertRaises(ToolError, msg=text):
-                    yosys.asked([str(source)])
+                    source_texts.asked([str(source)])
             for text in ("always @(*) begin end wand w;", "(* keep *) wire wor_x;", f"{typed} sub u(.a(x[i])); x = s.a[1];", "a = u.b[i];", "struct packed { logic [W-1:0] w; } s; x = s.w[0];"):
                 source.write_text(text)
-                self.assertEqual(yosys.asked([str(source)]), [], text)
+                self.assertEqual(source_texts.asked([str(source)]), [], text)
 
     def test_source_that_yosys_reads_otherwise(self) -> None:
         with tempfile.TemporaryDirectory() as name:
             source = pathlib.Path(name) / "a.v"
             source.write_bytes(b"`ifdef YO\rSYS\n`endif\n")
             with self.assertRaisesRegex(ToolError, "asks whether Yosys reads it"):
-                yosys.asked([str(source)])
+                source_texts.asked([str(source)])
             for content in (b"\x1f\x8bYOSYS", b"module a; endmodule \0 YOSYS"):
                 source.write_bytes(content)
                 with self.assertRaisesRegex(ToolError, "no source"):
-                    yosys.asked([str(source)])
+                    source_texts.asked([str(source)])
 
     def test_brace_in_a_name_hides_no_driver(self) -> None:
         wires = "module \\t\n  wire \\x}\n  attribute \\src \"a.v:3.1\"\n  wire width 2 \\y\n"
@@ -401,9 +401,9 @@ class Texts(unittest.TestCase):
             "wire \\p::x = 0; y = p::x;",
         ):
             with self.assertRaisesRegex(ToolError, "'a.v':1: .* is one with a name behind a backslash", msg=text):
-                yosys.refuse_one_name("a.v", text)
+                source_texts.refuse_one_name("a.v", text)
         for text in ("sub u(.a(b), .c(d)); wire \\u1.x ; x = 1.5;", 'wire \\a.b ; \\$_AND_ u(.A(a)); $display("a.b"); // a.b', "y = u.x;"):
-            yosys.refuse_one_name("a.v", text)
+            source_texts.refuse_one_name("a.v", text)
 
     def test_note_of_a_part_is_no_cell(self) -> None:
         cells = {"one": cell("$not", A=[2], Y=[3]), "part": cell("$scopeinfo")}

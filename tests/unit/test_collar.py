@@ -6,13 +6,14 @@ import io
 import os
 import pathlib
 import tempfile
-import unittest
 import unittest.mock
 
-from vidlakost_tools.collar import lane_machine as collar_lanes, pins as macro_pins
+from vidlakost_tools.collar import lane_machine as collar_lanes, pin_lines, pins as macro_pins
 from vidlakost_tools.collar.hold import holds_of
-from vidlakost_tools.collar.pins import Macro, Word, alike, read_macro
-from vidlakost_tools.collar.text import Names, collar
+from vidlakost_tools.collar.names import Names
+from vidlakost_tools.collar.pin_lines import read_macro
+from vidlakost_tools.collar.pins import Macro, Word, alike
+from vidlakost_tools.collar.text import collar
 from vidlakost_tools.collar.untested import told_pins, untested
 from vidlakost_tools.files import COMMENTS, is_own, marked, refuse_twins, write_own
 from vidlakost_tools.texts.march import elements_of
@@ -45,9 +46,9 @@ class Literals(unittest.TestCase):
         self.assertEqual((macro_pins.literal("3", 2), macro_pins.literal("4", 2)), ((2, 3), None))
 
     def test_bits(self) -> None:
-        self.assertEqual(macro_pins.bits_in("15:7,5"), [5, *range(7, 16)])
+        self.assertEqual(pin_lines.bits_in("15:7,5"), [5, *range(7, 16)])
         for text in ("", "5,7", "7:8", "5,5", "9999", "3:", ":3", "a"):
-            self.assertEqual(macro_pins.bits_in(text), [], msg=text)
+            self.assertEqual(pin_lines.bits_in(text), [], msg=text)
 
 
 class Lines(unittest.TestCase):

@@ -11,7 +11,8 @@ import unittest
 from typing import Iterator
 
 from vidlakost_tools.collar.model import model
-from vidlakost_tools.collar.pins import Macro, Pin, Word, read_macro
+from vidlakost_tools.collar.pin_lines import read_macro
+from vidlakost_tools.collar.pins import Macro, Pin, Word
 from vidlakost_tools.texts.memory import Memory
 
 WORDS, BITS, CYCLES = 4, 4, 60

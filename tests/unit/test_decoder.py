@@ -6,7 +6,7 @@ import pathlib
 import tempfile
 import unittest
 
-from tests.integration.cases import DECODER
+from tests.integration.files import DECODER
 from vidlakost_tools.texts import decoder
 from vidlakost_tools.texts.decoder import DecoderVerdict
 from vidlakost_tools.texts.march import elements_of

@@ -6,7 +6,7 @@ import socket
 import tempfile
 import unittest
 
-from vidlakost_tools.explorer import answers, caught, kept, search, server
+from vidlakost_tools.explorer import answers, caught, kept, questions, search, server
 from vidlakost_tools.pages import cycles_picture
 from vidlakost_tools.program import is_proved, sum_of_sources
 from vidlakost_tools.texts.faults import Array, read_primitive
@@ -24,14 +24,14 @@ class Words(unittest.TestCase):
         self.assertEqual(answers.in_words()["DRF"], "data retention fault: the cell loses a state in a pause")
 
     def test_a_long_line_is_shortened(self) -> None:
-        self.assertEqual(answers.shortened("a" * 400), "a" * 400)
-        self.assertEqual(answers.shortened("a" * 500), "a" * 200 + "..." + "a" * 200)
+        self.assertEqual(questions.shortened("a" * 400), "a" * 400)
+        self.assertEqual(questions.shortened("a" * 500), "a" * 200 + "..." + "a" * 200)
 
     def test_a_text_is_one_of_unicode(self) -> None:
-        self.assertEqual(answers.text_in({"march": "⇑(w0)"}, "march"), "⇑(w0)")
+        self.assertEqual(questions.text_in({"march": "⇑(w0)"}, "march"), "⇑(w0)")
         for wrong in (1, None, ["x"], "\ud800"):
-            with self.assertRaises(answers.Wrong):
-                answers.text_in({"march": wrong}, "march")
+            with self.assertRaises(questions.Wrong):
+                questions.text_in({"march": wrong}, "march")
 
 
 class Steps(unittest.TestCase):
@@ -78,13 +78,13 @@ class Searched(unittest.TestCase):
         asked: list[dict[str, object]] = [{}, {"search": 0}, {"search": "1"}]
         for question in asked:
             for answer in (searches.heard, searches.stop):
-                with self.assertRaises(answers.Wrong):
+                with self.assertRaises(questions.Wrong):
                     answer(question)
         for wrong in (1, "true", None):
-            with self.assertRaises(answers.Wrong):
+            with self.assertRaises(questions.Wrong):
                 searches.begin({"list": "TF\n", "decoder": wrong, "linked": False})
         for letter in ("", "AB", "/", "E"):
-            with self.assertRaises(answers.Wrong):
+            with self.assertRaises(questions.Wrong):
                 searches.begin({"list": "TF\n", "decoder": False, "linked": False, "march": "any(w0)", "letter": letter})
 
 

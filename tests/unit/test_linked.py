@@ -5,7 +5,7 @@ import pathlib
 import tempfile
 import unittest
 
-from tests.integration.cases import LINKED
+from tests.integration.files import LINKED
 from vidlakost_tools.texts import linked
 from vidlakost_tools.texts.linked import LinkVerdict
 from vidlakost_tools.texts.march import elements_of

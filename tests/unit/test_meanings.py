@@ -11,7 +11,7 @@ from unittest import mock
 from vidlakost_tools.audit import beside_icarus
 from vidlakost_tools.texts.memory import parse_memory
 from vidlakost_tools.tool import ToolError
-from vidlakost_tools.verilog import known_cells, members, simulation, two_meanings, unread, yosys
+from vidlakost_tools.verilog import known_cells, members, simulation, source_texts, two_meanings, unread, yosys
 from vidlakost_tools.verilog.front_end import Plain
 from vidlakost_tools.verilog.yosys_operators import Drive
 
@@ -214,18 +214,18 @@ class Bounds(unittest.TestCase):
 class Unclosed(unittest.TestCase):
     def test_what_is_never_closed_hides_nothing(self) -> None:
         for text in ('a " YOSYS', "a /* YOSYS", 'a "\\"" YOSYS " b'):
-            self.assertTrue(all("YOSYS" in one for one in yosys.blanked(text)), text)
+            self.assertTrue(all("YOSYS" in one for one in source_texts.blanked(text)), text)
 
     def test_attribute_that_is_never_closed(self) -> None:
         with self.assertRaisesRegex(ToolError, "'f':2: an attribute"):
-            yosys.refuse_attributes("f", "(*a" * 9 + "\n wand")
+            source_texts.refuse_attributes("f", "(*a" * 9 + "\n wand")
 
 
 class Simulation(unittest.TestCase):
     def told(self, body: str) -> list[str]:
         """What is warned of in a module, without the words that all warnings have."""
         text = f"module m(input clk, a, b, output reg y);\n{body}\nendmodule\n"
-        ends = [one.partition(";")[0].replace("'m.v':", "") for one in simulation.warnings_of("m.v", text, yosys.blanked(text)[0])]
+        ends = [one.partition(";")[0].replace("'m.v':", "") for one in simulation.warnings_of("m.v", text, source_texts.blanked(text)[0])]
         return ends
 
     def test_list_that_is_not_whole(self) -> None:

@@ -5,7 +5,8 @@ import pathlib
 import tempfile
 import unittest
 
-from vidlakost_tools.pages.spec_graph import Graph, Key, imported, split_names
+from vidlakost_tools.pages.spec_graph import Graph
+from vidlakost_tools.pages.spec_reader import Key, imported, split_names
 from vidlakost_tools.pages.trusted_pages import wrong_claims
 from vidlakost_tools.tool import ToolError
 

@@ -5,7 +5,8 @@ import pathlib
 import tempfile
 import unittest
 
-from vidlakost_tools.collar.pins import Word, read_macro
+from vidlakost_tools.collar.pin_lines import read_macro
+from vidlakost_tools.collar.pins import Word
 from vidlakost_tools.collar.vendor import refuse_other_ports
 from vidlakost_tools.texts.memory import parse_memory
 from vidlakost_tools.tool import ToolError

@@ -17,9 +17,9 @@ from vidlakost_tools.texts.memory import Memory
 from vidlakost_tools.tool import ToolError, telling
 from vidlakost_tools.verilog import confined
 from vidlakost_tools.verilog.front_end import Plain
+from vidlakost_tools.verilog.source_texts import blanked, with_included, with_members
 from vidlakost_tools.verilog.syntax import ranged
 from vidlakost_tools.verilog.vhdl import is_vhdl
-from vidlakost_tools.verilog.yosys import blanked, with_included, with_members
 
 CYCLES = 2000
 # in the first half of them the registers have other numbers after so many

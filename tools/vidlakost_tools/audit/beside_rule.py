@@ -14,8 +14,8 @@ from vidlakost_tools.audit.beside_icarus import Beside, call, compiled
 from vidlakost_tools.text import template
 from vidlakost_tools.verilog import port_judge
 from vidlakost_tools.verilog.port_judge import Cycle
+from vidlakost_tools.verilog.source_texts import with_members
 from vidlakost_tools.verilog.syntax import ranged
-from vidlakost_tools.verilog.yosys import with_members
 
 BENCH = template(__file__, "beside_rule_bench.sv")
 

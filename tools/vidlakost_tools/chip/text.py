@@ -11,8 +11,10 @@ from vidlakost_tools.chip.system import Part, Placed, System
 from vidlakost_tools.chip.watch import Watch
 from vidlakost_tools.collar import planted as collar_planted
 from vidlakost_tools.collar.bench import Bench, planted_inputs, shared
-from vidlakost_tools.collar.pins import RESERVED, Pin, bit_of
-from vidlakost_tools.collar.text import FOOT, HEAD, MARK, PLANTED, Names, halves, memory_name, own_ports, planted_names
+from vidlakost_tools.collar.names import MARK, Names, halves, own_ports, planted_names
+from vidlakost_tools.collar.pin_lines import RESERVED
+from vidlakost_tools.collar.pins import Pin, bit_of
+from vidlakost_tools.collar.text import FOOT, HEAD, PLANTED, memory_name
 from vidlakost_tools.collar.watch import GATES, POWER
 from vidlakost_tools.text import template
 from vidlakost_tools.tool import ToolError

@@ -7,8 +7,8 @@ from typing import TYPE_CHECKING, List
 
 from vidlakost_tools.chip.system import Placed, System
 from vidlakost_tools.collar.bench import Bench
+from vidlakost_tools.collar.names import halves
 from vidlakost_tools.collar.pins import Pin
-from vidlakost_tools.collar.text import halves
 from vidlakost_tools.collar.watch import GATES
 
 if TYPE_CHECKING:

@@ -2,9 +2,10 @@
 from __future__ import annotations
 
 from vidlakost_tools.collar.lane_machine import spread
+from vidlakost_tools.collar.names import MARK, last_phase
 from vidlakost_tools.collar.pins import Macro, Pin, Word
 from vidlakost_tools.collar.planted import count, inputs, some_of
-from vidlakost_tools.collar.text import FOOT, HEAD, MARK, PLANTED, has_other_lanes, last_phase
+from vidlakost_tools.collar.text import FOOT, HEAD, PLANTED, has_other_lanes
 from vidlakost_tools.collar.watch import GATES, POWER
 from vidlakost_tools.text import template
 from vidlakost_tools.verilog.bench_end import FINISH, over

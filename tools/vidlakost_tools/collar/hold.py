@@ -4,7 +4,8 @@ from __future__ import annotations
 
 import dataclasses
 
-from vidlakost_tools.collar.text import FOOT, HEAD, MARK
+from vidlakost_tools.collar.names import MARK
+from vidlakost_tools.collar.text import FOOT, HEAD
 from vidlakost_tools.text import template
 from vidlakost_tools.texts.march import Element
 from vidlakost_tools.texts.memory import Memory

@@ -1,8 +1,8 @@
 """A model of a macro by the pins that its collar uses, for simulation beside the collar alone."""
 from __future__ import annotations
 
+from vidlakost_tools.collar.names import MARK, Names
 from vidlakost_tools.collar.pins import Macro, Pin, Word, bit_of, pin_width
-from vidlakost_tools.collar.text import MARK, Names
 from vidlakost_tools.collar.watch import POWER
 from vidlakost_tools.verilog.syntax import ranged
 

@@ -7,7 +7,8 @@ import re
 from typing import Mapping
 
 from vidlakost_tools.collar.liberty import Found
-from vidlakost_tools.collar.pins import RESERVED, WIDEST, is_name
+from vidlakost_tools.collar.pin_lines import RESERVED, is_name
+from vidlakost_tools.collar.pins import WIDEST
 from vidlakost_tools.text import visible
 
 # what a pin is by its name in lower case, without the name or the number of its port; ~ where it is active low

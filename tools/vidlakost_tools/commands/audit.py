@@ -74,7 +74,7 @@ from vidlakost_tools.text import INPUT_BYTES, shown, visible
 from vidlakost_tools.texts.march import Element, march_of
 from vidlakost_tools.texts.memory import Memory, read_memory
 from vidlakost_tools.tool import Refused, ToolError, number_of, refuse_inputs, tell, telling, usage_of, words_of
-from vidlakost_tools.verilog import known_cells, open_run, yosys
+from vidlakost_tools.verilog import known_cells, open_run, source_texts
 from vidlakost_tools.verilog.front_end import ALL_GATES, Plain, plain_of
 
 
@@ -184,12 +184,12 @@ def commands_found(audit: Audit) -> Verdict:
         beside_icarus.refuse_sources(audit.files, audit.options.get("--liberty", []))
     plain = audit.module()
     refuse_inputs(audit.options.get("--vcd"), [("what is read", file) for file in plain.opened])
-    yosys.refuse_untold(audit.options.get("--vcd"), audit.files, "$")
+    source_texts.refuse_untold(audit.options.get("--vcd"), audit.files, "$")
     for warning in plain.warnings:
         tell(f"audit: {warning}")
     refuse_ports(audit, plain)
     if "--simulate" in audit.options:
-        cells = known_cells.cells_of(audit.options, [source for _, source in yosys.with_included(audit.files)])
+        cells = known_cells.cells_of(audit.options, [source for _, source in source_texts.with_included(audit.files)])
         print(beside_icarus.beside(beside_icarus.Beside(audit.files, plain, audit.full_pins(plain), audit.memory, cells)))
     found = Verdict(checked(audit, plain), plain)
     print(f"check: {found.line}")
@@ -384,7 +384,7 @@ def main(arguments: list[str]) -> int:
         raise ToolError(f"too few words, or options that don't go together\n{usage_of(__doc__)}")
     *files, march, memory_file = words
     pins = read_pins(options["--pins"]) if "--pins" in options else None
-    sources = yosys.included(files) if "--vcd" in options else files
+    sources = source_texts.included(files) if "--vcd" in options else files
     named = [("a source", file) for file in files] + [("the march", march), ("the memory", memory_file)]
     named += [("what is read", file) for file in sources]
     named += [("what is read", file) for file in [*options.get("--liberty", []), *([pins.file] if pins else [])]]

@@ -59,8 +59,10 @@ from vidlakost_tools.collar.bench import Bench
 from vidlakost_tools.collar.bus import KINDS
 from vidlakost_tools.collar.clock_mux import chosen_clocks, clock_mux
 from vidlakost_tools.collar.model import model
-from vidlakost_tools.collar.pins import Macro, Word, alike, read_macro
-from vidlakost_tools.collar.text import MARK, collar
+from vidlakost_tools.collar.names import MARK
+from vidlakost_tools.collar.pin_lines import read_macro
+from vidlakost_tools.collar.pins import Macro, Word, alike
+from vidlakost_tools.collar.text import collar
 from vidlakost_tools.collar.untested import told_pins, untested
 from vidlakost_tools.collar.vendor import modules_of, named, refuse_other_ports, undriven
 from vidlakost_tools.files import is_own, refuse_strangers, refuse_twins, write_own

@@ -34,7 +34,7 @@ import pathlib
 import shutil
 
 from vidlakost_tools.chip import system as soc
-from vidlakost_tools.collar.text import MARK
+from vidlakost_tools.collar.names import MARK
 from vidlakost_tools.files import write_own
 from vidlakost_tools.in_place import places_proof
 from vidlakost_tools.in_place.place_list import Places, inputs_of, read_places

@@ -16,18 +16,18 @@ from __future__ import annotations
 
 from vidlakost_tools.audit.pins import read_pins
 from vidlakost_tools.tool import refuse_inputs, tell, words_of, write_whole
-from vidlakost_tools.verilog import yosys
+from vidlakost_tools.verilog import source_texts, yosys
 from vidlakost_tools.verilog.front_end import plain_of
 
 
 def main(arguments: list[str]) -> int:
     (out, *files), options = words_of(__doc__, arguments, {"--top": 1, "--pins": 1, "--liberty": [], "--cells": 1}, 2)
     yosys.want()
-    read = [*yosys.included(files), *options.get("--liberty", []), *([options["--pins"]] if "--pins" in options else [])]
+    read = [*source_texts.included(files), *options.get("--liberty", []), *([options["--pins"]] if "--pins" in options else [])]
     refuse_inputs(out, [("what is read", file) for file in read])
     plain = plain_of(files, options, read_pins(options["--pins"]) if "--pins" in options else None)
     refuse_inputs(out, [("what is read", file) for file in plain.opened])
-    yosys.refuse_untold(out, files, "module ")
+    source_texts.refuse_untold(out, files, "module ")
     write_whole(out, plain.text())
     for warning in plain.warnings:
         tell(f"plain: {warning}")

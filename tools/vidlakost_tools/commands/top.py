@@ -51,8 +51,9 @@ from vidlakost_tools.chip.steps import plan
 from vidlakost_tools.chip.system import System
 from vidlakost_tools.collar.clock_mux import chosen_clocks, clock_mux
 from vidlakost_tools.collar.model import boxes, model
+from vidlakost_tools.collar.names import MARK
 from vidlakost_tools.collar.pins import Macro, alike
-from vidlakost_tools.collar.text import MARK, collar
+from vidlakost_tools.collar.text import collar
 from vidlakost_tools.collar.untested import Untested, told_pins, untested
 from vidlakost_tools.collar.vendor import modules_of, named, refuse_other_ports, undriven
 from vidlakost_tools.files import is_own, refuse_twins, write_own

@@ -10,13 +10,12 @@ import itertools
 import os
 import pathlib
 import re
-import tempfile
-from typing import Any, Callable, Dict, Sequence
+from typing import Sequence
 
 from vidlakost_tools.explorer.caught import Catch, catches
+from vidlakost_tools.explorer.questions import Folder, Object, Wrong, refusable, text_in
 from vidlakost_tools.pages import cycles_picture
 from vidlakost_tools.program import FORMATS, ROOT, ask, is_proved, run, settle, version, with_text
-from vidlakost_tools.refusals import explained as diagnose
 from vidlakost_tools.refusals.finding import CLASSES, SHOWN, Trier, word_start
 from vidlakost_tools.text import lines_of, read_text
 from vidlakost_tools.texts import decoder, in_word, linked, reasons
@@ -29,12 +28,9 @@ from vidlakost_tools.texts.old_names import apart
 from vidlakost_tools.texts.report import Report, Verdict, judged, read_report
 from vidlakost_tools.tool import Refused
 
-# an object of JSON
-Object = Dict[str, Any]
 
 # how long a call of the program may take, which answers in milliseconds where the machine is calm
 SECONDS = 60.0
-LONGEST_LINE = 400
 DYNAMIC = ["DYN1", "DYN2"]
 # what stands for the classes in a list, where it isn't the name itself
 WORDS = {"DYN1": "dyn1", "DYN2": "dyn2"}
@@ -46,77 +42,6 @@ PRIMITIVE = re.compile("<[01wrt;]{1,24}/[01]/[-01]>")
 LINK = re.compile(f"({'|'.join(linked.KINDS)}) {PRIMITIVE.pattern} {PRIMITIVE.pattern}")
 FIRST_MARCH = "{any(w0);up(r0,w1);down(r1,w0)}"
 FIRST_MEMORY = "memory 2\nname buffer\nwords 16\nbits 8\nlatency 1\nbackgrounds log\n"
-
-
-class Wrong(Exception):
-    """A question that the page doesn't ask."""
-
-
-def text_in(question: Object, name: str) -> str:
-    """A text of a question."""
-    text = question.get(name)
-    if not isinstance(text, str):
-        raise Wrong(f"{name} is no text")
-    try:
-        text.encode("utf-8")
-    except UnicodeEncodeError as error:
-        raise Wrong(f"{name} is no text of Unicode") from error
-    return text
-
-
-def shortened(line: str) -> str:
-    return line if len(line) <= LONGEST_LINE else f"{line[: LONGEST_LINE // 2]}...{line[-LONGEST_LINE // 2 :]}"
-
-
-class Folder:
-    """A folder of one question, in which each text has the name of what it is."""
-
-    def __init__(self) -> None:
-        self.held = tempfile.TemporaryDirectory(prefix="vidlakost-explore-")
-        self.path = pathlib.Path(self.held.name)
-
-    def __enter__(self) -> Folder:
-        return self
-
-    def __exit__(self, *ended: object) -> None:
-        self.held.cleanup()
-
-    def put(self, name: str, text: str) -> pathlib.Path:
-        path = self.path / name
-        path.write_bytes(text.encode("utf-8"))
-        return path
-
-    def refusal(self, error: Refused) -> Object:
-        """A refusal at its place, as the launcher explains it."""
-        told = diagnose.lines(error.words, error.said, error.status)
-        # a word may be as long as the text
-        lines = [shortened(line.replace(f"{self.path}{os.sep}", "")) for line in told]
-        found = re.match(r"(\w+)(?::(\d+):(\d+))?: (?:error|warning): (.*)", lines[0]) if lines else None
-        made: Object = {"said": error.said, "status": error.status}
-        if found is None:
-            return {**made, "what": error.said.split(" ")[0], "message": error.said, "notes": lines}
-        made.update(what=found[1], message=found[4], notes=[line.strip() for line in lines[1:]])
-        if found[2]:
-            made.update(
-                line=int(found[2]),
-                column=int(found[3]),
-                shown=lines[1:3],
-                notes=[line.strip() for line in lines[3:]],
-            )
-        return made
-
-
-def refusable(answer: Callable[[Folder, Object], Object]) -> Callable[[Object], Object]:
-    """The answer of a question whose texts may be refused."""
-
-    def asked(question: Object) -> Object:
-        with Folder() as folder:
-            try:
-                return answer(folder, question)
-            except Refused as error:
-                return {"refused": folder.refusal(error)}
-
-    return asked
 
 
 # ---- what the page begins with

@@ -8,9 +8,9 @@ import json
 import pathlib
 import re
 
-from vidlakost_tools.explorer import answers
-from vidlakost_tools.explorer.answers import Object
+from vidlakost_tools.explorer import answers, questions
 from vidlakost_tools.explorer.caught import catches
+from vidlakost_tools.explorer.questions import Object
 from vidlakost_tools.explorer.server import Page
 from vidlakost_tools.text import read_text
 from vidlakost_tools.texts.decoder import DecoderReport, decoded
@@ -90,8 +90,8 @@ def texts_in(question: Object, name: str) -> list[str]:
     """The texts of the marches of a question."""
     found = question.get(name)
     if not isinstance(found, list) or not 1 <= len(found) <= MOST_MARCHES:
-        raise answers.Wrong(f"{name} are one to {MOST_MARCHES} texts")
-    return [answers.text_in({"march": text}, "march") for text in found]
+        raise questions.Wrong(f"{name} are one to {MOST_MARCHES} texts")
+    return [questions.text_in({"march": text}, "march") for text in found]
 
 
 class Keeper:
@@ -102,10 +102,10 @@ class Keeper:
 
     def answer(self, question: Object) -> Object:
         """The page as a file; a march or the list that is refused is told, and a memory that is refused is kept so."""
-        marches, faults = texts_in(question, "marches"), answers.text_in(question, "list")
-        memory, place = answers.text_in(question, "memory"), question.get("place")
+        marches, faults = texts_in(question, "marches"), questions.text_in(question, "list")
+        memory, place = questions.text_in(question, "memory"), question.get("place")
         if not isinstance(place, int) or not 0 <= place < len(marches):
-            raise answers.Wrong("place is that of a march")
+            raise questions.Wrong("place is that of a march")
         told = self.beginning.told
         # where the program lies is nobody's concern to whom the file is given
         program: Object = {**told["program"], "path": ""}
@@ -120,7 +120,7 @@ class Keeper:
         }
         left = MOST_STEPS
         for march in marches:
-            with answers.Folder() as folder:
+            with questions.Folder() as folder:
                 path, listed = folder.put("march", march), folder.put("list", faults)
                 try:
                     report, of_decoder, links = judged(path, listed), decoded(path), linked(path)

@@ -15,7 +15,7 @@ from typing import Any, Optional
 
 from vidlakost_tools import program
 from vidlakost_tools.explorer import search_run
-from vidlakost_tools.explorer.answers import Folder, Object, Wrong, refusable, text_in
+from vidlakost_tools.explorer.questions import Folder, Object, Wrong, refusable, text_in
 from vidlakost_tools.texts.march import march_of
 from vidlakost_tools.texts.report import judged
 

@@ -8,7 +8,6 @@ answered; all others wait before these, without a thread, for a short time, and 
 from __future__ import annotations
 
 import hmac
-import http
 import http.server
 import io
 import json
@@ -21,7 +20,7 @@ import threading
 import time
 from typing import Any, Callable, Dict, Tuple
 
-from vidlakost_tools.explorer.answers import Object, Wrong
+from vidlakost_tools.explorer.questions import Object, Wrong
 from vidlakost_tools.tool import ToolError, tell
 
 CONNECTIONS, WAITING, CALLS = 32, 128, 2

@@ -8,7 +8,8 @@ import tempfile
 
 from vidlakost_tools.chip.system import Part, Placed, System
 from vidlakost_tools.collar.model import boxes
-from vidlakost_tools.collar.text import MARK, collar
+from vidlakost_tools.collar.names import MARK
+from vidlakost_tools.collar.text import collar
 from vidlakost_tools.files import marked
 from vidlakost_tools.in_place.bench import PlaceBench
 from vidlakost_tools.in_place.sequencer import PlaceTarget, Sequencer, length

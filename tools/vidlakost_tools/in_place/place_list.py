@@ -8,7 +8,8 @@ import re
 
 from vidlakost_tools.chip.system import System
 from vidlakost_tools.collar.liberty import Found
-from vidlakost_tools.collar.pins import is_name, literal
+from vidlakost_tools.collar.pin_lines import is_name
+from vidlakost_tools.collar.pins import literal
 from vidlakost_tools.collar.port_list import Ports
 from vidlakost_tools.collar.vendor import modules_of
 from vidlakost_tools.text import SOURCE_BYTES, lines_of, read_described, shown, words_in

@@ -7,7 +7,8 @@ from typing import Callable
 from vidlakost_tools.access import tap
 from vidlakost_tools.access.block import zero
 from vidlakost_tools.collar.liberty import Found
-from vidlakost_tools.collar.text import MARK, PLANTED
+from vidlakost_tools.collar.names import MARK
+from vidlakost_tools.collar.text import PLANTED
 from vidlakost_tools.in_place.place_list import Places
 from vidlakost_tools.in_place.places_text import BENCH, EACH, FIRST, SIGNALS, TAP, WATCHED
 from vidlakost_tools.in_place.sequencer import PlaceTarget, length

@@ -7,8 +7,9 @@ import dataclasses
 from vidlakost_tools.access.block import Port, Target, Unit, header, zero
 from vidlakost_tools.chip.steps import lanes_length
 from vidlakost_tools.chip.system import Placed, System, groups_of
+from vidlakost_tools.collar.names import last_phase
 from vidlakost_tools.collar.planted import also
-from vidlakost_tools.collar.text import PLANTED, last_phase
+from vidlakost_tools.collar.text import PLANTED
 from vidlakost_tools.in_place.text import CYCLE
 from vidlakost_tools.text import template
 from vidlakost_tools.verilog.syntax import ranged

@@ -6,8 +6,9 @@ import dataclasses
 
 from vidlakost_tools.access.block import Port
 from vidlakost_tools.collar import planted as collar_planted
+from vidlakost_tools.collar.names import MARK, Names, planted_names
 from vidlakost_tools.collar.pins import Macro, Word
-from vidlakost_tools.collar.text import FOOT, HEAD, MARK, PLANTED, Names, planted_names
+from vidlakost_tools.collar.text import FOOT, HEAD, PLANTED
 from vidlakost_tools.collar.watch import POWER
 from vidlakost_tools.verilog.syntax import ranged
 

@@ -6,9 +6,10 @@ import hashlib
 import re
 from typing import Tuple
 
-from vidlakost_tools.pages.spec_graph import Clause, Definition, Graph, Key
-from vidlakost_tools.tool import ToolError
+from vidlakost_tools.pages.spec_graph import Clause, Graph
+from vidlakost_tools.pages.spec_reader import Definition, Key
 from vidlakost_tools.pages.trusted_parts import HEADLINE_TITLE, INDEX_TITLE, OTHERS_TITLE, PARTS, Part
+from vidlakost_tools.tool import ToolError
 
 RUN = "bist_app::run"
 HEADLINE = "compilation"

@@ -10,7 +10,7 @@ from typing import Any
 
 from vidlakost_tools.audit.pins import Pins
 from vidlakost_tools.tool import ToolError
-from vidlakost_tools.verilog import yosys
+from vidlakost_tools.verilog import source_texts, yosys
 from vidlakost_tools.verilog.yosys_cells import is_refused, live_cells, place_of, refuse_cells
 
 INVERTERS = ("$not", "$logic_not", "$_NOT_")
@@ -172,7 +172,7 @@ def edges_of(tree: Tree) -> dict[str, Edge]:
     return found
 
 
-def settled(sources: yosys.Sources, pins: Pins | None, folder: pathlib.Path) -> tuple[str, Clock]:
+def settled(sources: source_texts.Sources, pins: Pins | None, folder: pathlib.Path) -> tuple[str, Clock]:
     """The script that reads the sources with every register at the rising edge of one input, and that input."""
     tree = Tree(sources.module)
     edges = edges_of(tree)

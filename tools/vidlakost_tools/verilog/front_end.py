@@ -12,7 +12,7 @@ from typing import Any
 from vidlakost_tools.audit.pins import Pins
 from vidlakost_tools.text import shown
 from vidlakost_tools.tool import ToolError
-from vidlakost_tools.verilog import clock_tree, known_cells, yosys
+from vidlakost_tools.verilog import clock_tree, known_cells, source_texts, yosys
 from vidlakost_tools.verilog.syntax import ranged
 from vidlakost_tools.verilog.vhdl import verilog_of
 from vidlakost_tools.verilog.yosys_operators import Drive, NotWords, Writer
@@ -98,7 +98,7 @@ def plain_of(files: list[str], options: dict[str, Any], pins: Pins | None = None
         return plain
 
 
-def sources_of(files: list[str], options: dict[str, Any], folder: pathlib.Path) -> yosys.Sources:
+def sources_of(files: list[str], options: dict[str, Any], folder: pathlib.Path) -> source_texts.Sources:
     """The sources as Yosys reads them; a module or a cell that is missing, or stands twice, is told by its name."""
     try:
         return yosys.read(files, options, folder)
