@@ -10,22 +10,46 @@ out where they are not installed, with a line that says so."""
 from __future__ import annotations
 
 import concurrent.futures
-import contextlib
-import io
-import multiprocessing
 import os
+import re
+import subprocess
 import sys
+from typing import List, Tuple
 
 from tests.integration.parts import PARTS, tried
+from vidlakost_tools.program import ROOT
 from vidlakost_tools.tool import ToolError, number_of, start, words_of
 
+TOLD = re.compile(r"(\d+) looks at the launcher and the tools, (\d+) differ\n\Z")
 
-def told(name: str, is_long: bool) -> tuple[str, int, int]:
-    """What a part prints, how many looks it takes, and how many of them are wrong."""
-    said = io.StringIO()
-    with contextlib.redirect_stdout(said):
-        bench = tried(name, is_long)
-    return said.getvalue(), bench.count, bench.wrong
+
+def one(name: str, is_long: bool) -> int:
+    """Tries a part in this process, and says what came of it."""
+    bench = tried(name, is_long)
+    print(f"{bench.count} looks at the launcher and the tools, {bench.wrong} differ")
+    return 1 if bench.wrong else 0
+
+
+def told(name: str, more: List[str]) -> Tuple[str, int, int]:
+    """What a part prints in a process of its own, how many looks it takes, and how many of them are wrong."""
+    words = [sys.executable, "-m", "tests.integration", name, *more]
+    done = subprocess.run(words, cwd=ROOT, stdout=subprocess.PIPE, stderr=subprocess.STDOUT, text=True, check=False)
+    found = TOLD.search(done.stdout)
+    if found is None:
+        return f"{name} ends with {done.returncode}: {done.stdout}\n", 0, 1
+    said = "".join(f"{name}: {line}\n" for line in done.stdout[: found.start()].splitlines())
+    return said, int(found[1]), int(found[2])
+
+
+def side_by_side(names: List[str], more: List[str], jobs: int) -> int:
+    """Tries the parts, so many at once."""
+    looks = wrong = 0
+    with concurrent.futures.ThreadPoolExecutor(jobs) as workers:
+        for said, count, differing in workers.map(lambda name: told(name, more), names):
+            print(said, end="", flush=True)
+            looks, wrong = looks + count, wrong + differing
+    print(f"{looks} looks at the launcher and the tools, {wrong} differ")
+    return 1 if wrong else 0
 
 
 def main() -> int:
@@ -36,14 +60,10 @@ def main() -> int:
     unknown = [name for name in names if name not in PARTS]
     if unknown:
         raise ToolError(f"there is no part {unknown[0]}: --list names them")
-    chosen, jobs = names or list(PARTS), number_of(options["--jobs"], "--jobs", 1) if "--jobs" in options else max(2, os.cpu_count() or 2)
-    looks = wrong = 0
-    with concurrent.futures.ProcessPoolExecutor(jobs, multiprocessing.get_context("spawn")) as workers:
-        for said, count, differing in workers.map(told, chosen, [("--long" in options)] * len(chosen)):
-            print(said, end="", flush=True)
-            looks, wrong = looks + count, wrong + differing
-    print(f"{looks} looks at the launcher and the tools, {wrong} differ")
-    return 1 if wrong else 0
+    if len(names) == 1:
+        return one(names[0], "--long" in options)
+    jobs = number_of(options["--jobs"], "--jobs", 1) if "--jobs" in options else max(2, os.cpu_count() or 2)
+    return side_by_side(names or list(PARTS), ["--long"] if "--long" in options else [], jobs)
 
 
 if __name__ == "__main__":
