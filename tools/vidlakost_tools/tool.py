@@ -107,12 +107,12 @@ class Answers:
         return getattr(self.inner, name)
 
 
-def command(name: str) -> None:
-    """Runs the tool of this name with the words of the call."""
+def command(name: str, *before: str) -> None:
+    """Runs the tool of this name with the words of the call, and some before them."""
 
     def main() -> int | None:
         tool = importlib.import_module(f"vidlakost_tools.commands.{name}")
-        return cast("Callable[[list[str]], int | None]", tool.main)(sys.argv[1:])
+        return cast("Callable[[list[str]], int | None]", tool.main)([*before, *sys.argv[1:]])
 
     start(main)
 

@@ -4,6 +4,7 @@ usage: vidlakost trace REPORT                    a line for each escape: the rea
        vidlakost trace REPORT --memory MEMORY    the same of a report of `inword`, whose backgrounds the memory has
        vidlakost trace REPORT --steps            each operation as well, with the cells behind it
        vidlakost trace REPORT PRIM ..            the escapes of these primitives alone
+       vidlakost trace REPORT --calls|--run      a call of `sim` for each escape, which replays it; --run runs it as well
        vidlakost trace --help
 
 An escape never acts; or it acts and is written over before a read of the victim; or it acts and is not read again; or,
@@ -11,12 +12,17 @@ inside a word, the write in which it acts sets the victim as the fault does. In 
 behind the cells stands what a read answers. Of a report of `decoder` a PRIM is the name of a fault, as 'both and', and the
 steps tell which of its two addresses is visited. Of a report of `linked` it is a link, as 'LF1 <0w1/0/-> <0w0/1/->', and the
 number of the primitive that acts stands for the `*`. Inside a word the cells are two bits, the aggressor's first, and an operation
-is the march's: in a background it writes or expects the two digits behind it. It ends with 1 where a read differs at an
-escape, which no report of the program has."""
+is the march's: in a background it writes or expects the two digits behind it. The calls name a file with the march, REPORT.m,
+which is written beside the report; a dynamic escape has none, and --run replays it in a plain model of the definition. It ends
+with 1 where a read differs at an escape, which no report of the program has. `vidlakost replay REPORT` is --calls."""
 from __future__ import annotations
 
+import os
+import pathlib
+import shlex
 from typing import Iterator, List, Tuple, Union
 
+from vidlakost_tools.program import ask
 from vidlakost_tools.text import Path
 from vidlakost_tools.texts import decoder, in_word, linked, reasons
 from vidlakost_tools.texts.decoder import DecoderReport, DecoderVerdict
@@ -25,7 +31,7 @@ from vidlakost_tools.texts.in_word import InWordReport
 from vidlakost_tools.texts.linked import LinkVerdict, LinkedReport, LinkedStep
 from vidlakost_tools.texts.memory import Memory, read_memory
 from vidlakost_tools.texts.report import Report, Verdict, read_report
-from vidlakost_tools.tool import ToolError, words_of
+from vidlakost_tools.tool import ToolError, usage_of, words_of, write_whole
 
 AnyReport = Union[Report, DecoderReport, LinkedReport, InWordReport]
 
@@ -87,8 +93,54 @@ def between_words(report: Report | DecoderReport) -> Told:
         yield verdict.primitive, f"{verdict.primitive} {verdict.kind}: {why}", steps[-1].differs, [shown(verdict, step) for step in steps]
 
 
+def march_file(report: Report, path: pathlib.Path) -> pathlib.Path:
+    """The file with the report's march, made beside the report; a file that holds another text stays as it is."""
+    march = path.with_name(path.name + ".m")
+    text = report.march + "\n"
+    if not os.path.lexists(march):
+        write_whole(march, text)
+    elif march.read_bytes() != text.encode():
+        raise ToolError(f"{march} is there and holds something else than the report's march; move it away first")
+    return march
+
+
+def outcome(verdict: Verdict, report: Report, words: List[str]) -> str:
+    """What a run in the array of an escape says: by the program, or by the model for a dynamic primitive."""
+    if not verdict.is_dynamic:
+        return ask(*words)
+    last = list(verdict.array().march(report.elements, verdict.directions))[-1]
+    return f"caught element {last.element} address {last.cell}" if last.differs else "passes"
+
+
+def replay(name: str, runs: bool) -> int:
+    """The calls of `sim` that replay the escapes, and what each says."""
+    path = pathlib.Path(name)
+    report = read_report(path)
+    march = march_file(report, path)
+    caught = 0
+    for verdict in report.escapes:
+        words = verdict.words(march)
+        if verdict.is_dynamic:
+            aggressor = "none" if verdict.aggressor is None else verdict.aggressor
+            print(
+                f"# {verdict.primitive} {verdict.kind} in {len(verdict.content)} cells {verdict.content}, aggressor "
+                f"{aggressor}, victim {verdict.victim}, directions {verdict.directions}"
+            )
+        else:
+            print("vidlakost", shlex.join(words))
+        if runs:
+            said = outcome(verdict, report, words)
+            print(f"  {said}")
+            caught += said != "passes"
+    return 1 if caught else 0
+
+
 def main(arguments: list[str]) -> int:
-    (name, *chosen), options = words_of(__doc__, arguments, {"--steps": 0, "--memory": 1}, 1)
+    (name, *chosen), options = words_of(__doc__, arguments, {"--steps": 0, "--memory": 1, "--calls": 0, "--run": 0}, 1)
+    if {"--calls", "--run"} & set(options):
+        if chosen or {"--steps", "--memory"} & set(options):
+            raise ToolError(f"--calls and --run stand alone behind a report\n{usage_of(__doc__)}")
+        return replay(name, "--run" in options)
     report = read_any(name)
     missing = [word for word in chosen if word not in {verdict.primitive for verdict in report.escapes}]
     if missing:
