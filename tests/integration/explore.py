@@ -349,7 +349,7 @@ def in_browser(bench: Bench) -> None:
         done = subprocess.run(
             [python, "-m", "tests.integration.browser", served.address],
             cwd=bench.folder,
-            env={**bench.environment, "PYTHONPATH": str(ROOT / "tools")},
+            env={**bench.environment, "PYTHONPATH": str(ROOT)},
             text=True,
             stdin=subprocess.DEVNULL,
             stdout=subprocess.PIPE,

@@ -49,6 +49,17 @@ def usage_of(doc: str | None) -> str:
     return found[0] if found else doc or ""
 
 
+# what a word with one dash has in front while the words are read
+PLAIN = "\0"
+
+
+def plain(value: Any) -> Any:
+    """A word, or some, as they came."""
+    if isinstance(value, list):
+        return [plain(one) for one in value]
+    return value[len(PLAIN) :] if isinstance(value, str) and value.startswith(PLAIN) else value
+
+
 class Words(argparse.ArgumentParser):
     """The words of a call and its options; what is wrong with them is a `ToolError` that shows the usage."""
 
@@ -84,10 +95,12 @@ def words_of(
     if "--help" in arguments or [*arguments] == ["-h"]:
         print(doc.strip())
         raise SystemExit(0)
-    found, unknown = Words(doc, allowed or {}).parse_known_intermixed_args([*arguments])
+    # a word with one dash is a word, and no option
+    kept = [f"{PLAIN}{word}" if word.startswith("-") and not word.startswith("--") else word for word in arguments]
+    found, unknown = Words(doc, allowed or {}).parse_known_intermixed_args(kept)
     if unknown:
         raise ToolError(f"there is no option {unknown[0]}\n{usage_of(doc)}")
-    options = vars(found)
+    options = {name: plain(value) for name, value in vars(found).items()}
     words = options.pop("words", [])
     if len(words) < least or most is not None and len(words) > most:
         raise ToolError(f"{'too few' if len(words) < least else 'too many'} words\n{usage_of(doc)}")
