@@ -138,6 +138,8 @@ def stepped(it: Looker) -> None:
     it.square("A", "both and").click()
     it.look("a fault of the decoder is told", lambda: "Covered by march A" in it.text("why"))
     it.square("A", "<0w1/0/->").click()
+    # what comes with the last answer is drawn before a key is pressed
+    it.look("the first one is told again", lambda: "says caught element 2 address 0 operation 0" in it.text("why"))
     it.browser.execute_script("arguments[0].focus()", it.square("A", "<0w1/0/->"))
     it.keys(Keys.ARROW_RIGHT, Keys.ENTER)
     it.look("squares are led by keys", lambda: "<1w0/1/->" in it.text("why"))
