@@ -39,12 +39,17 @@ def launcher(folder: pathlib.Path) -> list[Figure]:
 
 
 def compile_large(folder: pathlib.Path) -> list[Figure]:
-    """65,536 words of 64 bits with eight backgrounds: March SS with 1,024 primitives, and the longest code with none."""
-    files = write(folder, ss=SS, long=long_march(64), memory=memory_text("large_one", 65536, 64, EIGHT), many=LARGE, none="")
+    """65,536 words of 64 bits with eight backgrounds: March SS with 1,024 primitives, and the longest code with
+    none."""
+    files = write(
+        folder, ss=SS, long=long_march(64), memory=memory_text("large_one", 65536, 64, EIGHT), many=LARGE, none=""
+    )
     ss, longest, memory, many, none = files
     out = folder / "v", folder / "r"
     made = of_call("`compile`, March SS, 1,024 primitives", best(5, PROGRAM, "compile", ss, memory, many, *out))
-    made += of_call("`compile`, 256 operations in 64 elements", best(5, PROGRAM, "compile", longest, memory, none, *out))
+    made += of_call(
+        "`compile`, 256 operations in 64 elements", best(5, PROGRAM, "compile", longest, memory, none, *out)
+    )
     return [*made, Figure("`compile`, its module", out[0].stat().st_size, "bytes")]
 
 
@@ -61,7 +66,8 @@ def chip(folder: pathlib.Path) -> list[Figure]:
 
 
 def judge(folder: pathlib.Path) -> list[Figure]:
-    """The largest inputs: 1,024 primitives and a march of 256 operations in 64 elements, all but the last of order any."""
+    """The largest inputs: 1,024 primitives and a march of 256 operations in 64 elements, all but the last of order
+    any."""
     march, many, dynamic, none = write(folder, march=long_march(64), large=LARGE, dynamic=DYNAMIC, none="")
     report = folder / "report"
     made = of_call("`judge`, 1,024 static primitives", best(5, PROGRAM, "judge", march, many, report))
@@ -83,7 +89,8 @@ def vectors(folder: pathlib.Path) -> list[Figure]:
 
 
 def check(folder: pathlib.Path) -> list[Figure]:
-    """`check` beside `bench` on the same module, and controllers that `bench/peer` makes as one would write them by hand."""
+    """`check` beside `bench` on the same module, and controllers that `bench/peer` makes as one would write them by
+    hand."""
     march, memory, none = write(folder, march=C, memory=memory_text("wide", 24000, 64), none="")
     asked("compile", march, memory, none, folder / "wide_bist.v", folder / "report")
     bench = best(3, PROGRAM, "bench", march, memory)
@@ -128,7 +135,8 @@ PART = """  // part {0}
 
 
 def text_of(size: int) -> str:
-    """As many parts as the size has room for; the last word, `endmodule`, is missing, so that nothing is done with it."""
+    """As many parts as the size has room for; the last word, `endmodule`, is missing, so that nothing is done with
+    it."""
     parts, length = [HEAD], len(HEAD)
     while True:
         part = PART.format(len(parts))

@@ -99,7 +99,8 @@ def joins(folder: pathlib.Path) -> list[Figure]:
 
 
 def sources(folder: pathlib.Path) -> list[Figure]:
-    """What `plain` makes of random sources beside Icarus, which clocks the sources; as they are, and one place changed."""
+    """What `plain` makes of random sources beside Icarus, which clocks the sources; as they are, and one place
+    changed."""
     return [*counted("bench/sources"), *counted("bench/sources", "--damaged", "1", "300")]
 
 
@@ -109,13 +110,18 @@ def selftest(folder: pathlib.Path) -> list[Figure]:
 
 
 def gate(folder: pathlib.Path) -> list[Figure]:
-    """Every proof, test and wrong body from nothing, in minutes of a processor; calm by the pace of a loop, quiet by that of two crates."""
+    """Every proof, test and wrong body from nothing, in minutes of a processor; calm by the pace of a loop, quiet by
+    that of two crates."""
     log = ROOT / "build" / "gate.log"
     log.parent.mkdir(exist_ok=True)
     # what it says can be read meanwhile
     call = timed("bash", "-c", f"set -o pipefail; '{ROOT}/bench/gate' --anew 2>&1 | tee '{log}'")
     rows = [line.split() for line in call.said.splitlines()]
-    costs = {row[0]: [float(number) / 60 for number in row[1:]] for row in rows if re.fullmatch(r"[a-z_]+( +\d+){6}", " ".join(row))}
+    costs = {
+        row[0]: [float(number) / 60 for number in row[1:]]
+        for row in rows
+        if re.fullmatch(r"[a-z_]+( +\d+){6}", " ".join(row))
+    }
     if call.status or "whole" not in costs:
         raise SystemExit(f"bench/gate ends with {call.status}: {call.said[-2000:]}")
     whole, calm, quiet = costs.pop("whole"), costs.pop("calm"), costs.pop("quiet")
@@ -126,7 +132,10 @@ def gate(folder: pathlib.Path) -> list[Figure]:
         for cost, unit in zip((row[4], *row), ("minutes", *kinds))
     ]
     slow = whole[4] / quiet[4]
-    for word, cost in (("calm", {name: row[5] for name, row in costs.items()}), ("quiet", {name: row[4] / slow for name, row in costs.items()})):
+    for word, cost in (
+        ("calm", {name: row[5] for name, row in costs.items()}),
+        ("quiet", {name: row[4] / slow for name, row in costs.items()}),
+    ):
         dearest = sorted(cost, key=lambda name: -cost[name])[:3]
         parts.extend(Figure(f"its dearest crates, {word}", cost[name], f"`{name}`") for name in dearest)
     return parts

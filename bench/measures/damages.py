@@ -11,10 +11,28 @@ PLANTED = "VIDLAKOST_PLANTED"
 POWER = "USE_POWER_PINS"
 NAME = re.compile(r"(?<![\w'.$`\\])[A-Za-z_]\w*(?!\s*\()")
 DECLARED = re.compile(r"^\s*(input|output|inout|wire|reg)\b(?: (?:wire|reg))? *(?:\[(\d+):0\] )?(\w+)", re.MULTILINE)
-VALUE = re.compile(r"^\s*(?:assign \w+(?:\[\d+\])?|wire (?:\[\d+:0\] )?\w+|if \(.*\)|else if \(.*\)|\w+) *<?= (?=\S)|<= (?=\S)", re.MULTILINE)
+VALUE = re.compile(
+    r"^\s*(?:assign \w+(?:\[\d+\])?|wire (?:\[\d+:0\] )?\w+|if \(.*\)|else if \(.*\)|\w+) *<?= (?=\S)|<= (?=\S)",
+    re.MULTILINE,
+)
 LINK = re.compile(r"\.(\w+)\(")
 MODULE = re.compile(r"^module (\w+)\b.*?^endmodule", re.MULTILINE | re.DOTALL)
-WORDS = {"wire", "assign", "reg", "if", "else", "begin", "end", "case", "default", "endcase", "posedge", "always", "or", "test_"}
+WORDS = {
+    "wire",
+    "assign",
+    "reg",
+    "if",
+    "else",
+    "begin",
+    "end",
+    "case",
+    "default",
+    "endcase",
+    "posedge",
+    "always",
+    "or",
+    "test_",
+}
 
 
 @dataclasses.dataclass(frozen=True)
@@ -167,5 +185,7 @@ def of_files(paths: List[pathlib.Path], known: List[pathlib.Path]) -> List[Damag
     outputs: Dict[str, bool] = {}
     for path in known:
         for module in modules_of(path):
-            outputs.update({name: net.way == "output" for name, net in module.nets.items() if net.way in ("input", "output")})
+            outputs.update(
+                {name: net.way == "output" for name, net in module.nets.items() if net.way in ("input", "output")}
+            )
     return [one for path in paths for module in modules_of(path) for one in of_module(module, outputs)]

@@ -74,7 +74,8 @@ def area(folder: pathlib.Path) -> list[Figure]:
 
 
 def cells(folder: pathlib.Path) -> list[Figure]:
-    """Area and megahertz behind buffers, by vesta and OpenSTA: of seven orders of lines, which scatter by a fifth, the middle.
+    """Area and megahertz behind buffers, by vesta and OpenSTA: of seven orders of lines, which scatter by a fifth, the
+    middle.
 
     A row takes a minute and more."""
     if flow.missing():

@@ -126,7 +126,9 @@ def made(words: List[object], folder: pathlib.Path) -> None:
     environment = {**os.environ, "VIDLAKOST_PROGRAM": PROGRAM}
     call = [sys.executable, *map(str, words)]
     pipe = subprocess.PIPE
-    done = subprocess.run(call, cwd=ROOT, env=environment, stdout=pipe, stderr=subprocess.STDOUT, text=True, check=False)
+    done = subprocess.run(
+        call, cwd=ROOT, env=environment, stdout=pipe, stderr=subprocess.STDOUT, text=True, check=False
+    )
     if done.returncode:
         raise SystemExit(f"{' '.join(map(str, words))} ends with {done.returncode}: {done.stdout}")
 

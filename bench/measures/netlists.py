@@ -10,8 +10,8 @@ from measures.parts import Figure, Skipped, timed, want, write
 
 CELLS = os.path.join(flow.TECHNOLOGY, "osu018_stdcells.v")
 LIMIT = 100_000
-# The memory answers x to whatever is not a read, and its words are x at first. The last one has a bit that is always 1, so
-# that both fail where a run gets there.
+# The memory answers x to whatever is not a read, and its words are x at first. The last one has a bit that is always 1,
+# so that both fail where a run gets there.
 BENCH = """`timescale 1ns/1ps
 module bench;
   reg clk = 0, reset = 1;
@@ -51,10 +51,18 @@ endmodule
 
 
 def compared(folder: pathlib.Path, module: pathlib.Path, bits: int, words: int, latency: int) -> tuple[int, int]:
-    """The cycles that were compared, and those in which an output of the netlist has an x or differs from the module's."""
+    """The cycles that were compared, and those in which an output of the netlist has an x or differs from the
+    module's."""
     netlist = pathlib.Path(flow.netlist_of(str(module), "buffer_bist", 0, str(folder / "flow")))
     cells = re.sub(r"^module buffer_bist\b", "module netlist", netlist.read_text(), flags=re.M)
-    values = {"bits": bits - 1, "width": bits, "last": words - 1, "addr": max(words - 1, 1).bit_length() - 1, "latency": latency, "limit": LIMIT + 1}
+    values = {
+        "bits": bits - 1,
+        "width": bits,
+        "last": words - 1,
+        "addr": max(words - 1, 1).bit_length() - 1,
+        "latency": latency,
+        "limit": LIMIT + 1,
+    }
     files = write(folder, **{"netlist.v": cells, "bench.v": BENCH % values})
     built = timed("iverilog", "-g2005", "-s", "bench", "-o", folder / "run", *files, module, CELLS)
     said = timed(folder / "run").said if built.status == 0 else built.said
@@ -65,7 +73,8 @@ def compared(folder: pathlib.Path, module: pathlib.Path, bits: int, words: int, 
 
 
 def netlists(folder: pathlib.Path) -> list[Figure]:
-    """Cycles after the reset, at most 100,000, of netlists in Icarus; those with an x or another output than the module."""
+    """Cycles after the reset, at most 100,000, of netlists in Icarus; those with an x or another output than the
+    module."""
     want("iverilog", "yosys")
     if flow.missing():
         raise Skipped(f"{', '.join(flow.missing())} is missing")

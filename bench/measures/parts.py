@@ -68,7 +68,12 @@ def timed(*words: object, folder: pathlib.Path | None = None) -> Timed:
         before = [GNU_TIME, "-q", "-f", "%M", "-o", peak.name] if os.access(GNU_TIME, os.X_OK) else []
         start = time.perf_counter()
         done = subprocess.run(
-            [*before, *map(str, words)], cwd=folder, stdout=subprocess.PIPE, stderr=subprocess.STDOUT, text=True, check=False
+            [*before, *map(str, words)],
+            cwd=folder,
+            stdout=subprocess.PIPE,
+            stderr=subprocess.STDOUT,
+            text=True,
+            check=False,
         )
         seconds = time.perf_counter() - start
         held = peak.read().decode().split()

@@ -1,4 +1,5 @@
-"""Self-test modules beside Icarus and Verilator: a cycle of a run beside a plain memory, and the closed loop as a call."""
+"""Self-test modules beside Icarus and Verilator: a cycle of a run beside a plain memory, and the closed loop as a
+call."""
 from __future__ import annotations
 
 import pathlib
@@ -84,11 +85,14 @@ int main(int, char **words) {
 
 def has_verilator() -> bool:
     """Whether a Verilator is here that makes a whole program of a testbench."""
-    return shutil.which("verilator") is not None and bool(re.search(r"Verilator [5-9]", timed("verilator", "--version").said))
+    return shutil.which("verilator") is not None and bool(
+        re.search(r"Verilator [5-9]", timed("verilator", "--version").said)
+    )
 
 
 def microseconds(none: Timed, whole: Timed, cycles: int) -> float:
-    """The time of a cycle: a run of no cycles is taken off. One that does not end as a self-test has to is not measured."""
+    """The time of a cycle: a run of no cycles is taken off. One that does not end as a self-test has to is not
+    measured."""
     if whole.said != f"fail 0 done {cycles - 1}":
         raise SystemExit(f"a module fails, or does not run: {whole.said}")
     return max(whole.seconds - none.seconds, 1e-9) / cycles * 1e6
@@ -102,8 +106,8 @@ def of_loop(call: Timed) -> float:
 
 
 def ours(name: str, folder: pathlib.Path) -> tuple[float, int]:
-    """The time of a cycle of `benchfile`, and the cycles of its run, which ends with the first `done`. Taken off is a call
-    that reads the module and makes it run, and ends where the march is not there."""
+    """The time of a cycle of `benchfile`, and the cycles of its run, which ends with the first `done`. Taken off is a
+    call that reads the module and makes it run, and ends where the march is not there."""
     program, files = quick_program() or PROGRAM, [folder / "march", folder / "memory"]
     none = best(6, program, "benchfile", folder / f"{name}.v", folder / "absent", folder / "memory")
     if none.said != "absent 2":
@@ -116,7 +120,13 @@ def ours(name: str, folder: pathlib.Path) -> tuple[float, int]:
 def icarus(name: str, words: int, latency: int, cycles: int, folder: pathlib.Path) -> float:
     runs = []
     for count in (0, cycles):
-        values = {"name": name, "last": words - 1, "latency": latency, "cycles": count, "top": (words - 1).bit_length() - 1}
+        values = {
+            "name": name,
+            "last": words - 1,
+            "latency": latency,
+            "cycles": count,
+            "top": (words - 1).bit_length() - 1,
+        }
         (bench,) = write(folder, **{"bench.v": ICARUS % values})
         timed("iverilog", "-g2005", "-o", folder / "bench", bench, folder / f"{name}.v")
         runs.append(best(3, folder / "bench"))
@@ -126,18 +136,30 @@ def icarus(name: str, words: int, latency: int, cycles: int, folder: pathlib.Pat
 def verilator(name: str, latency: int, cycles: int, folder: pathlib.Path) -> tuple[float, float]:
     """The time of a cycle, and of building."""
     (main,) = write(folder, **{f"{name}.cpp": VERILATOR % {"name": name, "latency": latency}})
-    build = ["verilator", "--cc", "--exe", "--build", "-O3", "-CFLAGS", "-O3", "-Wno-fatal", "--top-module", f"{name}_bist"]
+    build = [
+        "verilator",
+        "--cc",
+        "--exe",
+        "--build",
+        "-O3",
+        "-CFLAGS",
+        "-O3",
+        "-Wno-fatal",
+        "--top-module",
+        f"{name}_bist",
+    ]
     built = timed(*build, "--Mdir", folder / f"{name}_made", folder / f"{name}.v", main)
     runs = [best(6, folder / f"{name}_made" / f"V{name}_bist", count) for count in (0, cycles)]
     return microseconds(runs[0], runs[1], cycles), built.seconds
 
 
 def clock(folder: pathlib.Path) -> list[Figure]:
-    """A cycle of a whole self-test: `benchfile`, with its box and the words that the march expects, and plain memories beside.
+    """A cycle of a whole self-test: `benchfile`, with its box and the words that the march expects, and plain memories
+    beside.
 
-    The simulators run the same module for the same cycles, from reset to `done`, beside a memory that is an array. Ours has
-    in it besides what `benchfile` does in each cycle: the box, which looks for an address's word and knows of faults and
-    pauses, and the march, whose word each answer is compared with."""
+    The simulators run the same module for the same cycles, from reset to `done`, beside a memory that is an array. Ours
+    has in it besides what `benchfile` does in each cycle: the box, which looks for an address's word and knows of
+    faults and pauses, and the march, whose word each answer is compared with."""
     made = []
     for name, march, memory, words, latency in MODULES:
         files = write(folder, march=march, memory=memory, none="")
@@ -167,7 +189,17 @@ def closed_loop(folder: pathlib.Path) -> list[Figure]:
         run = of_loop(best(3, "vvp", "-n", "tb", folder=folder))
         made.append(Figure("`bench`, 1,680,000 commands", loop, "s", "Icarus", run))
     if has_verilator():
-        build = ["verilator", "--binary", "-O3", "-Wno-fatal", "-Wno-lint", "--top-module", "wide_tb", "--Mdir", "built"]
+        build = [
+            "verilator",
+            "--binary",
+            "-O3",
+            "-Wno-fatal",
+            "-Wno-lint",
+            "--top-module",
+            "wide_tb",
+            "--Mdir",
+            "built",
+        ]
         built = timed(*build, *files, folder=folder).seconds
         run = of_loop(best(3, "./built/Vwide_tb", folder=folder))
         made.append(Figure("`bench`, 1,680,000 commands", loop, "s", "Verilator", run))

@@ -17,8 +17,8 @@ LATE = (
     "scramble a2 = p2 ^ 1\nbackgrounds 0 0a\n"
 )
 SIZED = (
-    "march {any(w0);up(r0)}\nmemory s words 4 bits 1 backgrounds 1 commands 8\ncovered <0/1/-> SF\nclass SF 1 covered 1\n"
-    "total 1 covered 1 escapes 0\n"
+    "march {any(w0);up(r0)}\nmemory s words 4 bits 1 backgrounds 1 commands 8\ncovered <0/1/-> SF\nclass SF 1 covered"
+    " 1\ntotal 1 covered 1 escapes 0\n"
 )
 FILES.update(
     {
@@ -39,7 +39,9 @@ FILES.update(
         "sized.report": SIZED,
         "again.report": SIZED.replace("backgrounds 1 commands 8", "backgrounds 4 commands 32"),
         "slow.mem": "memory 2\nname s\nwords 4\nbits 1\nlatency 4\n",
-        "judged.report": "march {any(w0);up(r0)}\ncovered <0/1/-> SF\nclass SF 1 covered 1\ntotal 1 covered 1 escapes 0\n",
+        "judged.report": (
+            "march {any(w0);up(r0)}\ncovered <0/1/-> SF\nclass SF 1 covered 1\ntotal 1 covered 1 escapes 0\n"
+        ),
     }
 )
 # the register of pair, whose state is the last digit
@@ -54,41 +56,155 @@ CALLS = [
     ("", [*READ_AT, "0", "1"], 0, "bits 0\n", ""),
     ("", [*READ_AT, "0", "0"], 2, "", "locate: 0 is expected and returned, so this read is not wrong"),
     ("", [*READ_AT, "0", "1", "--mux", "3"], 2, "", "locate: --mux 3 does not divide the 4 words of s"),
-    ("", ["tools/locate", "c.m", "s.mem", "--line", "unknown cycle 5 port bogus"], 2, "", "locate: 'unknown cycle 5 port bogus'"),
-    ("", ["tools/locate", "c.m", "s.mem", "--line", "differs cycle 5 port we"], 2, "", "locate: 'differs cycle 5 port we' is no"),
-    ("", ["tools/locate", "c.m", "s.mem", "--line", "unknown cycle 5 port we more"], 2, "", "locate: 'unknown cycle 5 port we more'"),
-    ("", ["tools/locate", "c.m", "s.mem", "--line", "differs cycle 5 port we expected 0 got no"], 2, "", "locate: 'differs cycle 5"),
-    ("", ["tools/locate", "c.m", "s.mem", "--line", "differs cycle 5 port we expected 0 got 0"], 2, "", "locate: the line got 0"),
+    (
+        "",
+        ["tools/locate", "c.m", "s.mem", "--line", "unknown cycle 5 port bogus"],
+        2,
+        "",
+        "locate: 'unknown cycle 5 port bogus'",
+    ),
+    (
+        "",
+        ["tools/locate", "c.m", "s.mem", "--line", "differs cycle 5 port we"],
+        2,
+        "",
+        "locate: 'differs cycle 5 port we' is no",
+    ),
+    (
+        "",
+        ["tools/locate", "c.m", "s.mem", "--line", "unknown cycle 5 port we more"],
+        2,
+        "",
+        "locate: 'unknown cycle 5 port we more'",
+    ),
+    (
+        "",
+        ["tools/locate", "c.m", "s.mem", "--line", "differs cycle 5 port we expected 0 got no"],
+        2,
+        "",
+        "locate: 'differs cycle 5",
+    ),
+    (
+        "",
+        ["tools/locate", "c.m", "s.mem", "--line", "differs cycle 5 port we expected 0 got 0"],
+        2,
+        "",
+        "locate: the line got 0",
+    ),
     ("", ["tools/locate", "c.m", "s.mem", "--line", "unknown cycle 5 port we"], 0, "operation 0 r0", ""),
-    ("", ["tools/locate", "pair.chip", "--chip", "--tdr", "3"], 2, "", "locate: the register is hexadecimal and has 13 digits"),
-    ("", ["tools/locate", "pair.chip", "--chip", "--tdr", "0" + TDR.format(3)], 2, "", "locate: the register is hexadecimal and"),
+    (
+        "",
+        ["tools/locate", "pair.chip", "--chip", "--tdr", "3"],
+        2,
+        "",
+        "locate: the register is hexadecimal and has 13 digits",
+    ),
+    (
+        "",
+        ["tools/locate", "pair.chip", "--chip", "--tdr", "0" + TDR.format(3)],
+        2,
+        "",
+        "locate: the register is hexadecimal and",
+    ),
     ("", ["tools/bitmap", "made.log", "access.m", "late.mem"], 0, "cell: 1 cell in 1 read", ""),
     ("", ["tools/bitmap", "made.log", "access.m", "turned.mem"], 2, "", "bitmap: in cycle 13 the expected word is 15"),
-    ("", ["tools/bitmap", "old.log", "access.m", "late.mem"], 2, "", "bitmap: old.log:1: an entry is 'cycle C expected X"),
+    (
+        "",
+        ["tools/bitmap", "old.log", "access.m", "late.mem"],
+        2,
+        "",
+        "bitmap: old.log:1: an entry is 'cycle C expected X",
+    ),
     ("", ["tools/diagnosis", "made.log", "access.m", "late.mem"], 0, "CFds at index", ""),
-    ("", ["tools/diagnosis", "made.log", "access.m", "turned.mem"], 2, "", "diagnosis: in cycle 13 the expected word is 15"),
+    (
+        "",
+        ["tools/diagnosis", "made.log", "access.m", "turned.mem"],
+        2,
+        "",
+        "diagnosis: in cycle 13 the expected word is 15",
+    ),
     ("", ["tools/diagnosis", "none.log", "access.m", "late.mem"], 2, "", "diagnosis: none.log: no line has"),
-    ("", ["tools/diagnosis", "made.log", "access.m", "late.mem", "--mux", "3"], 2, "", "diagnosis: --mux 3 does not divide"),
+    (
+        "",
+        ["tools/diagnosis", "made.log", "access.m", "late.mem", "--mux", "3"],
+        2,
+        "",
+        "diagnosis: --mux 3 does not divide",
+    ),
     ("", ["tools/diagnosis", "made.log", "pair.chip"], 2, "", "diagnosis: a log, a march and a memory are wanted"),
     ("", ["tools/access", "late.mem", "acc", "--apb", "--jtag", "--march", "access.m"], 0, "acc/late_tap.v", ""),
     ("", ["tools/access", "pair.chip", "acc2", "--apb", "--log", "4"], 0, "acc2/late_log.v", ""),
-    ("", ["tools/access", "odd.mem", "acc3", "--jtag", "--march", "access.m"], 0, "acc3/odd$.svf", "access: odd$ is no name in BSDL"),
+    (
+        "",
+        ["tools/access", "odd.mem", "acc3", "--jtag", "--march", "access.m"],
+        0,
+        "acc3/odd$.svf",
+        "access: odd$ is no name in BSDL",
+    ),
     ("", ["tools/access", "late.mem", "acc", "--jtag"], 2, "", "access: --jtag of one memory wants --march MARCH"),
     ("", ["tools/access", "pair.chip", "acc2", "--march", "access.m"], 2, "", "access: --march is of one memory"),
     ("", ["tools/access", "cross.chip", "acc4"], 2, "", "access: 'cross' is a word of SystemVerilog"),
     ("", ["tools/access", JOINS, PINS[0], "acc5"], 2, "", "access: no file of pins is of"),
-    ("", ["tools/access", JOINS, *PINS, "acc5"], 2, "", "access: acc5 has no joins_system.v and files.f: it is the folder that"),
+    (
+        "",
+        ["tools/access", JOINS, *PINS, "acc5"],
+        2,
+        "",
+        "access: acc5 has no joins_system.v and files.f: it is the folder that",
+    ),
     ("", ["tools/access", "examples/joins/many.list", "acc5"], 2, "", "access: of a list the files of pins are wanted"),
-    ("", ["tools/access", JOINS, *PINS, "acc5", "--log", "4"], 2, "", "access: --log is of a memory or a chip file alone"),
-    ("", ["tools/top", CAMERA, *PLACED, "placed1", "--in-place"], 0, "placed1/camera_access.v", "top: `? :` chooses the clock"),
-    ("", ["tools/top", CAMERA, *PLACED, "placed1", "--in-place", "--access"], 2, "", "top: --access is of a module that joins"),
+    (
+        "",
+        ["tools/access", JOINS, *PINS, "acc5", "--log", "4"],
+        2,
+        "",
+        "access: --log is of a memory or a chip file alone",
+    ),
+    (
+        "",
+        ["tools/top", CAMERA, *PLACED, "placed1", "--in-place"],
+        0,
+        "placed1/camera_access.v",
+        "top: `? :` chooses the clock",
+    ),
+    (
+        "",
+        ["tools/top", CAMERA, *PLACED, "placed1", "--in-place", "--access"],
+        2,
+        "",
+        "top: --access is of a module that joins",
+    ),
     ("", ["tools/access", CAMERA, *PLACED, "placed2", "--in-place", "--apb"], 0, "placed2/camera_apb.v", ""),
-    ("", ["tools/access", CAMERA, *PLACED, "placed2", "--in-place", "--each"], 2, "", "access: --in-place keeps the first failure of"),
+    (
+        "",
+        ["tools/access", CAMERA, *PLACED, "placed2", "--in-place", "--each"],
+        2,
+        "",
+        "access: --in-place keeps the first failure of",
+    ),
     ("", ["tools/access", CAMERA, "placed2", "--in-place"], 2, "", "access: of a list the files of pins are wanted"),
-    ("", ["tools/places", PLACES, CAMERA, *PLACED, "placed3"], 2, "", "places: placed3 has no camera_access.v in its files.f"),
-    ("", ["tools/places", "access.m", CAMERA, *PLACED, "placed3"], 2, "", "places: access.m:1: this text begins with 'places 1'"),
+    (
+        "",
+        ["tools/places", PLACES, CAMERA, *PLACED, "placed3"],
+        2,
+        "",
+        "places: placed3 has no camera_access.v in its files.f",
+    ),
+    (
+        "",
+        ["tools/places", "access.m", CAMERA, *PLACED, "placed3"],
+        2,
+        "",
+        "places: access.m:1: this text begins with 'places 1'",
+    ),
     ("", ["tools/places", PLACES, CAMERA], 2, "", "places: "),
-    ("", ["tools/sdc", "examples/joins/many.list", "acc5", "--mhz", "50"], 2, "", "sdc: of a list the files of pins are wanted"),
+    (
+        "",
+        ["tools/sdc", "examples/joins/many.list", "acc5", "--mhz", "50"],
+        2,
+        "",
+        "sdc: of a list the files of pins are wanted",
+    ),
     ("", ["tools/sdc", JOINS, *PINS, "acc5", "--mhz", "50", "--jtag"], 0, "acc5/joins_test.sdc", ""),
     ("", ["tools/schedule", JOINS, *PINS], 0, "cycles 430 to 492: the lanes of masked\n", ""),
     ("", ["tools/schedule", "examples/joins/many.list", *PINS], 0, " by the second port\ndone ", ""),
@@ -98,13 +214,31 @@ CALLS = [
     ("", [*WHOLE, "964", "00001000"], 0, "lanes of both by the second port, command 2 of lane 0, address 0\n", ""),
     ("", [*WHOLE, "557", "00000010", "f", "0"], 0, "memory left by the second port, cycle 26 of its test\n", ""),
     ("", [*WHOLE, "434", "00000010"], 2, "", "locate: in cycle 434 the lanes of another memory than left are tried"),
-    ("", [*WHOLE, "1011", "00000010"], 2, "", "locate: cycle 1011 is in no step of the test, which has the cycles 1 to 1010"),
+    (
+        "",
+        [*WHOLE, "1011", "00000010"],
+        2,
+        "",
+        "locate: cycle 1011 is in no step of the test, which has the cycles 1 to 1010",
+    ),
     ("", [*WHOLE, "88", "00100001"], 2, "", "locate: masked, high fail: whose is the cycle? Give one bit alone"),
-    ("", [*WHOLE, "--tdr", "00105020000000058f"], 0, "cycle 88 expected 00 returned 02\nmemory high, cycle 7 of its test\n", ""),
+    (
+        "",
+        [*WHOLE, "--tdr", "00105020000000058f"],
+        0,
+        "cycle 88 expected 00 returned 02\nmemory high, cycle 7 of its test\n",
+        "",
+    ),
     ("", [*WHOLE, "--tdr", "0105020000000058f"], 2, "", "locate: the register is hexadecimal and has 18 digits"),
     ("", ["tools/access", "late.mem", "acc", "--log", "65"], 2, "", "access: --log is 1 to 64, and not 65"),
     ("", ["tools/access", "late.mem", "acc", "--log", "0"], 2, "", "access: --log is a number from 1 on"),
-    ("", ["tools/access", "late.mem", "acc", "--jtag", "--march", "access.m", "--mhz", "0"], 2, "", "access: --mhz is a clock"),
+    (
+        "",
+        ["tools/access", "late.mem", "acc", "--jtag", "--march", "access.m", "--mhz", "0"],
+        2,
+        "",
+        "access: --mhz is a clock",
+    ),
     ("", ["tools/access", "missing.mem", "acc"], 2, "", "access: missing.mem: No such file"),
     ("", ["tools/sdc", "late.mem", "acc", "--mhz", "100", "--falling"], 0, "acc/late_normal.sdc", ""),
     ("", ["tools/sdc", "late.mem", "acc"], 2, "", "sdc: --mhz is wanted"),
@@ -112,25 +246,97 @@ CALLS = [
     ("", ["tools/sdc", "late.mem", "acc", "--mhz", "1", "--share", "1"], 2, "", "sdc: --share is below 1"),
     ("", ["tools/locate", "pair.chip", "--chip", "20", "011", "1", "2"], 2, "", "locate: FAILBITS has 2 digits"),
     ("", ["tools/locate", "pair.chip", "--chip", "20", "00"], 2, "", "locate: FAILBITS has 2 digits"),
-    ("", ["tools/locate", "pair.chip", "--chip", "9999", "01"], 2, "", "locate: in cycle 9999 no answer of a failing unit"),
+    (
+        "",
+        ["tools/locate", "pair.chip", "--chip", "9999", "01"],
+        2,
+        "",
+        "locate: in cycle 9999 no answer of a failing unit",
+    ),
     ("", ["tools/locate", "pair.chip", "--chip", "--tdr", TDR.format(3)], 0, "no wrong read was seen", ""),
     ("", ["tools/locate", "pair.chip", "--chip", "--tdr", TDR.format(1)], 0, "not done: the test still runs", ""),
     ("", ["tools/locate", "pair.chip", "--chip", "--tdr", "0x" + TDR.format(2)], 2, "", "locate: start is 0 there"),
-    ("", ["tools/locate", "pair.chip", "--chip", "--tdr", TDR.format("b")], 2, "", "locate: the bits of the state disagree"),
+    (
+        "",
+        ["tools/locate", "pair.chip", "--chip", "--tdr", TDR.format("b")],
+        2,
+        "",
+        "locate: the bits of the state disagree",
+    ),
     ("", ["tools/locate", "access.m", "late.mem", "--tdr", "f" * 30], 2, "", "locate: the register is hexadecimal"),
     ("", ["tools/locate", "access.m", "late.mem", "--tdr", "zz"], 2, "", "locate: the register is hexadecimal"),
-    ("", ["tools/locate", "access.m", "late.mem", "14", "--at", "done"], 2, "", "locate: behind --at stands fail alone"),
-    ("", ["tools/bitmap", "wrong.log", "access.m", "late.mem"], 2, "", "bitmap: wrong.log:1: an entry is 'cycle C expected X returned W'"),
+    (
+        "",
+        ["tools/locate", "access.m", "late.mem", "14", "--at", "done"],
+        2,
+        "",
+        "locate: behind --at stands fail alone",
+    ),
+    (
+        "",
+        ["tools/bitmap", "wrong.log", "access.m", "late.mem"],
+        2,
+        "",
+        "bitmap: wrong.log:1: an entry is 'cycle C expected X returned W'",
+    ),
     ("", ["tools/bitmap", "none.log", "access.m", "late.mem"], 2, "", "bitmap: none.log: no line has"),
-    ("", ["tools/bitmap", "right.log", "access.m", "late.mem"], 2, "", "bitmap: in cycle 13 the expected word is 0a, and this march"),
-    ("", ["tools/bitmap", "right.log", "access.m", "late.mem", "--mux", "3"], 2, "", "bitmap: --mux 3 does not divide the 8 words"),
+    (
+        "",
+        ["tools/bitmap", "right.log", "access.m", "late.mem"],
+        2,
+        "",
+        "bitmap: in cycle 13 the expected word is 0a, and this march",
+    ),
+    (
+        "",
+        ["tools/bitmap", "right.log", "access.m", "late.mem", "--mux", "3"],
+        2,
+        "",
+        "bitmap: --mux 3 does not divide the 8 words",
+    ),
     ("", ["tools/bitmap", "right.log", "pair.chip", "--unit", "2"], 2, "", "bitmap: --unit is 0 to 1, and not 2"),
-    ("", ["tools/bitmap", "right.log", "access.m", "late.mem", "--csv", "late.mem"], 2, "", "bitmap: 'late.mem' is what is read"),
-    ("", ["tools/bitmap", "right.log", "pair.chip", "--unit", "0", "--svg", "odd.mem"], 2, "", "bitmap: 'odd.mem' is what is read"),
-    ("", ["tools/bitmap", "right.log", "pair.chip", "--unit", "0", "--svg", "a", "--csv", "./a"], 2, "", "bitmap: './a' is the picture"),
-    ("", ["tools/collar", "eight.mem", "--macro", "ram.pins", "bus", "--through", "jtag"], 2, "", "collar: ram.pins: s has latency 1"),
-    ("", ["tools/collar", "latency.mem", "--macro", "ram.pins", "bus", "--through", "apb"], 0, "bus/s_collar.v", "collar: not tested: ce: whether"),
-    ("", ["tools/collar", "latency.mem", "--macro", "ram.pins", "bus", "--through", "usb"], 2, "", "collar: --through is one of"),
+    (
+        "",
+        ["tools/bitmap", "right.log", "access.m", "late.mem", "--csv", "late.mem"],
+        2,
+        "",
+        "bitmap: 'late.mem' is what is read",
+    ),
+    (
+        "",
+        ["tools/bitmap", "right.log", "pair.chip", "--unit", "0", "--svg", "odd.mem"],
+        2,
+        "",
+        "bitmap: 'odd.mem' is what is read",
+    ),
+    (
+        "",
+        ["tools/bitmap", "right.log", "pair.chip", "--unit", "0", "--svg", "a", "--csv", "./a"],
+        2,
+        "",
+        "bitmap: './a' is the picture",
+    ),
+    (
+        "",
+        ["tools/collar", "eight.mem", "--macro", "ram.pins", "bus", "--through", "jtag"],
+        2,
+        "",
+        "collar: ram.pins: s has latency 1",
+    ),
+    (
+        "",
+        ["tools/collar", "latency.mem", "--macro", "ram.pins", "bus", "--through", "apb"],
+        0,
+        "bus/s_collar.v",
+        "collar: not tested: ce: whether",
+    ),
+    (
+        "",
+        ["tools/collar", "latency.mem", "--macro", "ram.pins", "bus", "--through", "usb"],
+        2,
+        "",
+        "collar: --through is one of",
+    ),
     ("", ["tools/access", "late_model.v", "."], 2, "", "access: 'late_model.v' is what is read"),
     ("", ["tools/vhdl", "a.vhd", "."], 2, "", "vhdl: 'a.vhd' is what is read"),
     ("", ["tools/share", "late.mem", "3", "acc"], 0, "acc/late_share.v", ""),
@@ -154,10 +360,22 @@ CALLS = [
         "",
         "report: slow.mem: another description of s is given",
     ),
-    ("", ["tools/report", "--all", "judged.report", "--csv"], 2, "", "report: judged.report: this report is of `judge`"),
+    (
+        "",
+        ["tools/report", "--all", "judged.report", "--csv"],
+        2,
+        "",
+        "report: judged.report: this report is of `judge`",
+    ),
     ("", ["tools/report", "--all", "judged.report"], 2, "", "report: --all is with --csv or with --html FILE"),
     ("", ["tools/report", "--tester", "pair.chip", "--html", "pair.html"], 0, "", ""),
-    ("", ["tools/report", "--tester", "pair.chip", "--html", "./late.mem"], 2, "", "report: './late.mem' is what is read"),
+    (
+        "",
+        ["tools/report", "--tester", "pair.chip", "--html", "./late.mem"],
+        2,
+        "",
+        "report: './late.mem' is what is read",
+    ),
 ]
 # what is planted: an address of late, a bit, the value at which it is stuck, and the index of the address
 PLANTED = [(3, 0, 1, 6), (4, 4, 0, 0), (1, 2, 1, 5)]
@@ -182,7 +400,8 @@ LOGS: dict[str, list[str]] = {}
 
 
 def logged_alike(bench: Bench, kind: str, told: str) -> str:
-    """The log in what a testbench printed, which is the same behind each bus; the first line of a bus has the first read alone."""
+    """The log in what a testbench printed, which is the same behind each bus; the first line of a bus has the first
+    read alone."""
     lines = [line for line in told.splitlines() if line.startswith("cycle ") or line == "more"]
     last = LOGS.setdefault(lines[0] if lines else "", lines)
     bench.is_so(lines == last and len(lines) > 1, f"{kind}: the log is {lines}, and {last} by another bus")
@@ -217,10 +436,18 @@ def in_icarus(bench: Bench) -> None:
         print("iverilog is not installed, so what access writes is not run")
         return
     compiled(bench, "icarus")
-    found(bench, "icarus", "iverilog -g2012 -Wall -o tb {files} && printf 'exec vvp -n tb \"$@\"' >run && chmod +x run && ./run")
+    found(
+        bench,
+        "icarus",
+        "iverilog -g2012 -Wall -o tb {files} && printf 'exec vvp -n tb \"$@\"' >run && chmod +x run && ./run",
+    )
     files = "late_share_tb.sv late_share.v late_share_model.v late_bist.v"
-    done = bench.run(["bash", "-c", f"cd icarus && iverilog -g2012 -Wall -o tb {files} && vvp -n tb +planted +unit=1 +value=1"])
-    bench.is_so(done.stdout == "fail 10\nlate_share_tb: passed\n" and not done.stderr, f"share: {done.stdout}{done.stderr}")
+    done = bench.run(
+        ["bash", "-c", f"cd icarus && iverilog -g2012 -Wall -o tb {files} && vvp -n tb +planted +unit=1 +value=1"]
+    )
+    bench.is_so(
+        done.stdout == "fail 10\nlate_share_tb: passed\n" and not done.stderr, f"share: {done.stdout}{done.stderr}"
+    )
 
 
 def in_ghdl(bench: Bench) -> None:
@@ -236,7 +463,9 @@ def in_ghdl(bench: Bench) -> None:
         bench.is_so(told in done.stdout and not done.returncode, f"vhdl: {done.stdout}{done.stderr}")
     for spoil in ("sed -i 20q", "truncate -s 0"):
         done = bench.run(["bash", "-c", f"{spoil} vhdl/late_bist_cycles.txt; {call}"])
-        bench.is_so("could not be read" in done.stdout + done.stderr and done.returncode != 0, f"vhdl, {spoil}: {done.stdout}")
+        bench.is_so(
+            "could not be read" in done.stdout + done.stderr and done.returncode != 0, f"vhdl, {spoil}: {done.stdout}"
+        )
 
 
 def free_port() -> int:
@@ -255,7 +484,9 @@ def in_openocd(bench: Bench) -> None:
     files = "late_board.v late_tap.v late_cross.v late_access.v late_log.v late_model.v late_bist.v late_socket.cpp"
     build = f"verilator --cc --exe --build -Wall --prefix Vboard --top-module late_board --Mdir built {files}"
     done = bench.run(["bash", "-c", f"cd board && {build}"])
-    bench.is_so(not done.returncode and "Warning" not in done.stdout + done.stderr, f"board: {done.stdout}{done.stderr}")
+    bench.is_so(
+        not done.returncode and "Warning" not in done.stdout + done.stderr, f"board: {done.stdout}{done.stderr}"
+    )
     sound: list[str] = []
     stuck = ["0", "3", "0", "1"]
     for planted, wanted in ((sound, "0 errors"), (stuck, "READ = ")):
@@ -285,14 +516,18 @@ def played(bench: Bench, command: str, planted: list[str], folder: str = "board"
     config.write_text(re.sub(r"port \d+\n", f"port {port}\n", config.read_text(), count=1))
     model = subprocess.Popen(["built/Vboard", str(port), *planted], cwd=bench.folder / folder)
     bench.is_so(comes(lambda: is_listened(port)), f"built/Vboard does not listen at port {port}")
-    said = bench.run(["bash", "-c", f"cd {folder} && timeout 300 openocd -f late.cfg -c '{command}' -c shutdown 2>&1"]).stdout
+    said = bench.run(
+        ["bash", "-c", f"cd {folder} && timeout 300 openocd -f late.cfg -c '{command}' -c shutdown 2>&1"]
+    ).stdout
     model.terminate()
     model.wait()
     return said
 
 
 # a library of four cells, of which each takes a tenth of a nanosecond
-TABLES = "".join(f' {name}(scalar) {{ values("0.1"); }}' for name in ("cell_rise", "cell_fall", "rise_transition", "fall_transition"))
+TABLES = "".join(
+    f' {name}(scalar) {{ values("0.1"); }}' for name in ("cell_rise", "cell_fall", "rise_transition", "fall_transition")
+)
 CHECKS = "".join(f' {name}(scalar) {{ values("0.1"); }}' for name in ("rise_constraint", "fall_constraint"))
 
 
@@ -304,17 +539,26 @@ def gate(name: str, pins: str, function: str) -> str:
 
 
 def library() -> str:
-    kinds = "".join(f' timing() {{ related_pin : "C"; timing_type : {kind}_rising;{CHECKS} }}' for kind in ("setup", "hold"))
+    kinds = "".join(
+        f' timing() {{ related_pin : "C"; timing_type : {kind}_rising;{CHECKS} }}' for kind in ("setup", "hold")
+    )
     flop = (
-        'cell(DFF) { area : 4; ff(IQ, IQN) { clocked_on : "C"; next_state : "D"; } '
-        f"pin(D) {{ direction : input; capacitance : 0.01;{kinds} }} pin(C) {{ direction : input; clock : true; capacitance : 0.01; }} "
-        'pin(Q) { direction : output; function : "IQ"; '
-        f'timing() {{ related_pin : "C"; timing_type : rising_edge; timing_sense : non_unate;{TABLES} }} }} }}'
+        'cell(DFF) { area : 4; ff(IQ, IQN) { clocked_on : "C"; next_state : "D"; } pin(D) { direction : input;'
+        f' capacitance : 0.01;{kinds} }} pin(C) {{ direction : input; clock : true; capacitance : 0.01; }} pin(Q) {{'
+        ' direction : output; function : "IQ"; timing() { related_pin : "C"; timing_type : rising_edge; timing_sense'
+        f' : non_unate;{TABLES} }} }} }}'
     )
     cells = [gate("INV", "A", "!A"), gate("NAND", "AB", "!(A&B)"), gate("BUF", "A", "A"), flop]
-    units = 'delay_model : table_lookup; time_unit : "1ns"; voltage_unit : "1V"; current_unit : "1mA"; capacitive_load_unit(1, pf);'
+    units = (
+        'delay_model : table_lookup; time_unit : "1ns"; voltage_unit : "1V"; current_unit : "1mA";'
+        ' capacitive_load_unit(1, pf);'
+    )
     units += "".join(f" {side}_threshold_pct_{way} : 50;" for side in ("input", "output") for way in ("rise", "fall"))
-    units += "".join(f" slew_{side}_threshold_pct_{way} : {at};" for side, at in (("lower", 20), ("upper", 80)) for way in ("rise", "fall"))
+    units += "".join(
+        f" slew_{side}_threshold_pct_{way} : {at};"
+        for side, at in (("lower", 20), ("upper", 80))
+        for way in ("rise", "fall")
+    )
     return "\n".join([f"library(few) {{ {units}", *cells, "}", ""])
 
 
@@ -341,10 +585,12 @@ def in_opensta(bench: Bench) -> None:
     (bench.folder / "timing" / "read.tcl").write_text(STA)
     (bench.folder / "timing" / "cells.v").write_text(CELLS)
     script = (
-        "read_verilog late_access.v late_bist.v; synth -flatten -top late_access; dfflibmap -liberty few.lib; "
-        "abc -g NAND; techmap -map cells.v; iopadmap -bits -outpad BUF A:Y; splitnets; clean; write_verilog -noattr gates.v"
+        "read_verilog late_access.v late_bist.v; synth -flatten -top late_access; dfflibmap -liberty few.lib; abc -g"
+        " NAND; techmap -map cells.v; iopadmap -bits -outpad BUF A:Y; splitnets; clean; write_verilog -noattr gates.v"
     )
-    done = bench.run(["bash", "-c", f"cd timing && yosys -q -p '{script}' >/dev/null && sta -no_splash -exit read.tcl 2>&1"])
+    done = bench.run(
+        ["bash", "-c", f"cd timing && yosys -q -p '{script}' >/dev/null && sta -no_splash -exit read.tcl 2>&1"]
+    )
     bench.is_so(done.stdout == "the checks are done\n", f"sta: {done.stdout}{done.stderr}")
     call = "sed -i /set_output_delay/d late_test.sdc && sta -no_splash -exit read.tcl 2>&1"
     told = bench.run(["bash", "-c", f"cd timing && {call}"]).stdout
@@ -374,7 +620,12 @@ def kept(bench: Bench) -> None:
         bench.look(words, 2, "", f"{tool}: kept/{name} is there")
         bench.is_so(mine.read_text() == changed, f"{tool} wrote through a link")
         path.unlink()
-    bench.look(["bash", "-c", "cp a.report kept/r && ln -s none kept/r.m && tools/replay kept/r"], 2, "", "replay: kept/r.m: No such file")
+    bench.look(
+        ["bash", "-c", "cp a.report kept/r && ln -s none kept/r.m && tools/replay kept/r"],
+        2,
+        "",
+        "replay: kept/r.m: No such file",
+    )
     bench.is_so(not (bench.folder / "kept" / "none").exists(), "replay wrote through a link")
 
 
@@ -392,39 +643,56 @@ DAMAGED = [
 
 
 def wholes(bench: Bench) -> None:
-    """A whole chip is started and read by a signal, by APB and by JTAG; one in which something is joined wrongly is told."""
+    """A whole chip is started and read by a signal, by APB and by JTAG; one in which something is joined wrongly is
+    told."""
     if not shutil.which("iverilog"):
         return
-    for words in (["tools/top", JOINS, *PINS, "whole_chip", "--access"], ["tools/access", JOINS, *PINS, "whole_chip", "--apb", "--jtag"]):
+    for words in (
+        ["tools/top", JOINS, *PINS, "whole_chip", "--access"],
+        ["tools/access", JOINS, *PINS, "whole_chip", "--apb", "--jtag"],
+    ):
         done = bench.run(words)
         bench.is_so(not done.returncode, f"{words[0]} of a whole chip: {done.stderr}")
     for kind in ("access", "apb", "tap"):
         build = f"cd whole_chip && iverilog -g2012 -Wall -Wno-timescale -o tb -c joins_{kind}.f && vvp -n tb"
         for more, told in REACHED:
             done = bench.run(["bash", "-c", f"{build} {more}"])
-            bench.is_so(done.stdout.startswith(told) and f"joins_{kind}_tb: passed" in done.stdout, f"{kind} {more}: {done.stdout}{done.stderr}")
+            bench.is_so(
+                done.stdout.startswith(told) and f"joins_{kind}_tb: passed" in done.stdout,
+                f"{kind} {more}: {done.stdout}{done.stderr}",
+            )
     each_failure(bench)
     right = (bench.folder / "whole_chip" / "joins_access.v").read_text()
     for old, new, more in DAMAGED:
         bench.is_so(old in right, f"{old!r} does not stand in joins_access.v")
         (bench.folder / "whole_chip" / "joins_access.v").write_text(right.replace(old, new))
-        done = bench.run(["bash", "-c", f"cd whole_chip && iverilog -g2012 -o tb -c joins_access.f && vvp -n tb {more}"])
+        done = bench.run(
+            ["bash", "-c", f"cd whole_chip && iverilog -g2012 -o tb -c joins_access.f && vvp -n tb {more}"]
+        )
         bench.is_so(done.returncode == 1 and "FATAL" in done.stdout, f"{new} is not told: {done.stdout}{done.stderr}")
 
 
 def each_failure(bench: Bench) -> None:
-    """With --each the first failure of each memory is read behind one run. By hand: masked has six words and a latency of two, so
-    the first word that is read comes in cycle 6 + 1 + 2; left has eight words and a latency of one."""
+    """With --each the first failure of each memory is read behind one run. By hand: masked has six words and a latency
+    of two, so the first word that is read comes in cycle 6 + 1 + 2; left has eight words and a latency of one."""
     done = bench.run(["tools/top", JOINS, *PINS, "each", "--access"])
     done = bench.run(["tools/access", JOINS, *PINS, "each", "--apb", "--jtag", "--each"])
     bench.is_so(not done.returncode, f"access --each: {done.stderr}")
     for kind in ("access", "apb", "tap"):
         done = bench.run(["bash", "-c", f"cd each && iverilog -g2012 -o tb -c joins_{kind}.f && vvp -n tb +each"])
-        told = ["fail 11011111 unit 0 cycle 9", "memory 1 cycle 10 expected 00 returned 01", "memory 0 cycle 9 expected 00 returned 01"]
+        told = [
+            "fail 11011111 unit 0 cycle 9",
+            "memory 1 cycle 10 expected 00 returned 01",
+            "memory 0 cycle 9 expected 00 returned 01",
+        ]
         is_right = not done.returncode and all(map(done.stdout.__contains__, told))
         bench.is_so(is_right, f"{kind} +each: {done.stdout}{done.stderr}")
     text = (bench.folder / "each" / "joins_access.v").read_text()
-    for old, new in (("3'd0 ? cycle_0", "3'd0 ? cycle_3"), ("kept & ~ignore", "kept"), ("if (rises[4])", "if (rises[6])")):
+    for old, new in (
+        ("3'd0 ? cycle_0", "3'd0 ? cycle_3"),
+        ("kept & ~ignore", "kept"),
+        ("if (rises[4])", "if (rises[6])"),
+    ):
         bench.is_so(old in text, f"{old!r} does not stand in joins_access.v")
         (bench.folder / "each" / "joins_access.v").write_text(text.replace(old, new))
         done = bench.run(["bash", "-c", "cd each && iverilog -g2012 -o tb -c joins_access.f && vvp -n tb +each"])

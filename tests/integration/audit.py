@@ -46,23 +46,49 @@ def rows() -> list[tuple[str, list[str], int, str, str]]:
         call, _, told = line.partition(" : ")
         status, *words = call.split()
         files = [word if word.startswith("--") else FOLDER + word for word in words]
-        found.append(("ghdl" if ".vhd" in call else "yosys", ["tools/audit", *files], int(status), f"audit: {told}\n", ""))
+        found.append(
+            ("ghdl" if ".vhd" in call else "yosys", ["tools/audit", *files], int(status), f"audit: {told}\n", "")
+        )
     return found
 
 
 WALK = [f"{FOLDER}styles/walk.vhd", "examples/mats_plus.m", f"{FOLDER}four.mem"]
 PINNED = ["tools/audit", NAMES, "c.m", "s.mem", "--pins", "unsaid.pins"]
 CALLS: List[Tuple[str, List[str], int, str, str]] = [
-    ("yosys", ["tools/audit", "asks.v", "c.m", "s.mem"], 1, "audit: refused", "audit: 'asks.v':1: it asks whether Yosys"),
-    ("yosys", ["tools/audit", "includes.v", "c.m", "s.mem"], 1, "audit: refused", "audit: 'inner.vh':2: it asks whether"),
-    ("yosys", ["tools/audit", "escapes.v", "c.m", "s.mem"], 1, "audit: refused", "audit: 'escapes.v':2: it asks whether"),
+    (
+        "yosys",
+        ["tools/audit", "asks.v", "c.m", "s.mem"],
+        1,
+        "audit: refused",
+        "audit: 'asks.v':1: it asks whether Yosys",
+    ),
+    (
+        "yosys",
+        ["tools/audit", "includes.v", "c.m", "s.mem"],
+        1,
+        "audit: refused",
+        "audit: 'inner.vh':2: it asks whether",
+    ),
+    (
+        "yosys",
+        ["tools/audit", "escapes.v", "c.m", "s.mem"],
+        1,
+        "audit: refused",
+        "audit: 'escapes.v':2: it asks whether",
+    ),
     ("yosys", ["tools/audit", "latch.v", "c.m", "s.mem"], 1, "audit: refused", "audit: "),
     ("yosys", ["tools/audit", "far.v", *WALK[1:]], 0, "audit: conforms, fail is exact\n", ""),
     ("yosys", ["tools/audit", "no_clear.v", "c.m", "s.mem"], 1, "en hangs on later", "audit: "),
     ("yosys", ["tools/audit", NAMES, "c.m", "s.mem"], 1, "", "audit: a self-test of s has the ports"),
     ("yosys", ["tools/audit", "simulated.v", "c.m", "s.mem"], 1, "", "audit: simulated.v:3: $time is a call"),
     ("yosys", ["tools/audit", NAMES, "c.m", "s.mem", "--pins", "twice.pins"], 2, "", "audit: twice.pins: the pin 'ck'"),
-    ("yosys", ["tools/audit", NAMES, "c.m", "s.mem", "--pins", "unsaid.pins"], 2, "", "audit: unsaid.pins: the input q"),
+    (
+        "yosys",
+        ["tools/audit", NAMES, "c.m", "s.mem", "--pins", "unsaid.pins"],
+        2,
+        "",
+        "audit: unsaid.pins: the input q",
+    ),
     ("", ["tools/audit", NAMES, "c.m", "s.mem", "--pins", "word.pins"], 2, "", "audit: word.pins:1: there is no line"),
     ("", ["tools/audit", NAMES, "c.m"], 2, "", "audit: too few words"),
     ("", ["tools/audit", NAMES, "wrong.m", "s.mem"], 3, "", "audit: march M8"),

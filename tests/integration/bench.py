@@ -1,4 +1,5 @@
-"""The bench of `python3 -m tests.integration`: a folder with the files of its cases, and calls that are looked at there."""
+"""The bench of `python3 -m tests.integration`: a folder with the files of its cases, and calls that are looked at
+there."""
 from __future__ import annotations
 
 import os
@@ -42,7 +43,10 @@ class Bench:
 
     def tell(self, call: str, why: str, done: subprocess.CompletedProcess[str]) -> None:
         self.wrong += 1
-        print(f"{call}: {why}\n  status {done.returncode}\n  output {done.stdout[-600:]!r}\n  error {done.stderr[-600:]!r}")
+        print(
+            f"{call}: {why}\n  status {done.returncode}\n  output {done.stdout[-600:]!r}\n  error"
+            f" {done.stderr[-600:]!r}"
+        )
 
     def look(self, words: list[str], status: int, out: str, error: str, **changed: str) -> None:
         """Runs a call: its status, a part of its output, and the beginning of what it says on standard error (nothing
@@ -56,7 +60,9 @@ class Bench:
             self.tell(call, f"status {status} is wanted", done)
         elif out not in done.stdout:
             self.tell(call, f"{out!r} is wanted on standard output", done)
-        elif not any(said.startswith(error) and (error or not said) for said in (done.stderr, SLOW.sub("", done.stderr))):
+        elif not any(
+            said.startswith(error) and (error or not said) for said in (done.stderr, SLOW.sub("", done.stderr))
+        ):
             self.tell(call, f"{error!r} is wanted on standard error", done)
 
     def is_so(self, holds: bool, what: str) -> None:

@@ -1,6 +1,6 @@
 """The page of `vidlakost explore` as somebody uses it: typed, ticked, clicked and led by keys in Chromium without a
-screen, and a page of elsewhere that asks it. Run by `python3 -m tests.integration` with the address of a server; it prints a line for
-each look, which begins with `ok` or `wrong`."""
+screen, and a page of elsewhere that asks it. Run by `python3 -m tests.integration` with the address of a server; it
+prints a line for each look, which begins with `ok` or `wrong`."""
 from __future__ import annotations
 
 import http.server

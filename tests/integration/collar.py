@@ -1,4 +1,5 @@
-"""What `python3 -m tests.integration` does with collars: random lists of pins, wrong ones among them, and models that come with Yosys."""
+"""What `python3 -m tests.integration` does with collars: random lists of pins, wrong ones among them, and models that
+come with Yosys."""
 from __future__ import annotations
 
 import concurrent.futures
@@ -60,7 +61,9 @@ FILES.update(
         "path.list": "list 1\nname ../all\nbudget 3\nunit 1 c.m s.mem\n",
         "two.list1": "list 1\nname all\nbudget 3\nname all\nunit 1 c.m s.mem\n",
         "clash.pins": PLAIN.format("s_bist"),
-        "hidden.v": '// module ram4x1\n/* module ram4x1 */ module other; initial $display("module ram4x1 "); endmodule\n',
+        "hidden.v": (
+            '// module ram4x1\n/* module ram4x1 */ module other; initial $display("module ram4x1 "); endmodule\n'
+        ),
         "shown.v": "module /* a */ ram4x1(input ck, ce, we, input [1:0] a, input d, output q); endmodule\n",
         "mine/s_collar.v": "module mine; endmodule\n",
         "mine/Makefile": "all:\n\techo mine\n",
@@ -83,7 +86,10 @@ FILES.update(
         "evil.lib": LIBRARY.replace("pin(sleep)", 'pin("x\nmacro evil")'),
         "cut.lib": LIBRARY[:200],
         "down.lib": LIBRARY.replace("clocked_on : CLK", 'clocked_on : "!CLK"').replace("falling_edge", "rising_edge"),
-        "header.v": "// module ram8x4\nmodule ram8x4(input clk, csb, web, input [2:0] addr, input [3:0] din, output [3:0] dout); endmodule\n",
+        "header.v": (
+            "// module ram8x4\nmodule ram8x4(input clk, csb, web, input [2:0] addr, input [3:0] din, output [3:0]"
+            " dout); endmodule\n"
+        ),
     }
 )
 TOP = ["tools/top", "two.chip", "s.pins", "t.pins"]
@@ -97,20 +103,56 @@ CALLS: List[Tuple[str, List[str], int, str, str]] = [
     ("", [*TOP, "whole", "t.pins"], 2, "", "top: whole: Is a directory"),
     ("", ["tools/top", "two.chip", "none"], 2, "", "top: no file of pins is of s, t"),
     ("", ["tools/top", "two.chip", "s.pins", "s.pins", "none"], 2, "", "top: s.pins: s.pins tells the pins of s too"),
-    ("", ["tools/top", "two.chip", "lo.pins", "none"], 2, "", "top: lo.pins: this file is of lo, and the memories are s, t"),
+    (
+        "",
+        ["tools/top", "two.chip", "lo.pins", "none"],
+        2,
+        "",
+        "top: lo.pins: this file is of lo, and the memories are s, t",
+    ),
     ("", ["tools/top", "two.chip", "c.m", "none"], 2, "", "top: c.m: a file of pins is named as its memory"),
     ("", [*TOP, "whole", "--model", "shown.v"], 0, "whole/files.f", "top: not tested: s.ce, t.ce"),
     ("", ["tools/top", "two.chip", "clash.pins", "none"], 2, "", "top: clash.pins: this file is of clash"),
-    ("", ["tools/top", "apart.chip", "lo.pins", "s.pins", "none"], 2, "", "top: apart.chip: lo and hi are parts of one word, and"),
-    ("", ["tools/top", "never.chip", "lo.pins", "none"], 2, "", "top: never.chip: lo and hi are parts of one word, and stand in two"),
-    ("", ["tools/top", "twice.list", "lo.pins", "twice", "--plan"], 0, "  3  hi_1     1     1      0    122   244\n", ""),
+    (
+        "",
+        ["tools/top", "apart.chip", "lo.pins", "s.pins", "none"],
+        2,
+        "",
+        "top: apart.chip: lo and hi are parts of one word, and",
+    ),
+    (
+        "",
+        ["tools/top", "never.chip", "lo.pins", "none"],
+        2,
+        "",
+        "top: never.chip: lo and hi are parts of one word, and stand in two",
+    ),
+    (
+        "",
+        ["tools/top", "twice.list", "lo.pins", "twice", "--plan"],
+        0,
+        "  3  hi_1     1     1      0    122   244\n",
+        "",
+    ),
     ("", ["tools/top", "light.list", "lo.pins", "none"], 2, "", "top: lo and hi weigh more than the budget together"),
-    ("", ["tools/top", "logic.chip", "s.pins", "none"], 2, "", "top: logic.chip: the name 'logic' is a word of SystemVerilog"),
+    (
+        "",
+        ["tools/top", "logic.chip", "s.pins", "none"],
+        2,
+        "",
+        "top: logic.chip: the name 'logic' is a word of SystemVerilog",
+    ),
     ("", ["tools/top", "case.list", "lo.pins", "none"], 2, "", "top: case.list: two memories have the name lo, but"),
     ("", ["tools/top", "head.list", "s.pins", "none"], 2, "", "top: head.list:1: a list begins with 'list 1'"),
     ("", ["tools/top", "line.list", "s.pins", "none"], 2, "", "top: line.list:4: there is no line 'units' here"),
     ("", ["tools/top", "crowd.list", "s.pins", "none"], 2, "", "top: crowd.list:4: there are at most 1024 units"),
-    ("", ["tools/top", "crowds.list", "s.pins", "none"], 2, "", "top: crowds.list: there are at most 1024 units, and these are 1025"),
+    (
+        "",
+        ["tools/top", "crowds.list", "s.pins", "none"],
+        2,
+        "",
+        "top: crowds.list: there are at most 1024 units, and these are 1025",
+    ),
     ("", ["tools/top", "none.list1", "s.pins", "none"], 2, "", "top: none.list1:4: instances is a number from 1 on"),
     ("", ["tools/top", "again.list", "s.pins", "none"], 2, "", "top: again.list:5: the memory s stands in line 4 too"),
     ("", ["tools/top", "heavy.list", "s.pins", "none"], 2, "", "top: heavy.list: s weighs more than the budget"),
@@ -123,48 +165,198 @@ CALLS: List[Tuple[str, List[str], int, str, str]] = [
     ("", [*COLLAR, "vendor", "--model", "shown.v"], 0, "vendor/files.f", "collar: not tested: ce: whether"),
     ("", [*COLLAR, "open", "--open"], 0, "open/s_collar.v\nopen/ram4x1.v\n", "collar: not tested: ce: whether"),
     ("", [*COLLAR, "open", "--open", "--through", "apb"], 2, "", "collar: --open and --through exclude one another"),
-    ("", ["tools/collar", "s.mem", "--macro", "clash.pins", "none"], 2, "", "collar: clash.pins:1: 's_bist' is a module that stands"),
-    ("", ["tools/liberty", "few.lib", "RAM8X4", "cells"], 0, "cells/ram8x4.pins\n", "liberty: Q changes at the falling edge"),
-    ("", ["tools/liberty", "evil.lib", "RAM8X4", "cells", "--name", "evil"], 0, "cells/evil.pins", "liberty: Q changes"),
-    ("", ["tools/liberty", "down.lib", "RAM8X4", "down"], 0, "down/ram8x4.pins\n", "liberty: D are taken at the falling edge"),
+    (
+        "",
+        ["tools/collar", "s.mem", "--macro", "clash.pins", "none"],
+        2,
+        "",
+        "collar: clash.pins:1: 's_bist' is a module that stands",
+    ),
+    (
+        "",
+        ["tools/liberty", "few.lib", "RAM8X4", "cells"],
+        0,
+        "cells/ram8x4.pins\n",
+        "liberty: Q changes at the falling edge",
+    ),
+    (
+        "",
+        ["tools/liberty", "evil.lib", "RAM8X4", "cells", "--name", "evil"],
+        0,
+        "cells/evil.pins",
+        "liberty: Q changes",
+    ),
+    (
+        "",
+        ["tools/liberty", "down.lib", "RAM8X4", "down"],
+        0,
+        "down/ram8x4.pins\n",
+        "liberty: D are taken at the falling edge",
+    ),
     ("", ["tools/liberty", "cut.lib", "RAM8X4", "cells"], 2, "", "liberty: cut.lib:4: the text stops early"),
     ("", ["tools/liberty", "few.lib", "RAM", "cells"], 2, "", "liberty: few.lib: there is no cell 'RAM'"),
     ("", ["tools/liberty", "few.lib", "../RAM8X4", "cells"], 2, "", "liberty: '../ram8x4' is no name for a memory"),
     ("", ["tools/liberty", "few.lib", "RAM8X4", "mine", "--name", "mine"], 0, "mine/mine.mem", "liberty: Q"),
     ("", ["tools/liberty", "--verilog", "header.v", "ram8x4", "header"], 0, "header/ram8x4.mem", "liberty: 6 of"),
-    ("", ["tools/liberty", "--verilog", "hidden.v", "ram4x1", "header"], 2, "", "liberty: hidden.v: there is no module ram4x1"),
+    (
+        "",
+        ["tools/liberty", "--verilog", "hidden.v", "ram4x1", "header"],
+        2,
+        "",
+        "liberty: hidden.v: there is no module ram4x1",
+    ),
     ("", ["tools/liberty", "--verilog", "latin.mem", "a", "header"], 2, "", "liberty: latin.mem: there is no module a"),
-    ("", ["tools/liberty", "few.lib", "RAM8X4", "sure", "--pin", "CSB=~en", "--pin", "WEB=~we"], 0, "sure/", "liberty: Q"),
-    ("", ["tools/liberty", "few.lib", "RAM8X4", "cells", "--pin", "CSB=no"], 2, "", "liberty: --pin names a pin and what it is"),
-    ("", ["tools/liberty", "few.lib", "RAM8X4", "cells", "--pin", "X=en"], 2, "", "liberty: --pin 'X=en': there is no such pin"),
-    ("", ["tools/liberty", "few.lib", "RAM8X4", "cells", "--pin", "Q=en"], 2, "", "liberty: --pin 'Q=en': Q is an output"),
-    ("", ["tools/liberty", "few.lib", "RAM8X4", "cells", "--pin", "A=wdata"], 2, "", "liberty: --pin 'A=wdata': the library says"),
-    ("", ["tools/collar", "s.mem", "--macro", "unsure.pins", "unsure"], 2, "", "collar: unsure.pins:3: this stands on the name"),
+    (
+        "",
+        ["tools/liberty", "few.lib", "RAM8X4", "sure", "--pin", "CSB=~en", "--pin", "WEB=~we"],
+        0,
+        "sure/",
+        "liberty: Q",
+    ),
+    (
+        "",
+        ["tools/liberty", "few.lib", "RAM8X4", "cells", "--pin", "CSB=no"],
+        2,
+        "",
+        "liberty: --pin names a pin and what it is",
+    ),
+    (
+        "",
+        ["tools/liberty", "few.lib", "RAM8X4", "cells", "--pin", "X=en"],
+        2,
+        "",
+        "liberty: --pin 'X=en': there is no such pin",
+    ),
+    (
+        "",
+        ["tools/liberty", "few.lib", "RAM8X4", "cells", "--pin", "Q=en"],
+        2,
+        "",
+        "liberty: --pin 'Q=en': Q is an output",
+    ),
+    (
+        "",
+        ["tools/liberty", "few.lib", "RAM8X4", "cells", "--pin", "A=wdata"],
+        2,
+        "",
+        "liberty: --pin 'A=wdata': the library says",
+    ),
+    (
+        "",
+        ["tools/collar", "s.mem", "--macro", "unsure.pins", "unsure"],
+        2,
+        "",
+        "collar: unsure.pins:3: this stands on the name",
+    ),
     ("", ["tools/liberty", "s.mem", "a", "header"], 2, "", "liberty: s.mem:1: 'library' is missing"),
-    ("", ["tools/hold", "hold.m", "pause.mem", "holds"], 0, "holds/p_hold.v\nholds/p_hold.md\nholds/p_hold_tb.sv\n", ""),
+    (
+        "",
+        ["tools/hold", "hold.m", "pause.mem", "holds"],
+        0,
+        "holds/p_hold.v\nholds/p_hold.md\nholds/p_hold_tb.sv\n",
+        "",
+    ),
     ("", ["tools/hold", "hold.m", "s.mem", "holds"], 0, "holds/s_hold.v", "hold: a pause of 1 cycles: words of reads"),
     ("", ["tools/hold", "blind.m", "pause.mem", "holds"], 0, "holds/p_hold.v", "hold: no pause is followed by a read"),
     ("", ["tools/hold", "c.m", "pause.mem", "holds"], 2, "", "hold: c.m: the march has no pause"),
-    ("", ["tools/hold", "hold.m", "pause.mem", "mine"], 2, "", "hold: mine/p_hold.v is there and was not written by vidlakost"),
+    (
+        "",
+        ["tools/hold", "hold.m", "pause.mem", "mine"],
+        2,
+        "",
+        "hold: mine/p_hold.v is there and was not written by vidlakost",
+    ),
     ("", ["tools/flow", "two.chip", "flow"], 0, "flow/Makefile\nflow/sta.known\nflow/faults.list\n", ""),
     ("", ["tools/flow", "two.chip", "s.pins", "t.pins", "flow", "--list", "tf.list"], 0, "flow/Makefile\n", ""),
-    ("", ["tools/flow", "two.chip", "s.pins", "t.pins", "mine"], 2, "", "flow: mine/Makefile is there and was not written by"),
+    (
+        "",
+        ["tools/flow", "two.chip", "s.pins", "t.pins", "mine"],
+        2,
+        "",
+        "flow: mine/Makefile is there and was not written by",
+    ),
     ("", ["tools/flow", "apart.chip", "flow"], 2, "", "flow: apart.chip: lo and hi are parts of one word"),
     ("", ["tools/flow", "case.list", "flow"], 2, "", "flow: case.list: two memories have the name lo"),
-    ("", ["tools/flow", "examples/chip/soc.chip", "flow"], 2, "", "flow: beside the description of buffer is no file buffer.pins"),
+    (
+        "",
+        ["tools/flow", "examples/chip/soc.chip", "flow"],
+        2,
+        "",
+        "flow: beside the description of buffer is no file buffer.pins",
+    ),
     ("", ["tools/flow", "two.chip", "s.pins", "t.pins", "a b"], 2, "", "flow: 'a b': a makefile takes names"),
-    ("", ["tools/flow", "two.chip", "s.pins", "t.pins", "$(touch harm)"], 2, "", "flow: '$(touch harm)': a makefile takes names"),
-    ("", ["tools/flow", "odd;name.chip", "s.pins", "t.pins", "flow"], 2, "", "flow: 'odd;name.chip': a makefile takes names"),
-    ("", ["tools/flow", "two.chip", "s.pins", "t.pins", "flow", "--list", "a`b.list"], 2, "", "flow: 'a`b.list': a makefile takes names"),
+    (
+        "",
+        ["tools/flow", "two.chip", "s.pins", "t.pins", "$(touch harm)"],
+        2,
+        "",
+        "flow: '$(touch harm)': a makefile takes names",
+    ),
+    (
+        "",
+        ["tools/flow", "odd;name.chip", "s.pins", "t.pins", "flow"],
+        2,
+        "",
+        "flow: 'odd;name.chip': a makefile takes names",
+    ),
+    (
+        "",
+        ["tools/flow", "two.chip", "s.pins", "t.pins", "flow", "--list", "a`b.list"],
+        2,
+        "",
+        "flow: 'a`b.list': a makefile takes names",
+    ),
     ("", ["tools/flow", "chip.chip", "chip.pins", "flow"], 2, "", "flow: a memory named chip would have the folder"),
-    ("", [*LEFT, "mux"], 0, "mux/left_collar.v\n", "collar: `? :` chooses the clock of clkb, clkc: name a cell by --clock-mux"),
+    (
+        "",
+        [*LEFT, "mux"],
+        0,
+        "mux/left_collar.v\n",
+        "collar: `? :` chooses the clock of clkb, clkc: name a cell by --clock-mux",
+    ),
     ("", [*LEFT, "mux2", "--clock-mux", "CK:S:A:B:Z"], 0, "mux2/CK.v\n", "collar: not tested"),
-    ("", [*LEFT, "mux3", "--clock-mux", "CK:S:A:B"], 2, "", "collar: --clock-mux is CELL:SELECT:CHIP:TEST:OUT, five names"),
-    ("", [*LEFT, "mux3", "--clock-mux", "wire:S:A:B:Z"], 2, "", "collar: --clock-mux is CELL:SELECT:CHIP:TEST:OUT, five names"),
-    ("", [*LEFT, "mux3", "--clock-mux", "left_bist:S:A:B:Z"], 2, "", "collar: examples/joins/left.pins: 'left_bist' is a module"),
-    ("", ["tools/flow", "examples/joins/joins.chip", "flow2", "--clock-mux", "CK:S"], 2, "", "flow: --clock-mux is CELL"),
-    ("", ["tools/collar", "cash.mem", "--macro", "s.pins", "none"], 2, "", "collar: s.pins: the memory a$b has a $ in its name"),
-    ("", ["tools/collar", "lo.mem", "hi.mem", "--macro", "s.pins", "none"], 2, "", "collar: s.pins: two memories make one word"),
+    (
+        "",
+        [*LEFT, "mux3", "--clock-mux", "CK:S:A:B"],
+        2,
+        "",
+        "collar: --clock-mux is CELL:SELECT:CHIP:TEST:OUT, five names",
+    ),
+    (
+        "",
+        [*LEFT, "mux3", "--clock-mux", "wire:S:A:B:Z"],
+        2,
+        "",
+        "collar: --clock-mux is CELL:SELECT:CHIP:TEST:OUT, five names",
+    ),
+    (
+        "",
+        [*LEFT, "mux3", "--clock-mux", "left_bist:S:A:B:Z"],
+        2,
+        "",
+        "collar: examples/joins/left.pins: 'left_bist' is a module",
+    ),
+    (
+        "",
+        ["tools/flow", "examples/joins/joins.chip", "flow2", "--clock-mux", "CK:S"],
+        2,
+        "",
+        "flow: --clock-mux is CELL",
+    ),
+    (
+        "",
+        ["tools/collar", "cash.mem", "--macro", "s.pins", "none"],
+        2,
+        "",
+        "collar: s.pins: the memory a$b has a $ in its name",
+    ),
+    (
+        "",
+        ["tools/collar", "lo.mem", "hi.mem", "--macro", "s.pins", "none"],
+        2,
+        "",
+        "collar: s.pins: two memories make one word",
+    ),
 ]
 
 
@@ -194,7 +386,10 @@ def is_right(bench: Bench, seed: int, with_verilator: bool) -> None:
         for more in ("", "-DUSE_POWER_PINS "):
             runs(bench, f"{made}iverilog -g2012 -Wall -Wno-timescale {more}-o tb -c files.f", f"{made}vvp -n tb", seed)
     if with_verilator:
-        build = "verilator --binary -CFLAGS -O0 --top-module ram_collar_tb --Mdir built -f files.f >log; grep '^%' log; true"
+        build = (
+            "verilator --binary -CFLAGS -O0 --top-module ram_collar_tb --Mdir built -f files.f >log; grep '^%' log;"
+            " true"
+        )
         runs(bench, made + build, f"{made}built/Vram_collar_tb", seed)
         modules = " ".join(f"{name}_bist.v" for name in case.memories)
         lint = f"verilator --lint-only -Wall -Wno-DECLFILENAME --top-module ram_collar ram_collar.v {modules} sram.v"
@@ -204,10 +399,14 @@ def is_right(bench: Bench, seed: int, with_verilator: bool) -> None:
 
 def runs(bench: Bench, build: str, call: str, seed: int) -> None:
     done = bench.run(["bash", "-c", build])
-    bench.is_so(not done.returncode and not done.stdout + done.stderr, f"the pins {seed}: {build}: {done.stdout}{done.stderr}")
+    bench.is_so(
+        not done.returncode and not done.stdout + done.stderr, f"the pins {seed}: {build}: {done.stdout}{done.stderr}"
+    )
     for more, told in (("", "ram: passes"), (" +planted", "ram: a tied address is found")):
         done = bench.run(["bash", "-c", call + more])
-        bench.is_so(not done.returncode and told in done.stdout, f"the pins {seed}: {call}{more}: {done.stdout}{done.stderr}")
+        bench.is_so(
+            not done.returncode and told in done.stdout, f"the pins {seed}: {call}{more}: {done.stdout}{done.stderr}"
+        )
 
 
 def is_wrong(bench: Bench, seed: int) -> None:
@@ -240,17 +439,44 @@ def models(bench: Bench) -> None:
         if not is_short and not bench.is_long or not (YOSYS / file).is_file():
             continue
         there = f"examples/macros/{name}"
-        words = ["tools/collar", f"{there}.mem", "--macro", f"{there}.pins", f"macros/{name}", "--model", str(YOSYS / file)]
+        words = [
+            "tools/collar",
+            f"{there}.mem",
+            "--macro",
+            f"{there}.pins",
+            f"macros/{name}",
+            "--model",
+            str(YOSYS / file),
+        ]
         done = bench.run(words)
         bench.is_so(not done.returncode, f"{name}: {done.stderr}")
-        bench.run(["./vidlakost", "compile", "short.m", f"{there}.mem", "empty.list", f"macros/{name}/{name}_bist.v", "report"])
-        build = f"cd macros/{name} && iverilog -g2012 -DNO_ICE40_DEFAULT_ASSIGNMENTS -o tb -c files.f && vvp -n tb && vvp -n tb +planted"
+        bench.run(
+            [
+                "./vidlakost",
+                "compile",
+                "short.m",
+                f"{there}.mem",
+                "empty.list",
+                f"macros/{name}/{name}_bist.v",
+                "report",
+            ]
+        )
+        build = (
+            f"cd macros/{name} && iverilog -g2012 -DNO_ICE40_DEFAULT_ASSIGNMENTS -o tb -c files.f && vvp -n tb && vvp"
+            " -n tb +planted"
+        )
         done = bench.run(["bash", "-c", build])
-        bench.is_so(not done.returncode and "a shorted lane is found" in done.stdout, f"{name}: {done.stdout}{done.stderr}")
+        bench.is_so(
+            not done.returncode and "a shorted lane is found" in done.stdout, f"{name}: {done.stdout}{done.stderr}"
+        )
 
 
 SIX = [f"examples/six/{name}.pins" for name in ("bytes", "dual", "late", "wide", "rest", "gray")]
-PLANTED = ["a wrong bit at wide_low is found", "a wrong bit at wide_high is found", "a part out of step at wide_low is found"]
+PLANTED = [
+    "a wrong bit at wide_low is found",
+    "a wrong bit at wide_high is found",
+    "a part out of step at wide_low is found",
+]
 PLANTED += ["a shorted lane at bytes is found", "a dead port at dual is found"]
 
 
@@ -260,7 +486,10 @@ def systems(bench: Bench) -> None:
     calls += [("soc", ["examples/six/soc.list", *SIX[3::2]], ["a wrong bit at gray_39 is found"])]
     simulators = {"iverilog": "iverilog -g2012 -Wall -Wno-timescale -o tb -c files.f && vvp -n tb"}
     if bench.is_long:
-        build = "verilator --binary -CFLAGS -O0 --top-module {name}_system_tb --Mdir built -f files.f >log && ! grep '^%' log"
+        build = (
+            "verilator --binary -CFLAGS -O0 --top-module {name}_system_tb --Mdir built -f files.f >log && ! grep"
+            " '^%' log"
+        )
         simulators["verilator"] = build + " && built/V{name}_system_tb"
     for name, words, told in calls:
         done = bench.run(["tools/top", *words, name])
@@ -273,7 +502,10 @@ def systems(bench: Bench) -> None:
             if name == "six" or bench.is_long:
                 shares(bench, f"cd {name} && " + call.format(name=name), name)
                 done = bench.run(["bash", "-c", f"cd {name} && " + call.format(name=name) + " +planted"])
-                bench.is_so(not done.returncode and all(map(done.stdout.__contains__, told)), f"{name}: {done.stdout}{done.stderr}")
+                bench.is_so(
+                    not done.returncode and all(map(done.stdout.__contains__, told)),
+                    f"{name}: {done.stdout}{done.stderr}",
+                )
 
 
 def shares(bench: Bench, call: str, name: str) -> None:
@@ -286,7 +518,9 @@ def shares(bench: Bench, call: str, name: str) -> None:
         ("+planted +parts=3 +part=3", False, "+part below it"),
     ):
         done = bench.run(["bash", "-c", f"{call} {more}"])
-        bench.is_so((done.returncode == 0) == is_passed and told in done.stdout, f"{name} {more}: {done.stdout}{done.stderr}")
+        bench.is_so(
+            (done.returncode == 0) == is_passed and told in done.stdout, f"{name} {more}: {done.stdout}{done.stderr}"
+        )
 
 
 # memories whose names a chip's module could use inside
@@ -303,9 +537,14 @@ def odd_names(bench: Bench) -> None:
     done = bench.run(["tools/top", "inner.chip", *(f"{name}.pins" for name in INNER), "inner"])
     bench.is_so(not done.returncode, f"top: {done.stderr}")
     if shutil.which("iverilog"):
-        call = "cd inner && iverilog -g2012 -Wall -Wno-timescale -o tb -c files.f && vvp -n tb && vvp -n tb +planted | tail -n 2"
+        call = (
+            "cd inner && iverilog -g2012 -Wall -Wno-timescale -o tb -c files.f && vvp -n tb && vvp -n tb +planted |"
+            " tail -n 2"
+        )
         done = bench.run(["bash", "-c", call])
-        told = "inner: passes\n{0}inner: of the words in which every two bits differ number 2 passes\n{0}".format("inner_system_tb: passed\n")
+        told = "inner: passes\n{0}inner: of the words in which every two bits differ number 2 passes\n{0}".format(
+            "inner_system_tb: passed\n"
+        )
         bench.is_so(done.stdout == told and not done.stderr, f"top: {done.stdout}{done.stderr}")
 
 
@@ -314,7 +553,10 @@ def model_of_later(bench: Bench) -> None:
     for words in ([*TOP, "later"], [*TOP, "later", "--model", "shown.v"]):
         bench.run(words)
     listed = (bench.folder / "later" / "files.f").read_text().splitlines()
-    bench.is_so(listed[-2:] == ["ram4x2.v", str((bench.folder / "shown.v").resolve())] and "ram4x1.v" not in listed, f"top: {listed}")
+    bench.is_so(
+        listed[-2:] == ["ram4x2.v", str((bench.folder / "shown.v").resolve())] and "ram4x1.v" not in listed,
+        f"top: {listed}",
+    )
 
 
 def flows(bench: Bench) -> None:
@@ -327,7 +569,9 @@ def flows(bench: Bench) -> None:
     for more in (["SIM=iverilog"], ["SIM=verilator", "-B"])[: 1 + bench.is_long]:
         done = bench.run([*make, "all", *more])
         told = [f"six: {what}" for what in (*PLANTED, "passes", "every step is done")]
-        is_right = not done.returncode and all(map(done.stdout.__contains__, [*told, "wide_low: a tied address is found"]))
+        is_right = not done.returncode and all(
+            map(done.stdout.__contains__, [*told, "wide_low: a tied address is found"])
+        )
         bench.is_so(is_right, f"flow: {done.stdout}{done.stderr}")
     if bench.is_long and YOSYS.is_dir():
         of_yosys(bench, make)
@@ -357,7 +601,10 @@ def holds(bench: Bench) -> None:
     """The clock stands in each pause, and what is lost meanwhile is found."""
     if not shutil.which("iverilog"):
         return
-    build = "cd held && iverilog -g2012 -Wall -Wno-timescale -o tb p_hold_tb.sv p_hold.v p_bist.v && vvp -n tb && vvp -n tb +planted"
+    build = (
+        "cd held && iverilog -g2012 -Wall -Wno-timescale -o tb p_hold_tb.sv p_hold.v p_bist.v && vvp -n tb && vvp -n tb"
+        " +planted"
+    )
     for march, count in (("hold.m", 9), ("paired.m", 6)):
         bench.run(["tools/hold", march, "pause.mem", "held"])
         bench.run(["./vidlakost", "compile", march, "pause.mem", "empty.list", "held/p_bist.v", "report"])

@@ -25,7 +25,12 @@ FILES: Dict[str, str] = {
 }
 # the words behind `design`, the status, a part of the answer, and the beginning of standard error
 ROWS: List[Tuple[List[str], int, str, str]] = [
-    (["stuck.list"], 0, "length 4n, shortest: a search of all shorter ones finds none\njudge total 2 covered 2", "design: 4n after"),
+    (
+        ["stuck.list"],
+        0,
+        "length 4n, shortest: a search of all shorter ones finds none\njudge total 2 covered 2",
+        "design: 4n after",
+    ),
     (["tf.list"], 0, "length 5n, shortest:", "design: 5n after"),
     (["stuck.list", "--decoder"], 0, "length 5n, shortest:", "design: "),
     (["stuck.list", "--decoder"], 0, "decoder total 5 covered 5 escapes 0", "design: "),
@@ -34,17 +39,42 @@ ROWS: List[Tuple[List[str], int, str, str]] = [
     (["tf.list", "--behind", "c.m"], 0, "length 10n, 0 more than c.m, shortest:", "design: "),
     (["tf.list", "--any"], 0, "{any(w0,w1,r1,w0,r0)}", "design: "),
     (["tf.list", "--operations", "1"], 0, "judge total 2 covered 2 escapes 0", "design: "),
-    (["tf.list", "--time", "100", "eight.mem"], 0, "time 0.003 ms at 100 MHz, 323 cycles of eight", "design: 5n, 0.003 ms at 100 MHz after"),
+    (
+        ["tf.list", "--time", "100", "eight.mem"],
+        0,
+        "time 0.003 ms at 100 MHz, 323 cycles of eight",
+        "design: 5n, 0.003 ms at 100 MHz after",
+    ),
     (["tf.list", "--inword", "eight.mem"], 0, "inword total 0 covered 0 escapes 0", "design: "),
     (["tf.list", "--inword", "eight.mem", "--backgrounds", "2"], 0, "escapes 0 with `backgrounds 00`", "design: "),
     (["wide.list", "--inword", "pair.mem"], 0, "inword total 4 covered 2 escapes 2\n", "design: "),
-    (["wide.list", "--inword", "pair.mem", "--backgrounds", "3"], 0, "inword total 4 covered 4 escapes 0 with `backgrounds 0 2`", "design: "),
-    (["wide.list", "--inword", "pair.mem", "--backgrounds", "1"], 0, "inword total 4 covered 2 escapes 2 with `backgrounds 0`", "design: "),
+    (
+        ["wide.list", "--inword", "pair.mem", "--backgrounds", "3"],
+        0,
+        "inword total 4 covered 4 escapes 0 with `backgrounds 0 2`",
+        "design: ",
+    ),
+    (
+        ["wide.list", "--inword", "pair.mem", "--backgrounds", "1"],
+        0,
+        "inword total 4 covered 2 escapes 2 with `backgrounds 0`",
+        "design: ",
+    ),
     (["tf.list", "--backgrounds", "2"], 2, "", "design: --backgrounds wants --inword, which names the memory"),
-    (["tf.list", "--inword", "eight.mem", "--backgrounds", "9"], 2, "", "design: --backgrounds is a number from 1 to 8, and not 9"),
+    (
+        ["tf.list", "--inword", "eight.mem", "--backgrounds", "9"],
+        2,
+        "",
+        "design: --backgrounds is a number from 1 to 8, and not 9",
+    ),
     (["wide.list", "--elements", "1"], 1, "<0;0/1/-> CFst: no march was found that covers it too", ""),
     (["two.list", "--operations", "3"], 0, "judge total 1 covered 1 escapes 0", "design: "),
-    (["two.list", "--operations", "2"], 2, "", "design: elements of at most 2 operations cover no primitive of two.list"),
+    (
+        ["two.list", "--operations", "2"],
+        2,
+        "",
+        "design: elements of at most 2 operations cover no primitive of two.list",
+    ),
     (["none.list"], 2, "", "design: none.list names no primitive, so there is nothing to cover"),
     (["small.list"], 5, "", "design: fault F1 line 1 byte 1"),
     (["no.list"], 10, "", "design: absent 2"),
@@ -53,7 +83,12 @@ ROWS: List[Tuple[List[str], int, str, str]] = [
     (["tf.list", "no/where"], 2, "", "design: "),
     (["tf.list", "--behind", "stray.m"], 3, "", "design: march M1 byte 12"),
     (["tf.list", "--behind", "paused.m"], 2, "", "design: paused.m begins with a pause"),
-    (["tf.list", "--behind", "long.m", "--operations", "3"], 2, "", "design: long.m has more elements, or more operations in one"),
+    (
+        ["tf.list", "--behind", "long.m", "--operations", "3"],
+        2,
+        "",
+        "design: long.m has more elements, or more operations in one",
+    ),
     (["tf.list", "--operations", "17"], 2, "", "design: --operations is a number from 1 to 16, and not 17"),
     (["tf.list", "--elements", "0"], 2, "", "design: --elements is a number from 1 on, and not '0'"),
     (["tf.list", "--width", "many"], 2, "", "design: --width is a number from 1 on, and not 'many'"),
@@ -77,7 +112,9 @@ def calls(bench: Bench) -> None:
 def large(bench: Bench) -> None:
     """A list of 1,024 items, each of whose primitives is looked at once."""
     (bench.folder / "thousand.list").write_text(FILES["thousand.list"])
-    bench.look(["tools/design", "thousand.list", "--width", "20"], 0, "judge total 1024 covered 1024 escapes 0", "design: ")
+    bench.look(
+        ["tools/design", "thousand.list", "--width", "20"], 0, "judge total 1024 covered 1024 escapes 0", "design: "
+    )
 
 
 def ended(bench: Bench) -> None:
@@ -102,7 +139,9 @@ def ended(bench: Bench) -> None:
         bench.is_so(process.returncode == status, f"design ends with {process.returncode} by {number}")
         bench.is_so(bool(out) == (status == 0), f"design prints {out!r} when {number} ends it")
         after = sorted(set(os.listdir(bench.folder)) - {"ended.m"})
-        bench.is_so(after == before and (bench.folder / "ended.m").exists() == (status == 0), f"{number} leaves {after}")
+        bench.is_so(
+            after == before and (bench.folder / "ended.m").exists() == (status == 0), f"{number} leaves {after}"
+        )
         if status == 0:
             bench.is_so("shortest found" in out, f"a search that was ended prints {out!r}")
             (bench.folder / "ended.m").unlink()

@@ -1,4 +1,5 @@
-"""What `python3 -m tests.integration` does with runs that end early, that plant nothing, or whose files are others by now: none of them passes."""
+"""What `python3 -m tests.integration` does with runs that end early, that plant nothing, or whose files are others by
+now: none of them passes."""
 from __future__ import annotations
 
 import os
@@ -12,7 +13,8 @@ from tests.integration.bench import Bench
 
 ICARUS = "cd {folder} && iverilog -g2012 -o tb {files} && vvp -n tb"
 AROUND = "late_model.v late_bist.v"
-# of a testbench of `access` or `share` its files, and what stands behind a call that plants a bit outside of each memory
+# of a testbench of `access` or `share` its files, and what stands behind a call that plants a bit outside of each
+# memory
 AROUND_LATE = {
     "access": f"late_access.v {AROUND}",
     "apb": f"late_apb.v late_log.v late_cross.v late_access.v {AROUND}",
@@ -20,7 +22,17 @@ AROUND_LATE = {
     "log": f"late_log.v {AROUND}",
     "share": "late_share.v late_share_model.v late_bist.v",
 }
-OUTSIDE = ("+address=8", "+bit=5", "+unit=2", "+value=2", "+address=-1", "+address=65536", "+bit=64", "+unit=16", "+address=x")
+OUTSIDE = (
+    "+address=8",
+    "+bit=5",
+    "+unit=2",
+    "+value=2",
+    "+address=-1",
+    "+address=65536",
+    "+bit=64",
+    "+unit=16",
+    "+address=x",
+)
 # a controller that does nothing, whose `done` never comes, comes at once, or is unknown
 IDLE = """module late_bist(input clk, input reset, input [4:0] rdata, output en, output we, output [2:0] addr, output [4:0] wdata,
   output done, output fail);
@@ -50,7 +62,9 @@ def is_ended(bench: Bench, folder: str, files: str, model: str) -> None:
     for more in ("", " +planted"):
         done = bench.run([*call[:2], call[2] + more])
         told = "not passed, since the run ended before its end" in done.stdout
-        bench.is_so(done.returncode == 1 and told and not passes(done), f"{model} ends {folder}: {done.stdout}{done.stderr}")
+        bench.is_so(
+            done.returncode == 1 and told and not passes(done), f"{model} ends {folder}: {done.stdout}{done.stderr}"
+        )
     path.write_text(before)
 
 
@@ -89,7 +103,9 @@ def plants(bench: Bench) -> None:
         for kind, files in AROUND_LATE.items():
             call = ICARUS.format(folder="plants", files=f"late_{kind}_tb.sv {files}")
             done = bench.run(["bash", "-c", f"{call} +planted +value=1"])
-            bench.is_so(done.returncode == 1 and "FATAL" in done.stdout, f"{kind}, done {ready}: {done.stdout}{done.stderr}")
+            bench.is_so(
+                done.returncode == 1 and "FATAL" in done.stdout, f"{kind}, done {ready}: {done.stdout}{done.stderr}"
+            )
 
 
 # ---- makefiles
@@ -128,20 +144,24 @@ def of_two(bench: Bench) -> pathlib.Path:
     for name in ("late", "rest"):
         for end in ("mem", "pins"):
             shutil.copy(bench.folder / "examples" / "six" / f"{name}.{end}", folder)
-    (folder / "two.chip").write_text("chip 1\nname two\nbudget 3\nunit 2 c.m steps/late.mem\nunit 2 c.m steps/rest.mem\n")
+    (folder / "two.chip").write_text(
+        "chip 1\nname two\nbudget 3\nunit 2 c.m steps/late.mem\nunit 2 c.m steps/rest.mem\n"
+    )
     bench.run(["tools/collar", "steps/late.mem", "--macro", "steps/late.pins", "steps/given"])
     macro = (folder / "late.pins").read_text().split("macro ")[1].split()[0]
     model = folder / "vendor" / f"{macro}.v"
     model.parent.mkdir()
     written(model.with_name("inner.vh"), "")
     written(model, '`include "inner.vh"\n' + (folder / "given" / f"{macro}.v").read_text())
-    bench.run(["tools/flow", "steps/two.chip", "steps/late.pins", "steps/rest.pins", "steps/made", "--model", str(model)])
+    bench.run(
+        ["tools/flow", "steps/two.chip", "steps/late.pins", "steps/rest.pins", "steps/made", "--model", str(model)]
+    )
     return model
 
 
 def steps(bench: Bench) -> None:
-    """Each step of a makefile stands on each file that it reads: a controller, a model in place of ours, one of --model, and what
-    that includes, whatever their dates."""
+    """Each step of a makefile stands on each file that it reads: a controller, a model in place of ours, one of
+    --model, and what that includes, whatever their dates."""
     if not all(map(shutil.which, ("make", "iverilog"))):
         print("make or iverilog is not installed, so no makefile is run")
         return
@@ -156,14 +176,28 @@ def steps(bench: Bench) -> None:
             written(controller, other)
         is_done(bench, "a controller that is another")
         bench.is_so(controller.read_text() == right, "a controller that is another stays")
-    ours = next(line for line in (folder / "rest" / "files.f").read_text().splitlines() if not line.startswith(("//", "rest_")))
+    ours = next(
+        line for line in (folder / "rest" / "files.f").read_text().splitlines() if not line.startswith(("//", "rest_"))
+    )
     is_seen(bench, model, ended(model.read_text()))
     is_seen(bench, model.with_name("inner.vh"), "module other; initial #400 $finish; endmodule\n")
     for part in ("rest", "chip"):
         is_seen(bench, folder / part / ours, ended((folder / part / ours).read_text()))
     chip = folder.parent / "two.chip"
     is_seen(bench, chip, chip.read_text().replace("c.m", "access.m", 1))
-    bench.look(["make", "-C", "steps/made", f"LAUNCHER={bench.folder}/none", "SIM=iverilog", f"MORE=-I{bench.folder}/steps/vendor"], 0, "", "")
+    bench.look(
+        [
+            "make",
+            "-C",
+            "steps/made",
+            f"LAUNCHER={bench.folder}/none",
+            "SIM=iverilog",
+            f"MORE=-I{bench.folder}/steps/vendor",
+        ],
+        0,
+        "",
+        "",
+    )
 
 
 def opened(bench: Bench) -> None:
@@ -183,11 +217,15 @@ def opened(bench: Bench) -> None:
 
 
 # ports whose widths no number tells, in a model of the macro of ram.pins
-MODEL = "`define WIDE {}\nmodule ram(input ck, input ce, input wen, input [`WIDE-1:0] a, input [7:0] d, output [7:0] q);\nendmodule\n"
+MODEL = (
+    "`define WIDE {}\nmodule ram(input ck, input ce, input wen, input [`WIDE-1:0] a, input [7:0] d, output [7:0]"
+    " q);\nendmodule\n"
+)
 
 
 def other_sizes(bench: Bench) -> None:
-    """A model of another size is refused before anything is written, and where its widths can't be read by the run itself."""
+    """A model of another size is refused before anything is written, and where its widths can't be read by the run
+    itself."""
     words = ["tools/collar", "latency.mem", "--macro", "ram.pins", "sizes", "--model", "sized.v"]
     (bench.folder / "sized.v").write_text(MODEL.format(4).replace("`WIDE", "4"))
     bench.look(words, 2, "", "collar: ram.pins:5: a has 4 bits in ")

@@ -1,5 +1,6 @@
 """The server of `vidlakost explore` asked by plain HTTP, as its page asks it, as others on the machine may ask it, and
-as a page of elsewhere in the same browser does; then its page in a browser. `python3 -m tests.integration` goes through them."""
+as a page of elsewhere in the same browser does; then its page in a browser. `python3 -m tests.integration` goes through
+them."""
 from __future__ import annotations
 
 import contextlib
@@ -123,15 +124,23 @@ def questions(bench: Bench, served: Served) -> None:
     bench.is_so("steps" not in traced, f"a covered primitive has steps: {traced}")
     verdicts = served.ask("judge", {"march": MATS, "list": "TF\n"})["report"]["verdicts"]
     found = {row["primitive"]: row["covered"] for row in verdicts if row["class"] == "AF"}
-    bench.is_so(len(found) == 5 and [it for it in found if not found[it]] == ["both and"], f"of the decoder is told {found}")
+    bench.is_so(
+        len(found) == 5 and [it for it in found if not found[it]] == ["both and"], f"of the decoder is told {found}"
+    )
     traced = served.ask("trace", {"march": MATS, "primitive": "both and"})
     bench.is_so(traced["steps"][-1]["reaches"] == [1] and "sim" not in traced, f"a wrong decoder is traced as {traced}")
     traced = served.ask("trace", {"march": MATS, "primitive": "other"})
     bench.is_so("steps" not in traced, f"a covered fault has steps: {traced}")
-    inside = served.ask("judge", {"march": MARCH, "list": "all\n", "memory": "memory 1\nname s\nwords 4\nbits 2\n"})["inWord"]
+    inside = served.ask("judge", {"march": MARCH, "list": "all\n", "memory": "memory 1\nname s\nwords 4\nbits 2\n"})[
+        "inWord"
+    ]
     bench.is_so((len(inside), sum(inside.values())) == (36, 16), f"inside a word the page is told {inside}")
-    inside = served.ask("inside", {"march": MARCH, "primitive": "<0w1;0/1/->", "memory": "memory 1\nname s\nwords 4\nbits 2\n"})
-    bench.is_so(inside["verdict"]["escape"]["victim"] == 1 and len(inside["steps"]) == 21, f"inside a word it is {inside}")
+    inside = served.ask(
+        "inside", {"march": MARCH, "primitive": "<0w1;0/1/->", "memory": "memory 1\nname s\nwords 4\nbits 2\n"}
+    )
+    bench.is_so(
+        inside["verdict"]["escape"]["victim"] == 1 and len(inside["steps"]) == 21, f"inside a word it is {inside}"
+    )
     told = served.ask("memory", {"march": MARCH, "memory": MEMORY})
     bench.is_so((told["cycles"], told["commands"]) == (43, 40), f"a memory is told as {told}")
     refused = served.ask("memory", {"march": MARCH, "memory": "memory 1\nname s\nwords 1\nbits 1\n"})["refused"]
@@ -276,7 +285,9 @@ def floods(bench: Bench, served: Served) -> None:
         connection.settimeout(0)
     for place, connection in enumerate(held[-100:]):
         with contextlib.suppress(OSError):
-            connection.send([b"GET /", b"GET /x/ HTTP/1.1\r\n", f"GET /{served.token[:-2]}".encode(), b"\n" * 9][place % 4])
+            connection.send(
+                [b"GET /", b"GET /x/ HTTP/1.1\r\n", f"GET /{served.token[:-2]}".encode(), b"\n" * 9][place % 4]
+            )
     begun = time.monotonic()
     is_heard = "classes" in served.ask("begin", {}) and time.monotonic() - begun < 2
     bench.is_so(is_heard, "a thousand connections that don't know the token shut out who does")

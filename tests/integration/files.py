@@ -13,14 +13,17 @@ MARCHES = [
     "{up(w0);up(r0,r0,w0,r0,w1);down(r1,r1,w1,r1,w0);any(r0)}",
     "{any(w1);down(r1,w0,r0);up(r0,w1)}",
 ]
-PORTS = "module b(input clk, input reset, input rdata, output en, output we, output [1:0] addr, output wdata, output done, output fail);\n"
+PORTS = (
+    "module b(input clk, input reset, input rdata, output en, output we, output [1:0] addr, output wdata, output done,"
+    " output fail);\n"
+)
 SCRAMBLED = (
-    "memory 2\nname s\nwords 8\nbits 4\nlatency 2\npolarity 5\nscramble a0 = p0 ^ p1\nscramble a1 = p2\nscramble a2 = p1 ^ 1\n"
-    "backgrounds 0 a\n"
+    "memory 2\nname s\nwords 8\nbits 4\nlatency 2\npolarity 5\nscramble a0 = p0 ^ p1\nscramble a1 = p2\nscramble a2 ="
+    " p1 ^ 1\nbackgrounds 0 a\n"
 )
 REPORT = (
-    "march {any(w0);up(r0,w1);down(r1,w0)}\ncovered <0w1/0/-> TF\nescape <1w0/1/-> TF aggressor none victim 0 content 00 directions uud\n"
-    "class TF 2 covered 1\ntotal 2 covered 1 escapes 1\n"
+    "march {any(w0);up(r0,w1);down(r1,w0)}\ncovered <0w1/0/-> TF\nescape <1w0/1/-> TF aggressor none victim 0 content"
+    " 00 directions uud\nclass TF 2 covered 1\ntotal 2 covered 1 escapes 1\n"
 )
 DECODER = (
     "march {any(w0);any(r0,w1);any(r1)}\ncovered none 0\ncovered none 1\ncovered other\n"
@@ -30,7 +33,8 @@ IN_WORD = (
     "march {any(w0);up(r0,w1);any(r1)}\nmemory t words 4 bits 2 backgrounds 2 commands 32\n"
     "escape <0w1;0/1/-> CFds aggressor 0 victim 1 content 00\napart 1\ntotal 1 covered 0 escapes 1\n"
 )
-# of each kind one line again and again, since a reader asks for as many as there are; a cell that holds 1 is never disturbed
+# of each kind one line again and again, since a reader asks for as many as there are; a cell that holds 1 is never
+# disturbed
 LINKED = "".join(
     [
         "march {any(w0);any(r0)}\n",
@@ -89,12 +93,21 @@ FILES: Dict[str, str] = {
     "wide.v": PORTS + "  assign addr = (2'h1 + 3'h1);\nendmodule\n",
     "token.v": PORTS + "  wir x;\nendmodule\n",
     "drives.v": PORTS + "  reg x;\n  assign x = 1'h0;\nendmodule\n",
-    "loop.v": PORTS.replace(";\n", ";\n  wire x;\n  wire y;\n  assign x = (~y);\n  assign y = (~x);\n")
-    + "".join(
-        f"  assign {name} = {value};\n"
-        for name, value in (("en", "x"), ("we", "x"), ("addr", "2'h0"), ("wdata", "x"), ("done", "x"), ("fail", "x"))
-    )
-    + "endmodule\n",
+    "loop.v": (
+        PORTS.replace(";\n", ";\n  wire x;\n  wire y;\n  assign x = (~y);\n  assign y = (~x);\n")
+        + "".join(
+            f"  assign {name} = {value};\n"
+            for name, value in (
+                ("en", "x"),
+                ("we", "x"),
+                ("addr", "2'h0"),
+                ("wdata", "x"),
+                ("done", "x"),
+                ("fail", "x"),
+            )
+        )
+        + "endmodule\n"
+    ),
     "port.v": "module b(input clk, input reset, input [3:0] rdata, output en);\n  assign en = reset;\nendmodule\n",
     "t.mem": "memory 1\nname t\nwords 4\nbits 2\n",
     "-x.chip": "chip 1\nname x\nbudget 3\nunit 2 c.m s.mem\n",
@@ -117,7 +130,9 @@ FILES: Dict[str, str] = {
     "decoder.report": DECODER,
     "caught.report": DECODER.replace("directions udu", "directions uuu"),
     "place.report": DECODER.replace("x 0 y 1", "x 1 y 1"),
-    "order.report": DECODER.replace("covered other\n", "").replace("covered both or\n", "covered both or\ncovered other\n"),
+    "order.report": DECODER.replace("covered other\n", "").replace(
+        "covered both or\n", "covered both or\ncovered other\n"
+    ),
     "sum5.report": DECODER.replace("covered 4 escapes 1", "covered 3 escapes 2"),
     "inside.report": IN_WORD,
     "outside.report": IN_WORD.replace("victim 1", "victim 2"),
@@ -130,8 +145,10 @@ FILES: Dict[str, str] = {
     "bad.pins": PINS + "foo x\n",
     "few.pins": "macro ram\nclk ck\n",
     "latency.mem": "memory 2\nname s\nwords 4\nbits 8\nlatency 2\n",
-    "free.v": "module t #(parameter N = 2)(input clk, input reset, input [N-1:0] d, output reg [N-1:0] q);\n  always @(posedge clk or posedge reset)\n"
-    "    if (reset) q <= 0; else q <= q + d;\nendmodule\n",
+    "free.v": (
+        "module t #(parameter N = 2)(input clk, input reset, input [N-1:0] d, output reg [N-1:0] q);\n  always"
+        " @(posedge clk or posedge reset)\n    if (reset) q <= 0; else q <= q + d;\nendmodule\n"
+    ),
     "latch.v": "module t(input clk, input a, output reg q);\n  always @* if (a) q = clk;\nendmodule\n",
     "no.v": "module t(input clk,, output q);\nendmodule\n",
 }

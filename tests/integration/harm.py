@@ -1,5 +1,5 @@
-"""What is handed in is neither written over nor run, and is read and told within bounds: the cases of `python3 -m tests.integration` for
-it."""
+"""What is handed in is neither written over nor run, and is read and told within bounds: the cases of `python3 -m
+tests.integration` for it."""
 from __future__ import annotations
 
 import os
@@ -36,8 +36,14 @@ REACHING = [
     ("attribute foreign : string;", 5, "foreign"),
 ]
 # what only looks like it
-LOOKS = '-- this file, by textio\nconstant c : string := "file";\n/* file_open\nforeign */\nsignal \\file\\, profile : std_logic;'
-READS = "module t(input clk, input [1:0] a, output reg [1:0] q);\n  reg [1:0] m [0:3];\n{}  always @(posedge clk) q <= m[a];\nendmodule\n"
+LOOKS = (
+    '-- this file, by textio\nconstant c : string := "file";\n/* file_open\nforeign */\nsignal \\file\\, profile :'
+    ' std_logic;'
+)
+READS = (
+    "module t(input clk, input [1:0] a, output reg [1:0] q);\n  reg [1:0] m [0:3];\n{}  always @(posedge clk) q <="
+    " m[a];\nendmodule\n"
+)
 # how a source names what its memory holds at first
 CONTENTS = [
     '  initial $readmemh("kept.hex", m);\n',
@@ -77,9 +83,13 @@ def named_by_verilog(bench: Bench) -> None:
         (bench.folder / "made.v").unlink(missing_ok=True)
         endless = content.replace("kept.hex", "/dev/zero") if '"kept.hex"' in content else '  `include "/dev/zero"\n'
         (bench.folder / "endless.v").write_text(READS.format(endless))
-        bench.look(["timeout", "60", "tools/plain", "made.v", "endless.v"], 1, "", "plain: 'endless.v': it names '/dev/zero'")
+        bench.look(
+            ["timeout", "60", "tools/plain", "made.v", "endless.v"], 1, "", "plain: 'endless.v': it names '/dev/zero'"
+        )
         bench.look(["tools/plain", "made.v", "reads.v"], 0, "", "plain: made.v is what Yosys makes")
-        bench.look(["tools/audit", "reads.v", "c.m", "s.mem", "--vcd", "kept.hex"], 2, "", "audit: 'kept.hex' is what is read")
+        bench.look(
+            ["tools/audit", "reads.v", "c.m", "s.mem", "--vcd", "kept.hex"], 2, "", "audit: 'kept.hex' is what is read"
+        )
         is_kept(bench, content)
 
 
@@ -114,7 +124,9 @@ def named_files(bench: Bench) -> None:
 
 def named_programs(bench: Bench) -> None:
     """A program that is named is a file, by the tools as by the launcher; any other is packed as unproved alone."""
-    bench.look(["./vidlakost", "bench"], 125, "", "vidlakost: VIDLAKOST_PROGRAM names ./printf", VIDLAKOST_PROGRAM="printf")
+    bench.look(
+        ["./vidlakost", "bench"], 125, "", "vidlakost: VIDLAKOST_PROGRAM names ./printf", VIDLAKOST_PROGRAM="printf"
+    )
     bench.look(["tools/summary", "c.m", "s.mem"], 125, "", "summary: the program ./printf can't", VIDLAKOST="printf")
     options: list[list[str]] = [[], ["--deb"], ["--prefix", "prefix"]]
     for option in options:
@@ -147,12 +159,15 @@ def missing_tools(bench: Bench) -> None:
 
 
 def left(bench: Bench) -> None:
-    """Of two files none is written where one can't be; and what a kill left is swept by the next call, where it is old and
-    ours."""
+    """Of two files none is written where one can't be; and what a kill left is swept by the next call, where it is old
+    and ours."""
     call = ["tools/bitmap", "made.log", "access.m", "late.mem"]
     bench.look([*call, "--csv", "map.csv", "--svg", "nowhere/map.svg"], 2, "", "bitmap: nowhere/map.svg: No such file")
     bench.is_so(not (bench.folder / "map.csv").exists(), "a table was written though the picture can't be")
-    swept, kept = (".vidlakost-abcd_123", ".vidlakost-1000000000000000000"), (".vidlakost-abcd_124", ".vidlakost-mine.txt")
+    swept, kept = (".vidlakost-abcd_123", ".vidlakost-1000000000000000000"), (
+        ".vidlakost-abcd_124",
+        ".vidlakost-mine.txt",
+    )
     folder = bench.folder / "left"
     folder.mkdir()
     for name in (*swept, *kept):
@@ -162,7 +177,9 @@ def left(bench: Bench) -> None:
     (folder / ".vidlakost-linked_1").symlink_to(bench.folder / "c.m")
     bench.look([*call, "--csv", "left/map.csv"], 0, "cell: 1 cell", "")
     found = sorted(os.listdir(folder))
-    bench.is_so(set(found) == {*kept, ".vidlakost-linked_1", "map.csv"}, f"beside a file that is written there are {found}")
+    bench.is_so(
+        set(found) == {*kept, ".vidlakost-linked_1", "map.csv"}, f"beside a file that is written there are {found}"
+    )
 
 
 # ---- what is read, and what is said of it
@@ -207,13 +224,16 @@ ECHOES = [
 
 
 def bounds(bench: Bench) -> None:
-    """Nothing is read without an end; a log of one long line is read at once; and what is said of hostile bytes has none of them,
-    and is short."""
+    """Nothing is read without an end; a log of one long line is read at once; and what is said of hostile bytes has
+    none of them, and is short."""
     for call in ENDLESS:
         tool, *words = call.format("/dev/zero").split()
         if tool not in ("plain", "audit") or shutil.which("yosys"):
             done = bench.run(["timeout", "60", f"tools/{tool}", *words])
-            bench.is_so(done.returncode == 2 and "the most that is read" in done.stderr, f"{call}: {done.returncode} {done.stderr[-300:]}")
+            bench.is_so(
+                done.returncode == 2 and "the most that is read" in done.stderr,
+                f"{call}: {done.returncode} {done.stderr[-300:]}",
+            )
     (bench.folder / "told.txt").write_text("cycle 1 " * 100000)
     bench.look(["timeout", "60", "tools/bitmap", "told.txt", "c.m", "s.mem"], 2, "", "bitmap: told.txt:1: an entry is")
     for harm in ("\x1b[2J\x9b", "x" * 100000):
@@ -223,7 +243,10 @@ def bounds(bench: Bench) -> None:
             said = (done.stdout + done.stderr).splitlines()
             is_plain = all(letter.isprintable() or letter == "\t" for line in said for letter in line)
             bench.is_so(done.returncode > 0 or "explain" in call, f"{call}: nothing is refused")
-            bench.is_so(is_plain and max(map(len, said)) < 560, f"{call} echoes {max(map(len, said), default=0)}: {done.stderr[-300:]!r}")
+            bench.is_so(
+                is_plain and max(map(len, said)) < 560,
+                f"{call} echoes {max(map(len, said), default=0)}: {done.stderr[-300:]!r}",
+            )
 
 
 PARTS = (named_files, named_programs, missing_tools, left, bounds)

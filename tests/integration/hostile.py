@@ -1,5 +1,5 @@
-"""Inputs of somebody who means harm, and what the launcher and the tools have to do of each; `python3 -m tests.integration` goes through
-them."""
+"""Inputs of somebody who means harm, and what the launcher and the tools have to do of each; `python3 -m
+tests.integration` goes through them."""
 from __future__ import annotations
 
 import os
@@ -29,7 +29,9 @@ FILES.update(
         # a report that nobody's program wrote
         "bell.report": REPORT.replace(" TF\nescape", " \x1b[2J\nescape"),
         "mark.report": REPORT.replace("TF 2", "<script>alert(1)</script> 2"),
-        "shape.report": REPORT.replace("\ncovered", "\nmemory <b>x words 4 bits 1 backgrounds 1 commands 40\ncovered", 1),
+        "shape.report": REPORT.replace(
+            "\ncovered", "\nmemory <b>x words 4 bits 1 backgrounds 1 commands 40\ncovered", 1
+        ),
         "long.report": LONG,
         "quoted\nname.v": FILES["free.v"],
         "many.report": REPORT.replace("covered <0w1/0/-> TF\n", "covered <0w1/0/-> TF\n" * 1100),
@@ -46,22 +48,58 @@ CALLS: List[Tuple[str, List[str], int, str, str]] = [
     ("", ["tools/testbench", "c.m", "task.mem", "harm"], 0, "harm/s_tb.v\n", ""),
     ("", ["tools/schedule", "loose.chip"], 0, "   0  s            2      0       0      42\ngroups 1 done 42\n", ""),
     ("", ["tools/testbench", "loose.chip", "harm", "--chip"], 0, "harm/both_tb.v\n", ""),
-    ("", ["tools/collar", "s.mem", "--macro", "loose.pins", "harm"], 0, "harm/ram.v\n", "collar: not tested: we: whether"),
+    (
+        "",
+        ["tools/collar", "s.mem", "--macro", "loose.pins", "harm"],
+        0,
+        "harm/ram.v\n",
+        "collar: not tested: we: whether",
+    ),
     ("", ["tools/collar", "s.mem", "--macro", "named.pins", "harm"], 2, "", "collar: named.pins:1: the name of a pin"),
-    ("", ["tools/collar", "s.mem", "--macro", "tied.pins", "harm"], 2, "", "collar: tied.pins:7: what an input is tied to"),
-    ("yosys", ["tools/audit", *RIGHT, "--vcd", "latin\udce9.vcd"], 2, "fail is exact", "audit: a name that is no UTF-8 would stand"),
+    (
+        "",
+        ["tools/collar", "s.mem", "--macro", "tied.pins", "harm"],
+        2,
+        "",
+        "collar: tied.pins:7: what an input is tied to",
+    ),
+    (
+        "yosys",
+        ["tools/audit", *RIGHT, "--vcd", "latin\udce9.vcd"],
+        2,
+        "fail is exact",
+        "audit: a name that is no UTF-8 would stand",
+    ),
     ("", ["tools/trace", "bell.report"], 2, "", "trace: bell.report:2: the line is none of a report's"),
     ("", ["tools/replay", "bell.report"], 2, "", "replay: bell.report:2: the line is none of a report's"),
-    ("", ["tools/report", "mark.report", "--html", "m.html"], 2, "", "report: mark.report:4: the line is none of a report's"),
+    (
+        "",
+        ["tools/report", "mark.report", "--html", "m.html"],
+        2,
+        "",
+        "report: mark.report:4: the line is none of a report's",
+    ),
     ("", ["tools/report", "shape.report", "--html", "m.html"], 2, "", "report: shape.report:2: the line is none"),
     ("", ["tools/report", "long.report", "--html", "m.html"], 2, "", "report: long.report:3: the line is none"),
     ("", ["tools/trace", "many.report"], 2, "", "trace: many.report:1026: this is the 1,025th primitive"),
     ("", ["tools/report", "sum.report", "--json"], 2, "", "report: sum.report:5: the last line is no total"),
-    ("yosys", ["tools/plain", "plain.v", "free.v", "--top", "t; shell touch harmed"], 2, "", "plain: what --top names is"),
+    (
+        "yosys",
+        ["tools/plain", "plain.v", "free.v", "--top", "t; shell touch harmed"],
+        2,
+        "",
+        "plain: what --top names is",
+    ),
     ("yosys", ["tools/plain", "plain.v", 'a"; shell touch harmed; ".v'], 2, "", "plain: a\"; shell"),
     ("yosys", ["tools/plain", "plain.v", "quoted\nname.v"], 2, "", "plain: 'quoted\\x0aname.v': a name for Yosys has"),
     ("yosys", ["tools/plain", "plain.v", "latch.v"], 1, "", "plain: q, latch.v:2: a latch is outside the subset"),
-    ("yosys", ["tools/formal", "free.v", "no.v", "c.m", "s.mem"], 1, "", "formal: yosys refuses it: no.v:1: ERROR: syntax error"),
+    (
+        "yosys",
+        ["tools/formal", "free.v", "no.v", "c.m", "s.mem"],
+        1,
+        "",
+        "formal: yosys refuses it: no.v:1: ERROR: syntax error",
+    ),
 ]
 
 
@@ -81,12 +119,17 @@ OPEN = {
     "an x": "wire hold; assign hold = 1'bx;",
     "a bit that is not there": "reg [2:0] n; always @(posedge clk) n <= 0; wire hold = n[{1'b1, !second}];",
     "a bit that is far beyond": "reg [2:0] n; always @(posedge clk) n <= 0; wire hold = n[{!second, 2'b00}];",
-    "a part below its word": "reg [3:0] n; always @(posedge clk) n[second -: 2] <= second ? 2'b00 : 2'b10; wire hold = n[0];",
+    "a part below its word": (
+        "reg [3:0] n; always @(posedge clk) n[second -: 2] <= second ? 2'b00 : 2'b10; wire hold = n[0];"
+    ),
     "a word that is not there": TABLE.replace("[0:1]", "[0:2]").replace("[second]", "[{1'b1, !second}]"),
-    "a table that is written": TABLE.replace("end wire", "end always @(posedge clk) if (state[1] && second) t[0] <= 0; wire"),
+    "a table that is written": TABLE.replace(
+        "end wire", "end always @(posedge clk) if (state[1] && second) t[0] <= 0; wire"
+    ),
 }
 OPEN_CONTROLLERS = [
-    (what, [HELD, ("reg failed;", f"reg failed; {more}"), ("module one_hot", SUB + "module one_hot")]) for what, more in OPEN.items()
+    (what, [HELD, ("reg failed;", f"reg failed; {more}"), ("module one_hot", SUB + "module one_hot")])
+    for what, more in OPEN.items()
 ]
 TWO_DRIVERS = [
     ("done = 1'b0", [("reg failed;", "reg failed; assign done = 1'b0;")]),
@@ -98,25 +141,50 @@ GATED = "reg go; always @(posedge clk) go <= 1; wire gated = clk & go;"
 UNSEEN = [
     ([("@(posedge clk)", "@(negedge clk)")], "it takes at the falling edge of clk"),
     ([("@(posedge clk)", "@(posedge reset)")], "the registers' clock is reset"),
-    ([("reg failed;", f"reg failed; {GATED}"), ("  always @(posedge clk)", "  always @(posedge gated)")], "its clock is gated"),
-    ([("reg failed;", "reg failed; reg hold; always @* if (state[1]) hold = 0;"), HELD], "a latch is outside the subset"),
+    (
+        [("reg failed;", f"reg failed; {GATED}"), ("  always @(posedge clk)", "  always @(posedge gated)")],
+        "its clock is gated",
+    ),
+    (
+        [("reg failed;", "reg failed; reg hold; always @* if (state[1]) hold = 0;"), HELD],
+        "a latch is outside the subset",
+    ),
     ([("output we,", "output [3:0] we,")], "a self-test of four has the ports output we of 1 bit"),
-    ([("[1:0] addr", "[2:0] addr"), ("addr = word", "addr = {1'b1, word}")], "a self-test of four has the ports output addr of 2"),
+    (
+        [("[1:0] addr", "[2:0] addr"), ("addr = word", "addr = {1'b1, word}")],
+        "a self-test of four has the ports output addr of 2",
+    ),
 ]
-# what Yosys alone reads so, of a controller that is none to others: what holds `hold`, what stands in front of the module, and
-# the words that refuse it
+# what Yosys alone reads so, of a controller that is none to others: what holds `hold`, what stands in front of the
+# module, and the words that refuse it
 CELL = "module \\$and (A, B, Y); parameter {}; input A, B; output Y; assign Y = 0; endmodule\n".format(
     ", ".join(f"{pin}_{what} = 0" for pin in "ABY" for what in ("SIGNED", "WIDTH"))
 )
 SUB_OPEN = "module sub(input zero, output o); wire x; assign o = x | zero; endmodule\n"
 OF_YOSYS = [
-    ("struct packed { logic [1:0] b; logic [1:0] a; } n; always @(posedge clk) n <= 0; wire hold = n.a[2];", "", "another member's bit"),
+    (
+        "struct packed { logic [1:0] b; logic [1:0] a; } n; always @(posedge clk) n <= 0; wire hold = n.a[2];",
+        "",
+        "another member's bit",
+    ),
     ("wire hold = second && 0.4;", "", "is no 0, and Yosys makes one of it"),
     ("wire [31:0] \\$random = 0; wire hold = $random != 0;", "", "is one with a name behind a backslash"),
-    ("(* hierconn *) wire \\u.x ; assign \\u.x = 0; wire hold; sub u(.zero(1'b0), .o(hold));", SUB_OPEN, "means something to Yosys alone"),
-    ("wire zero = 0, x = 0; wire hold; (* wildcard_port_conns *) sub u(.o(hold));", SUB_OPEN, "means something to Yosys alone"),
+    (
+        "(* hierconn *) wire \\u.x ; assign \\u.x = 0; wire hold; sub u(.zero(1'b0), .o(hold));",
+        SUB_OPEN,
+        "means something to Yosys alone",
+    ),
+    (
+        "wire zero = 0, x = 0; wire hold; (* wildcard_port_conns *) sub u(.o(hold));",
+        SUB_OPEN,
+        "means something to Yosys alone",
+    ),
     ("wire hold = second & 1'b1;", CELL, "$"),
-    ("wire [31:0] n = abs(0); wire hold = 0;", 'import "DPI-C" function integer abs(integer a);\n', "Found DPI function"),
+    (
+        "wire [31:0] n = abs(0); wire hold = 0;",
+        'import "DPI-C" function integer abs(integer a);\n',
+        "Found DPI function",
+    ),
 ]
 
 
@@ -129,8 +197,8 @@ def controller(bench: Bench, edits: list[tuple[str, str]]) -> None:
 
 
 def controllers(bench: Bench) -> None:
-    """What nothing drives stays open in `tools/plain` and `tools/formal`, and two drivers are refused, as is in `tools/formal`
-    what its judge would pass over."""
+    """What nothing drives stays open in `tools/plain` and `tools/formal`, and two drivers are refused, as is in
+    `tools/formal` what its judge would pass over."""
     if not shutil.which("yosys"):
         print("yosys is not installed, so no edited controller is judged")
         return
@@ -157,7 +225,10 @@ def controllers(bench: Bench) -> None:
     for edits, said in UNSEEN:
         controller(bench, edits)
         done = bench.run(["tools/formal", "edited.v", *judged])
-        bench.is_so(done.returncode == 1 and said in done.stderr, f"tools/formal says {done.stdout!r} {done.stderr!r} of {said!r}")
+        bench.is_so(
+            done.returncode == 1 and said in done.stderr,
+            f"tools/formal says {done.stdout!r} {done.stderr!r} of {said!r}",
+        )
     for more, front, said in OF_YOSYS:
         controller(bench, [HELD, ("reg failed;", f"reg failed; {more}"), ("module one_hot", front + "module one_hot")])
         for words in (["tools/plain", "edited.plain.v", "edited.v"], ["tools/formal", "edited.v", *judged]):
@@ -196,7 +267,8 @@ def is_alive(pid: int) -> bool:
 
 
 def killed_launcher(bench: Bench) -> None:
-    """A signal to the launcher ends the program, and what that left beside its files is removed, but for what others left."""
+    """A signal to the launcher ends the program, and what that left beside its files is removed, but for what others
+    left."""
     folder = bench.folder / "signals"
     folder.mkdir()
     for name in (OLDER, LEFT):
@@ -221,7 +293,9 @@ def launcher(bench: Bench) -> None:
     for explain in ("0", "1"):
         told = f"vidlakost: the program {silent} ended with status 1 and without an answer"
         bench.look(["./vidlakost", "sim", "c.m"], 125, "", told, VIDLAKOST_PROGRAM=silent, VIDLAKOST_EXPLAIN=explain)
-    bench.look(["./vidlakost", "sim"], 125, "", "vidlakost: VIDLAKOST_PROGRAM names", VIDLAKOST_PROGRAM=str(bench.folder))
+    bench.look(
+        ["./vidlakost", "sim"], 125, "", "vidlakost: VIDLAKOST_PROGRAM names", VIDLAKOST_PROGRAM=str(bench.folder)
+    )
     slow = program(bench, "slow", "#!/bin/sh\nsleep 14\necho conforms 3\n")
     long = "vidlakost: still running: a test takes at most 2,000,000 cycles"
     bench.look(["./vidlakost", "check", "c.m", "c.m", "s.mem"], 0, "conforms 3", long, VIDLAKOST_PROGRAM=slow)
@@ -229,7 +303,9 @@ def launcher(bench: Bench) -> None:
         bench.look(["./vidlakost", *words], 0, "To begin with:", "")
     bench.look(["./vidlakost", "--stael", "judge"], 2, "", "vidlakost: there is no option '--stael'")
     broken = "set -o pipefail; ./vidlakost vectors examples/c.m examples/cache.mem /dev/stdout | head -n 1"
-    bench.look(["bash", "-c", broken], 8, "w 512 00000000", "vidlakost: error: the line of the answer could not be written")
+    bench.look(
+        ["bash", "-c", broken], 8, "w 512 00000000", "vidlakost: error: the line of the answer could not be written"
+    )
     (bench.folder / "numbers").mkdir()
     bench.look(["bash", "-c", "cd numbers && ../vidlakost make 1 ./1 b c d e"], 1, "made elements 6", "")
     # seconds of a processor, so that other work does not count
@@ -247,7 +323,9 @@ def launcher(bench: Bench) -> None:
     for other in ("./c.m", "c.link"):
         bench.look(["./vidlakost", "chip", "two.chip", other], 2, "", f"vidlakost: 'c.m' and '{other}' are one file")
     for other in ("c.m", "c.link", "./s.mem"):
-        bench.look(["tools/schedule", "two.chip", "--svg", other], 2, "", f"schedule: '{other}' is a file of the chip file")
+        bench.look(
+            ["tools/schedule", "two.chip", "--svg", other], 2, "", f"schedule: '{other}' is a file of the chip file"
+        )
 
 
 def warnings(bench: Bench) -> None:
@@ -273,7 +351,9 @@ def warnings(bench: Bench) -> None:
         ("(reset << 32'hffffffff)", 23, "a shift whose amount can be 2147483648 or more"),
         ("(reset >> {rdata, 31'h0})", 23, "a shift whose amount can be 2147483648 or more"),
     ):
-        (bench.folder / "warned.v").write_text(text.replace("endmodule", f"  wire odd;\n  assign odd = {value};\nendmodule"))
+        (bench.folder / "warned.v").write_text(
+            text.replace("endmodule", f"  wire odd;\n  assign odd = {value};\nendmodule")
+        )
         told = f"warned.v:{text.count(chr(10)) + 1}:{column}: warning: {why}"
         bench.look(["./vidlakost", "check", "warned.v", *judged], 0, "conforms 43", told)
     near = "  // 4'd1? and 1 << 32'hffffffff\n  wire odd;\n  assign odd = (reset << {1'h0, 31'h7fffffff});\nendmodule"
@@ -290,24 +370,40 @@ def warnings(bench: Bench) -> None:
 
 
 def testbenches(bench: Bench) -> None:
-    """A right controller with `always @*` passes in each version of the language, commands that can't be read end the run, and
-    Verilator has nothing to say of the assertions and of a chip."""
+    """A right controller with `always @*` passes in each version of the language, commands that can't be read end the
+    run, and Verilator has nothing to say of the assertions and of a chip."""
     folder = bench.folder / "benches"
     folder.mkdir()
-    text = (bench.folder / "examples" / "foreign" / "one_hot.v").read_text().replace("module one_hot", "module four_bist", 1)
+    text = (
+        (bench.folder / "examples" / "foreign" / "one_hot.v")
+        .read_text()
+        .replace("module one_hot", "module four_bist", 1)
+    )
     text = text.replace("output en,", "output reg en,", 1).replace("assign en =", "always @* en =", 1)
     (folder / "four_bist.v").write_text(text)
     options: List[List[str]] = [[], ["--sv"], ["--assert"]]
     for option in options:
-        bench.look(["tools/testbench", "examples/mats_plus.m", "examples/foreign/four.mem", "benches", *option], 0, "benches/", "")
+        bench.look(
+            ["tools/testbench", "examples/mats_plus.m", "examples/foreign/four.mem", "benches", *option],
+            0,
+            "benches/",
+            "",
+        )
     bench.look(["tools/testbench", "two.chip", "benches", "--chip"], 0, "benches/both_tb.v", "")
     bench.look(["./vidlakost", "chip", "two.chip", "benches/both.v"], 0, "chip units 2", "")
     if shutil.which("iverilog"):
         for version, file in (("2005", "four_tb.v"), ("2012", "four_tb.v"), ("2012", "four_tb.sv")):
             call = f"cd benches && iverilog -g{version} -o tb {file} four_bist.v && vvp -n tb"
             bench.look(["bash", "-c", call], 0, "fail 0 done 42\n", "")
-            bench.is_so("differs" not in bench.run(["bash", "-c", call]).stdout, f"a right controller alarms: {version} {file}")
-        bench.look(["bash", "-c", "cd benches && iverilog -g2005 -o tb both_tb.v both.v && vvp -n tb"], 0, "fail 00 done 123\n", "")
+            bench.is_so(
+                "differs" not in bench.run(["bash", "-c", call]).stdout, f"a right controller alarms: {version} {file}"
+            )
+        bench.look(
+            ["bash", "-c", "cd benches && iverilog -g2005 -o tb both_tb.v both.v && vvp -n tb"],
+            0,
+            "fail 00 done 123\n",
+            "",
+        )
         for spoil in ("rm four_commands.hex", "echo 0 >four_commands.hex"):
             call = f"cd benches && {spoil}; iverilog -g2005 -o tb four_tb.v four_bist.v && vvp -n tb"
             bench.look(["bash", "-c", call], 1, "the commands could not be read", "")

@@ -1,4 +1,5 @@
-"""The rows of python3 -m tests.integration for sources that can mean two things: a wrong twin, which is told, beside a right one."""
+"""The rows of python3 -m tests.integration for sources that can mean two things: a wrong twin, which is told, beside a
+right one."""
 from __future__ import annotations
 
 from typing import Dict, List, Tuple
@@ -28,18 +29,27 @@ def with_rows(first: str, head: str = "unique case (1'b1)", last: str = "default
       state == WRITE_UP: wdata = ~ground;
       {last}
     endcase"""
-    return changed(("        wdata = ~ground;\n        next_state = READ_UP;", "        next_state = READ_UP;"), ("wdata = ground;", rows))
+    return changed(
+        ("        wdata = ~ground;\n        next_state = READ_UP;", "        next_state = READ_UP;"),
+        ("wdata = ground;", rows),
+    )
 
 
 # what a synthesizer is told by comments
 PARALLEL, FULL = "case (1'b1) // synopsys parallel_case", "case (1'b1) /* synthesis full_case */"
 ELSE = "state != WRITE_UP && state != FILL: wdata = ground;"
-PRIORITY = RIGHT.replace("        if (&word) next_state = READ_UP;", "        priority if (&word) next_state = READ_UP; else next_state = FILL;")
+PRIORITY = RIGHT.replace(
+    "        if (&word) next_state = READ_UP;",
+    "        priority if (&word) next_state = READ_UP; else next_state = FILL;",
+)
 # the comparison takes one cycle more, and so does the end
 PIPELINED = changed(
     ("  reg reading, wrong;", "  reg reading, wrong, differs, ended;"),
     ("      wrong <= 0;\n", "      wrong <= 0;\n      differs <= 0;\n      ended <= 0;\n"),
-    ("      if (reading) for (i = 0; i < W; i = i + 1) if (rdata[i] != wanted[i]) wrong <= 1;\n", "      differs <= reading && rdata != wanted;\n      if (differs) wrong <= 1;\n      ended <= state == END;\n"),
+    (
+        "      if (reading) for (i = 0; i < W; i = i + 1) if (rdata[i] != wanted[i]) wrong <= 1;\n",
+        "      differs <= reading && rdata != wanted;\n      if (differs) wrong <= 1;\n      ended <= state == END;\n",
+    ),
     ("done = ~reset;", "done = ~reset & ended;"),
 )
 
@@ -69,7 +79,13 @@ SIGNED = "$signed(rdata) < $signed(wanted) || {} > {}"
 def with_member(index: str) -> str:
     """What a read has to answer is a member of a structure, of which a bit is taken."""
     return changed(
-        ("  reg reading, wrong;", "  typedef struct packed { logic high; logic [1:0] expected; logic low; } kept_t;\n  kept_t kept;\n  reg reading, wrong;"),
+        (
+            "  reg reading, wrong;",
+            (
+                "  typedef struct packed { logic high; logic [1:0] expected; logic low; } kept_t;\n  kept_t kept;\n "
+                " reg reading, wrong;"
+            ),
+        ),
         ("wanted <= state", "kept.expected <= state"),
         (COMPARED, COMPARED.replace("wanted[i]", f"kept.expected[{index}]")),
     )
@@ -84,12 +100,18 @@ def netlist(source: str, out: str) -> List[str]:
 def for_ice40(source: str, out: str, *options: str) -> List[str]:
     """The call that maps a source to the cells of ice40, and audits the netlist."""
     passes = f"read_verilog {source}; synth_ice40 -flatten; write_verilog -noattr {out}"
-    return ["bash", "-c", f"yosys -q -p '{passes}' && tools/audit {out} {' '.join(TEST)} --cells ice40 {' '.join(options)}"]
+    return [
+        "bash",
+        "-c",
+        f"yosys -q -p '{passes}' && tools/audit {out} {' '.join(TEST)} --cells ice40 {' '.join(options)}",
+    ]
 
 
 COMPILE = "./vidlakost compile examples/mats_plus.m examples/foreign/four.mem nothing.list own.v own.report"
 WRONG_WORD = "./vidlakost compile pairs.m pairs.mem nothing.list pairs.v pairs.report && "
-WRONG_WORD += "sed 's/value1 <= (reset/value1 <= (visit/' pairs.v > pairs_wrong.v && tools/formal pairs_wrong.v pairs.m pairs.mem"
+WRONG_WORD += (
+    "sed 's/value1 <= (reset/value1 <= (visit/' pairs.v > pairs_wrong.v && tools/formal pairs_wrong.v pairs.m pairs.mem"
+)
 RAM_CELL = "module ram_cell(input clk, output y);\n  SB_RAM40_4K ram(.RCLK(clk), .RDATA(y));\nendmodule\n"
 PINNED = RIGHT + """module pinned(input ck, rst_n, mode, input [1:0] q, output cen, wen, output [1:0] a, d, output ready, error, busy);
   wire en, we;
@@ -103,18 +125,32 @@ IDLE = [f"{STYLES}idle.v", *TEST, "--pins", f"{STYLES}idle.pins"]
 def with_kept(*writers: str) -> str:
     """What a read has to answer is kept in a memory of two words."""
     return changed(
-        ("  reg reading, wrong;", "  reg reading, wrong, at;\n  reg [W-1:0] kept [0:1];\n  wire [W-1:0] wanted = kept[at];"),
+        (
+            "  reg reading, wrong;",
+            "  reg reading, wrong, at;\n  reg [W-1:0] kept [0:1];\n  wire [W-1:0] wanted = kept[at];",
+        ),
         ("ground, next_ground, wanted;", "ground, next_ground;"),
         ("      reading <= 0;", "      reading <= 0;\n      at <= 0;"),
-        ("      if (en && !we) wanted <= state == READ_DOWN ? ~ground : ground;\n", "      if (en && !we) at <= ~at;\n"),
-        ("  always @* begin\n    next_state", "".join(f"  always @(posedge clk) {one}\n" for one in writers) + "  always @* begin\n    next_state"),
+        (
+            "      if (en && !we) wanted <= state == READ_DOWN ? ~ground : ground;\n",
+            "      if (en && !we) at <= ~at;\n",
+        ),
+        (
+            "  always @* begin\n    next_state",
+            "".join(f"  always @(posedge clk) {one}\n" for one in writers) + "  always @* begin\n    next_state",
+        ),
     )
 
 
 def with_cells(last: str) -> str:
     """The port `fail` behind two cells of a library, the second of which is this."""
-    parts = f"  output fail;\n  wire bad_n;\n  INV one(.A(wrong & ~reset), .Y(bad_n));\n  {last} two(.A(bad_n), .EN(wrong), .Y(fail));"
-    return changed(("  output fail;", parts), (FAIL, "")).replace("INV two(.A(bad_n), .EN(wrong),", "INV two(.A(bad_n),")
+    parts = (
+        f"  output fail;\n  wire bad_n;\n  INV one(.A(wrong & ~reset), .Y(bad_n));\n  {last} two(.A(bad_n), .EN(wrong),"
+        " .Y(fail));"
+    )
+    return changed(("  output fail;", parts), (FAIL, "")).replace(
+        "INV two(.A(bad_n), .EN(wrong),", "INV two(.A(bad_n),"
+    )
 
 
 PIN = "pin({0}) {{ direction : input; }}"
@@ -147,33 +183,105 @@ FILES: Dict[str, str] = {
     "net_off.v": changed((FAIL, "  tri t;\n  assign t = wrong ? ~reset : 1'bz;\n  assign fail = t;\n")),
     "net_on.v": changed((FAIL, "  tri t;\n  assign t = wrong & ~reset;\n  assign fail = t;\n")),
     "kept.v": with_kept(f"if (en && !we) {WANTED}"),
-    "kept_by_lanes.v": with_kept(*(f"if (en && !we) {WANTED}".replace("] <=", f"][{bit}] <=").replace("ground", f"ground[{bit}]") for bit in (0, 1))),
+    "kept_by_lanes.v": with_kept(
+        *(
+            f"if (en && !we) {WANTED}".replace("] <=", f"][{bit}] <=").replace("ground", f"ground[{bit}]")
+            for bit in (0, 1)
+        )
+    ),
     "kept_twice.v": with_kept("if (en && !we) kept[~at] <= ground;", f"if (en && !we && state == READ_DOWN) {WANTED}"),
-    "set_twice.v": changed(("  always @* begin\n", "  always @(posedge clk) if (reset) wrong <= 0;\n  always @* begin\n")),
+    "set_twice.v": changed(
+        ("  always @* begin\n", "  always @(posedge clk) if (reset) wrong <= 0;\n  always @* begin\n")
+    ),
     "list_short.v": changed(("  always @* begin\n", "  always @(state or word or ground) begin\n")),
     "list_whole.v": changed(("  always @* begin\n", "  always @(state or word or ground or reset) begin\n")),
-    "read_early.v": changed((FAIL, "  reg said, now;\n  always @* begin\n    said = now;\n    now = wrong & ~reset;\n  end\n  assign fail = said;\n")),
-    "read_late.v": changed((FAIL, "  reg said, now;\n  always @* begin\n    now = wrong & ~reset;\n    said = now;\n  end\n  assign fail = said;\n")),
+    "read_early.v": changed(
+        (
+            FAIL,
+            (
+                "  reg said, now;\n  always @* begin\n    said = now;\n    now = wrong & ~reset;\n  end\n  assign fail"
+                " = said;\n"
+            ),
+        )
+    ),
+    "read_late.v": changed(
+        (
+            FAIL,
+            (
+                "  reg said, now;\n  always @* begin\n    now = wrong & ~reset;\n    said = now;\n  end\n  assign fail"
+                " = said;\n"
+            ),
+        )
+    ),
     "delayed.v": changed((FAIL, "  assign #20 fail = wrong & ~reset;\n")),
     "writes.v": changed((FAIL, FAIL + "  always @(posedge clk) $fdisplay(1, wrong);\n")),
     "pipelined.v": PIPELINED,
-    "pipelined_twice.v": PIPELINED.replace("assign fail = wrong & ~reset", "reg later;\n  always @(posedge clk) later <= wrong & ~reset;\n  assign fail = later & ~reset"),
+    "pipelined_twice.v": PIPELINED.replace(
+        "assign fail = wrong & ~reset",
+        "reg later;\n  always @(posedge clk) later <= wrong & ~reset;\n  assign fail = later & ~reset",
+    ),
     "pipelined_forgets.v": PIPELINED.replace("if (differs) wrong <= 1;", "wrong <= differs;"),
     "pinned.v": PINNED,
-    "pinned.pins": "clk ~ck\nreset ~rst_n\nrdata q\nen ~cen\nwe ~wen\naddr a\nwdata d\ndone ready\nfail error\ntie mode 1\nopen busy\n",
-    "unique_if.v": RIGHT.replace("        if (&word) next_state = READ_UP;", "        unique if (&word) next_state = READ_UP; else next_state = FILL;"),
+    "pinned.pins": (
+        "clk ~ck\nreset ~rst_n\nrdata q\nen ~cen\nwe ~wen\naddr a\nwdata d\ndone ready\nfail error\ntie mode 1\nopen"
+        " busy\n"
+    ),
+    "unique_if.v": RIGHT.replace(
+        "        if (&word) next_state = READ_UP;",
+        "        unique if (&word) next_state = READ_UP; else next_state = FILL;",
+    ),
     "pairs.m": "{up(w1);up(r1,r1)}\n",
     "pairs.mem": "memory 2\nname m\nwords 2\nbits 4\nlatency 2\n",
-    "returns.v": changed((FAIL, "  function said(input x);\n    return x;\n  endfunction\n  assign fail = said(wrong) & ~reset;\n")),
-    "says.v": changed((FAIL, "  function said(input x);\n    said = x;\n  endfunction\n  assign fail = said(wrong) & ~reset;\n")),
-    "says_not.v": changed((FAIL, "  function said(input x);\n    said = ~x;\n  endfunction\n  assign fail = said(wrong) & ~reset;\n")),
-    "keeps.v": changed((FAIL, "  reg said;\n  always_comb if (state != FILL || reset) said = wrong & ~reset;\n  assign fail = said;\n")),
-    "keeps_not.v": changed((FAIL, "  reg said;\n  always_comb begin\n    said = 0;\n    if (!reset) said = wrong;\n  end\n  assign fail = said;\n")),
-    "turns.v": changed((FAIL, "  reg said;\n  always @* begin : b\n    integer k;\n    said = 0;\n    if (!reset) for (k = 0; k < 1; k = k + 1) said = wrong;\n  end\n  assign fail = said;\n")),
+    "returns.v": changed(
+        (FAIL, "  function said(input x);\n    return x;\n  endfunction\n  assign fail = said(wrong) & ~reset;\n")
+    ),
+    "says.v": changed(
+        (FAIL, "  function said(input x);\n    said = x;\n  endfunction\n  assign fail = said(wrong) & ~reset;\n")
+    ),
+    "says_not.v": changed(
+        (FAIL, "  function said(input x);\n    said = ~x;\n  endfunction\n  assign fail = said(wrong) & ~reset;\n")
+    ),
+    "keeps.v": changed(
+        (FAIL, "  reg said;\n  always_comb if (state != FILL || reset) said = wrong & ~reset;\n  assign fail = said;\n")
+    ),
+    "keeps_not.v": changed(
+        (
+            FAIL,
+            (
+                "  reg said;\n  always_comb begin\n    said = 0;\n    if (!reset) said = wrong;\n  end\n  assign fail ="
+                " said;\n"
+            ),
+        )
+    ),
+    "turns.v": changed(
+        (
+            FAIL,
+            (
+                "  reg said;\n  always @* begin : b\n    integer k;\n    said = 0;\n    if (!reset) for (k = 0; k < 1;"
+                " k = k + 1) said = wrong;\n  end\n  assign fail = said;\n"
+            ),
+        )
+    ),
     # the place at which the loop ended is kept where it is not run
-    "turns_kept.v": changed((FAIL, "  reg said;\n  always @* begin : b\n    integer k;\n    said = 0;\n    if (!reset) for (k = 0; k < 1; k = k + 1) said = wrong;\n    if (k == 0) said = 1;\n  end\n  assign fail = said;\n")),
+    "turns_kept.v": changed(
+        (
+            FAIL,
+            (
+                "  reg said;\n  always @* begin : b\n    integer k;\n    said = 0;\n    if (!reset) for (k = 0; k < 1;"
+                " k = k + 1) said = wrong;\n    if (k == 0) said = 1;\n  end\n  assign fail = said;\n"
+            ),
+        )
+    ),
     "pulled.v": changed((FAIL, "  tri1 t;\n  assign fail = wrong & ~reset & t;\n")),
-    "falls_late.v": changed((FAIL, "  reg [9:0] since;\n  always @(posedge clk) since <= reset ? 0 : since + 1;\n  assign fail = wrong & ~reset & since != 1000;\n")),
+    "falls_late.v": changed(
+        (
+            FAIL,
+            (
+                "  reg [9:0] since;\n  always @(posedge clk) since <= reset ? 0 : since + 1;\n  assign fail = wrong &"
+                " ~reset & since != 1000;\n"
+            ),
+        )
+    ),
     "counts.v": COUNTS,
     "counts_on.v": COUNTS_ON,
     "minus.v": compared("wanted - rdata != 0"),
@@ -184,7 +292,9 @@ FILES: Dict[str, str] = {
     "member.v": with_member("i"),
     # beyond the member, where Yosys by itself would take a bit of the next one
     "member_beyond.v": with_member("i + 1"),
-    "member_written.v": with_member("i").replace("kept.expected <= state", "for (i = 0; i < 2; i = i + 1) kept.expected[i] <= state"),
+    "member_written.v": with_member("i").replace(
+        "kept.expected <= state", "for (i = 0; i < 2; i = i + 1) kept.expected[i] <= state"
+    ),
     "ram_cell.v": RAM_CELL,
     "nothing.v": "module m(input clk);\nendmodule\n",
     "dollar.v": "module \\$paramod$x\\part (input a, output y);\n  assign y = a;\nendmodule\n",
@@ -204,9 +314,16 @@ def clocked(name: str, status: int, out: str, error: str) -> Tuple[str, List[str
 CALLS: List[Tuple[str, List[str], int, str, str]] = [
     audited("rows_apart.v", 0, EXACT, ""),
     audited("rows_of_one_word.v", 0, EXACT, ""),
-    audited("rows_meet.v", 1, "  wdata hangs on rows_that_overlap (rows_meet.v:45), of which more than one holds, and any may be taken", ""),
+    audited(
+        "rows_meet.v",
+        1,
+        "  wdata hangs on rows_that_overlap (rows_meet.v:45), of which more than one holds, and any may be taken",
+        "",
+    ),
     audited("comment_apart.v", 0, EXACT, "audit: Warning: Encountered `"),
-    audited("comment_meet.v", 1, "  wdata hangs on rows_that_overlap (comment_meet.v:45)", "audit: Warning: Encountered `"),
+    audited(
+        "comment_meet.v", 1, "  wdata hangs on rows_that_overlap (comment_meet.v:45)", "audit: Warning: Encountered `"
+    ),
     audited("priority_rows.v", 0, EXACT, ""),
     audited("full.v", 0, EXACT, "audit: Warning: Encountered `"),
     audited("full_not.v", 1, "audit: unknown cycle 14 port wdata", "audit: Warning: Encountered `"),
@@ -215,14 +332,23 @@ CALLS: List[Tuple[str, List[str], int, str, str]] = [
     ("yosys", ["tools/formal", "rows_apart.v", *TEST], 0, "each port is in each cycle as it has to be\n", ""),
     ("yosys", ["tools/formal", "rows_meet.v", *TEST], 1, "differs in cycle 6\n", ""),
     audited("cells.v", 0, EXACT, "", "--liberty", "three_state.lib"),
-    audited("cells_off.v", 1, "", "audit: 'two' (cells_off.v:13): the cell TBUF has three states", "--liberty", "three_state.lib"),
+    audited(
+        "cells_off.v",
+        1,
+        "",
+        "audit: 'two' (cells_off.v:13): the cell TBUF has three states",
+        "--liberty",
+        "three_state.lib",
+    ),
     audited("gate_off.v", 1, "", "audit: 'gate_off.v':20: bufif1: a driver that can be off"),
     audited("gate_unused.v", 0, EXACT, "", "--top", "two_processes"),
     audited("net_off.v", 1, "audit: conforms, fail is unknown in cycle 0", "audit: Warning: Yosys has only limited"),
     audited("net_on.v", 0, EXACT, ""),
     audited("kept.v", 0, EXACT, ""),
     audited("kept_by_lanes.v", 0, EXACT, ""),
-    audited("kept_twice.v", 1, "audit: refused", "audit: 'kept' (kept_twice.v:41 and kept_twice.v:42): two blocks write"),
+    audited(
+        "kept_twice.v", 1, "audit: refused", "audit: 'kept' (kept_twice.v:41 and kept_twice.v:42): two blocks write"
+    ),
     audited("set_twice.v", 1, "audit: refused", "audit: wrong (set_twice.v:22 and set_twice.v:38): two blocks set it"),
     audited("list_short.v", 0, EXACT, "audit: 'list_short.v':38: the block reads reset, and does not wait for it"),
     audited("list_short.v", 1, "a simulator may read the sources otherwise", "audit: 'list_short.v':38", "--strict"),
@@ -230,7 +356,13 @@ CALLS: List[Tuple[str, List[str], int, str, str]] = [
     audited("read_early.v", 0, EXACT, "audit: 'read_early.v':22: the block reads now before it sets it"),
     audited("read_late.v", 0, EXACT, ""),
     ("yosys", ["tools/plain", "out.v", "read_early.v"], 0, "", "plain: 'read_early.v':22: the block reads now"),
-    ("yosys", ["tools/formal", "read_early.v", *TEST], 0, "each port", "formal: 'read_early.v':22: the block reads now"),
+    (
+        "yosys",
+        ["tools/formal", "read_early.v", *TEST],
+        0,
+        "each port",
+        "formal: 'read_early.v':22: the block reads now",
+    ),
     audited("delayed.v", 0, EXACT, "audit: 'delayed.v':20: a delay is passed over"),
     clocked("list_short.v", 1, "audit: refused", "audit: 'list_short.v':38"),
     clocked("list_whole.v", 0, EXACT, ""),
@@ -243,7 +375,9 @@ CALLS: List[Tuple[str, List[str], int, str, str]] = [
     audited("pipelined_twice.v", 1, "audit: conforms but for done, 1 cycle late, fail is ", "", "--fail-late", "1"),
     audited("pipelined_forgets.v", 1, "audit: conforms but for done, 1 cycle late, fail is ", "", "--fail-late", "1"),
     audited("unique_if.v", 1, "audit: refused", "audit: 'unique_if.v':50: Yosys doesn't read `unique if`"),
-    audited("returns.v", 1, "audit: refused", "audit: 'returns.v':21: Yosys doesn't read `return`; a function's own name"),
+    audited(
+        "returns.v", 1, "audit: refused", "audit: 'returns.v':21: Yosys doesn't read `return`; a function's own name"
+    ),
     audited("says.v", 0, EXACT, ""),
     audited("says_not.v", 1, "audit: conforms, fail is 1 in cycle 1 though all answers are right", ""),
     audited("keeps.v", 1, "audit: refused", "audit: said (keeps.v): an always_comb doesn't set it in every branch"),
@@ -256,7 +390,9 @@ CALLS: List[Tuple[str, List[str], int, str, str]] = [
     audited("kept.v", 0, EXACT, "", "--strict"),
     clocked("counts.v", 0, "and splitting 1 bit does, in 8 states at once\n", ""),
     audited("counts.v", 0, EXACT, ""),
-    audited("counts_on.v", 1, "audit: conforms, fail is 0 in cycle 21 though bit 0 of the answer of cycle 6 is wrong\n", ""),
+    audited(
+        "counts_on.v", 1, "audit: conforms, fail is 0 in cycle 21 though bit 0 of the answer of cycle 6 is wrong\n", ""
+    ),
     clocked("minus.v", 0, EXACT, ""),
     audited("minus_short.v", 1, "audit: conforms, fail is 0 in cycle 15 though bit 0 of the answer of cycle 14", ""),
     clocked("signed.v", 0, EXACT, ""),
@@ -264,17 +400,43 @@ CALLS: List[Tuple[str, List[str], int, str, str]] = [
     ("yosys", netlist("counts.v", "counts_gates.v"), 0, EXACT, ""),
     ("yosys", netlist("counts_on.v", "counts_on_gates.v"), 1, "audit: conforms, fail is 0 in cycle ", ""),
     ("yosys iverilog", for_ice40(f"{STYLES}two_processes.v", "ice.v", "--simulate"), 0, EXACT, ""),
-    ("yosys", for_ice40(f"{STYLES}two_processes_forgets.v", "ice_forgets.v"), 1, "audit: conforms, fail is 0 in cycle 9", ""),
+    (
+        "yosys",
+        for_ice40(f"{STYLES}two_processes_forgets.v", "ice_forgets.v"),
+        1,
+        "audit: conforms, fail is 0 in cycle 9",
+        "",
+    ),
     ("yosys", for_ice40("counts_on.v", "ice_counts_on.v"), 1, "audit: conforms, fail is 0 in cycle ", ""),
-    ("yosys", ["bash", "-c", f"{COMPILE} && {for_ice40('own.v', 'ice_own.v')[-1]}"], 0, EXACT, "nothing.list: warning: the list holds no primitive"),
+    (
+        "yosys",
+        ["bash", "-c", f"{COMPILE} && {for_ice40('own.v', 'ice_own.v')[-1]}"],
+        0,
+        EXACT,
+        "nothing.list: warning: the list holds no primitive",
+    ),
     clocked("member.v", 0, EXACT, "audit: 'member.v':37: kept.expected[i] is read as a part of a word of its own"),
     audited("member_beyond.v", 1, "audit: conforms, fail is ", "audit: 'member_beyond.v':37: kept.expected[i + 1]"),
-    audited("member_written.v", 1, "", "audit: 'member_written.v':36: a part of a structure's member, beyond which Yosys"),
-    ("yosys", ["tools/plain", "out.v", "ram_cell.v", "--cells", "ice40"], 1, "", "plain: ram_cell has a part SB_RAM40_4K, which is no"),
+    audited(
+        "member_written.v", 1, "", "audit: 'member_written.v':36: a part of a structure's member, beyond which Yosys"
+    ),
+    (
+        "yosys",
+        ["tools/plain", "out.v", "ram_cell.v", "--cells", "ice40"],
+        1,
+        "",
+        "plain: ram_cell has a part SB_RAM40_4K, which is no",
+    ),
     ("yosys", ["tools/plain", "out.v", "ram_cell.v", "--cells", "ice"], 2, "", "plain: --cells knows ice40"),
     ("yosys", ["tools/formal", "counts.v", *TEST], 0, "each port is in each cycle as it has to be\n", ""),
     # of the second word another one is expected, whose first answer comes in cycle 7; some registers become constants
-    ("yosys", ["bash", "-c", WRONG_WORD], 1, "differs in cycle 8\n", "nothing.list: warning: the list holds no primitive"),
+    (
+        "yosys",
+        ["bash", "-c", WRONG_WORD],
+        1,
+        "differs in cycle 8\n",
+        "nothing.list: warning: the list holds no primitive",
+    ),
     ("yosys", ["tools/formal", *IDLE], 1, "differs in cycle 1\n", ""),
     ("yosys", ["tools/formal", "pinned.v", *TEST, "--pins", "pinned.pins"], 0, "each port is in each cycle", ""),
     ("yosys", ["tools/plain", "out.v", "nothing.v"], 1, "", "plain: no module of the sources has anything in it"),

@@ -72,7 +72,8 @@ class Looker:
         return self.all(f"#coverage [data-march='{march}'][data-primitive='{primitive}']")[0]
 
     def saved(self, name: str) -> str:
-        """The text of a file that the browser saved; nothing before it is whole, since it has another name until then."""
+        """The text of a file that the browser saved; nothing before it is whole, since it has another name until
+        then."""
         path = self.folder / name
         return path.read_text(encoding="utf-8") if path.exists() else ""
 

@@ -1,4 +1,5 @@
-"""Parts of the page of `vidlakost explore` in a browser: the search for a march, what squares say, sizes and the address."""
+"""Parts of the page of `vidlakost explore` in a browser: the search for a march, what squares say, sizes and the
+address."""
 from __future__ import annotations
 
 from typing import Any
@@ -34,7 +35,9 @@ def found(it: Looker) -> None:
     """A march that is found comes in beside the others, with what it covers; A is extended; a search is stopped."""
     it.all("#cards .card:nth-child(2) button[aria-label^=remove]")[0].click()
     it.by_id("find").click()
-    it.look("a march is found", lambda: "length 18n" in it.text("find-said") and "It is march B." in it.text("find-said"))
+    it.look(
+        "a march is found", lambda: "length 18n" in it.text("find-said") and "It is march B." in it.text("find-said")
+    )
     it.look("it is shown with what it covers", lambda: "B covers 48 of 48 in 18n" in it.text("summary"))
     it.by_id("extend").click()
     it.look("A is extended", lambda: "15 more than march A" in it.text("find-said"))
@@ -45,7 +48,10 @@ def found(it: Looker) -> None:
     it.by_id("find").click()
     it.look("how far it is is told", lambda: "so far: {" in it.text("find-said") and " s" in it.text("find-time"))
     it.by_id("find-stop").click()
-    it.look("a search is stopped", lambda: "shortest found" in it.text("find-said") and not it.by_id("find-stop").is_displayed())
+    it.look(
+        "a search is stopped",
+        lambda: "shortest found" in it.text("find-said") and not it.by_id("find-stop").is_displayed(),
+    )
     it.look("what it had comes in", lambda: "linked total 600 covered 600" in it.text("find-said"))
     it.by_id("find-linked").click()
     it.by_id("by-text").click()
@@ -64,9 +70,14 @@ def carried(it: Looker) -> None:
     address = it.browser.current_url
     it.browser.get("about:blank")
     it.browser.get(address)
-    it.look("its page has the same marches", lambda: "A covers 32 of 48 in 10n · B covers 48 of 48 in 22n" in it.text("summary"))
+    it.look(
+        "its page has the same marches",
+        lambda: "A covers 32 of 48 in 10n · B covers 48 of 48 in 22n" in it.text("summary"),
+    )
     it.look("and the same memory", lambda: "little" in it.by_id("memory-text").get_attribute("value"))
-    it.look("the list is ticked", lambda: it.by_id("class-SF").is_selected() and not it.by_id("class-DRF").is_selected())
+    it.look(
+        "the list is ticked", lambda: it.by_id("class-SF").is_selected() and not it.by_id("class-DRF").is_selected()
+    )
     it.browser.execute_script("location.hash = '#march=any(w0)%3Bany(r0)&list=SF%0A%3C0w1/0/-%3E'")
     it.look("another address opens anew", lambda: "A covers 1 of 3 in 2n" in it.text("summary"))
     it.look("with its list", lambda: it.by_id("list").get_attribute("value") == "SF\n<0w1/0/->")
@@ -80,7 +91,10 @@ def small(it: Looker) -> None:
     sizes = {"width": 1280, "height": 720, "deviceScaleFactor": 1, "mobile": False}
     it.browser.execute_cdp_cmd("Emulation.setDeviceMetricsOverride", sizes)
     it.browser.execute_script("scrollTo(0, 0)")
-    lowest = "return Math.max(...[...document.querySelectorAll('#coverage .square')].map((it) => it.getBoundingClientRect().bottom))"
+    lowest = (
+        "return Math.max(...[...document.querySelectorAll('#coverage .square')].map((it) =>"
+        " it.getBoundingClientRect().bottom))"
+    )
     it.look("the squares show at 1280 x 720", lambda: 0 < it.browser.execute_script(lowest) < 720)
     it.browser.execute_cdp_cmd("Emulation.setDeviceMetricsOverride", {**sizes, "width": 375})
     beyond = """return [...document.querySelectorAll("body *")].filter((it) => !it.closest("#cycles, pre, .skip, .march"))

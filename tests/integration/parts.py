@@ -67,7 +67,9 @@ def data_loss(bench: Bench) -> None:
     (bench.folder / "link.m").symlink_to("c.m")
     os.link(bench.folder / "c.m", bench.folder / "hard.m")
     for other in ("./c.m", "link.m", "hard.m", str(bench.folder / "c.m"), "./../" + bench.folder.name + "/c.m"):
-        bench.look(["./vidlakost", "judge", "c.m", "tf.list", other], 2, "", f"vidlakost: 'c.m' and '{other}' are one file")
+        bench.look(
+            ["./vidlakost", "judge", "c.m", "tf.list", other], 2, "", f"vidlakost: 'c.m' and '{other}' are one file"
+        )
     bench.look(
         ["./vidlakost", "compile", "c.m", "s.mem", "tf.list", "made.v", "./made.v"],
         2,
@@ -106,12 +108,16 @@ def tools(bench: Bench) -> None:
     shared = {command.name for command in command_table()} & set(tasks.tools())
     bench.is_so(not shared, f"a tool and a command have one name: {shared}")
     names = sorted(
-        path.name for path in TOOLS.iterdir() if path.is_file() and os.access(path, os.X_OK) and path.name not in tasks.OLD
+        path.name
+        for path in TOOLS.iterdir()
+        if path.is_file() and os.access(path, os.X_OK) and path.name not in tasks.OLD
     )
     calls = [([f"tools/{name}", "--help"], 0, f"usage: vidlakost {name}", "") for name in names]
     calls += [(["./vidlakost", "help", name], 0, f"usage: vidlakost {name}", "") for name in names]
     calls += [
-        ([f"tools/{name}", "--nothing"], 2, "", f"{name}: there is no option --nothing") for name in names if name != "unproved"
+        ([f"tools/{name}", "--nothing"], 2, "", f"{name}: there is no option --nothing")
+        for name in names
+        if name != "unproved"
     ]
     table = [*cases.CALLS, *hostile.CALLS, *access.CALLS, *tester.CALLS, *collars.CALLS]
     missing = sorted({need for needs, *_ in table for need in needs.split() if not shutil.which(need)})
@@ -130,7 +136,9 @@ def closed_pipes(bench: Bench) -> None:
 
 
 def random_directions(chance: random.Random, elements: list[Element]) -> str:
-    return "".join({"up": "u", "down": "d", "del": "u"}.get(element.order) or chance.choice("ud") for element in elements)
+    return "".join(
+        {"up": "u", "down": "d", "del": "u"}.get(element.order) or chance.choice("ud") for element in elements
+    )
 
 
 def random_instance(chance: random.Random, primitive: str, kind: str, elements: list[Element]) -> Verdict:
@@ -154,14 +162,18 @@ def model_and_sim(bench: Bench) -> None:
         steps = list(verdict.array().march(elements, verdict.directions))
         last = steps[-1]
         visit = [step.operation for step in steps if (step.element, step.cell) == (last.element, last.cell)]
-        wanted = f"caught element {last.element} address {last.cell} operation {len(visit) - 1}" if last.differs else "passes"
+        wanted = (
+            f"caught element {last.element} address {last.cell} operation {len(visit) - 1}"
+            if last.differs
+            else "passes"
+        )
         said = bench.run([bench.environment["VIDLAKOST_PROGRAM"], *verdict.words("random.m")]).stdout.strip()
         bench.is_so(said == wanted, f"{verdict.words(march)}: sim says {said}, and the model {wanted}")
 
 
 def model_and_verdicts(bench: Bench) -> None:
-    """In the array of each escape, static or dynamic, the plain model passes; of what is covered it catches instances at
-    random cells."""
+    """In the array of each escape, static or dynamic, the plain model passes; of what is covered it catches instances
+    at random cells."""
     chance = random.Random(6)
     (bench.folder / "every.list").write_text("all\nDRF\ndyn1\ndyn2\n")
     for name in ("march_c_minus.m", "march_raw.m", "march_g.m"):
@@ -191,8 +203,8 @@ def told_by_icarus(bench: Bench, words: list[str]) -> str:
 
 
 def testbench_and_benchfault(bench: Bench) -> None:
-    """Beside the memory of the testbench, in Icarus, a planted fault is seen in the very cycle and by the very words that
-    `benchfault` says."""
+    """Beside the memory of the testbench, in Icarus, a planted fault is seen in the very cycle and by the very words
+    that `benchfault` says."""
     if not shutil.which("iverilog"):
         print("iverilog is not installed, so the testbench is not compared with benchfault")
         return
@@ -209,7 +221,9 @@ def testbench_and_benchfault(bench: Bench) -> None:
         words = ["planted.m", "scrambled.mem", "planted", "--fault", primitive, "--victim", cells[0]]
         words += ["--stream"] if number % 2 else []
         (bench.folder / "planted").mkdir(exist_ok=True)
-        bench.run(["./vidlakost", "compile", "planted.m", "scrambled.mem", "tf.list", "planted/s_bist.v", "planted.report"])
+        bench.run(
+            ["./vidlakost", "compile", "planted.m", "scrambled.mem", "tf.list", "planted/s_bist.v", "planted.report"]
+        )
         told = told_by_icarus(bench, words + (["--aggressor", aggressor] if aggressor != "none" else []))
         bench.is_so(told == said, f"{' '.join(words)}: benchfault says {said}, and the testbench {told}")
 
@@ -268,7 +282,9 @@ def rows_and_reads(bench: Bench) -> None:
     turned = memory.way_back()
     for index in range(memory.words):
         place = memory.address_of(index)
-        back = sum((sum(place >> bit & 1 for bit in bits) + constant) % 2 << i for i, (bits, constant) in enumerate(turned))
+        back = sum(
+            (sum(place >> bit & 1 for bit in bits) + constant) % 2 << i for i, (bits, constant) in enumerate(turned)
+        )
         bench.is_so(back == index, f"index {index} has address {place}, and the way back leads to {back}")
 
 

@@ -38,7 +38,10 @@ def running(served: Served) -> list[pathlib.Path]:
 def searches(bench: Bench, served: Served) -> None:
     """A march that is found, one that is extended, one that is stopped, and one that another takes the place of."""
     told = heard(served, served.ask("find", SEARCH))
-    bench.is_so(told["ended"] is not None and told["ended"]["march"] == "{any(w0,w1,r1,w0,r0)}", f"the page is told {told} of a search")
+    bench.is_so(
+        told["ended"] is not None and told["ended"]["march"] == "{any(w0,w1,r1,w0,r0)}",
+        f"the page is told {told} of a search",
+    )
     bench.is_so(told["ended"]["length"] == SHORTEST, f"it is told {told}")
     bench.is_so(told["ended"]["lines"] == ["judge total 2 covered 2 escapes 0"], f"it is told {told}")
     bench.is_so(told["ended"]["isWhole"], f"it is told {told}")
@@ -92,7 +95,9 @@ def by_http(bench: Bench) -> None:
         wrong_searches(bench, served)
         served.ask("find", LONG_SEARCH)
         left = running(served)
-    bench.is_so(len(left) == 1 and comes(lambda: not left[0].exists()), f"the searches {left} run on when explore has ended")
+    bench.is_so(
+        len(left) == 1 and comes(lambda: not left[0].exists()), f"the searches {left} run on when explore has ended"
+    )
 
 
 PARTS = [by_http]

@@ -1,5 +1,5 @@
-"""The part of python3 -m tests.integration in which Icarus clocks right sources and their wrong twins by the rule of the ports: what
-`audit` says of each is seen by a simulator too."""
+"""The part of python3 -m tests.integration in which Icarus clocks right sources and their wrong twins by the rule of
+the ports: what `audit` says of each is seen by a simulator too."""
 from __future__ import annotations
 
 import pathlib

@@ -1,6 +1,6 @@
-"""What `python3 -m tests.integration` does with the list of pins that a self-test does not see: each bit of each pin of a macro
-stands still in test, at 0 and at 1. The test of each pin that is not told has to fail, and that of a pin that is told
-has to pass for some bit."""
+"""What `python3 -m tests.integration` does with the list of pins that a self-test does not see: each bit of each pin of
+a macro stands still in test, at 0 and at 1. The test of each pin that is not told has to fail, and that of a pin that
+is told has to pass for some bit."""
 from __future__ import annotations
 
 import concurrent.futures

@@ -1,5 +1,5 @@
-"""What `python3 -m tests.integration` does with wrong collars, and a wrong module that joins them: a line of a right one is changed, and its
-testbench has to tell."""
+"""What `python3 -m tests.integration` does with wrong collars, and a wrong module that joins them: a line of a right
+one is changed, and its testbench has to tell."""
 from __future__ import annotations
 
 import concurrent.futures
@@ -38,7 +38,8 @@ def crossed(net: str) -> str:
     return f"{{{net}[3], {net}[1], {net}[2], {net}[0]}}"
 
 
-# what is wrong, in the collar of which memory, a part of it and what stands there in place of it, and whether planting tells
+# what is wrong, in the collar of which memory, a part of it and what stands there in place of it, and whether planting
+# tells
 WRONG = [
     ("the chip's address is swapped at one port", "two", "t_addr : a2", "t_addr : {a2[2], a2[0], a2[1]}", False),
     ("a bit of the chip's address is open", "two", "t_addr : a;", "t_addr : {a[2], 1'b0, a[0]};", False),
@@ -58,22 +59,76 @@ WRONG = [
     ("the second session is left out", "two", "phase == 3'd3", "phase == 3'd2", True),
     ("what was found is not kept", "two", "kept <= kept | ", "kept <= ", True),
     ("the lanes of the other port are left out", "both", "phase >= 3'd2", "phase >= 3'd2 & ~phase[0]", True),
-    ("the macro answers a cycle earlier than the description says", "slow", "q = answers_1[2]", "q = answers_1[1]", False),
+    (
+        "the macro answers a cycle earlier than the description says",
+        "slow",
+        "q = answers_1[2]",
+        "q = answers_1[1]",
+        False,
+    ),
     ("a register of the answers is left out", "slow", "returned = returned_1", "returned = judged", False),
     ("a bit of the chip's answer hangs on another", "both", "q = first_answer", f"q = {hung('first_answer')}", False),
     ("a bit of what the chip writes hangs on another", "both", "t_wdata : d", f"t_wdata : {hung('d')}", False),
-    ("two bits of the chip's other answer are crossed", "both", "p = second_answer", f"p = {crossed('second_answer')}", False),
+    (
+        "two bits of the chip's other answer are crossed",
+        "both",
+        "p = second_answer",
+        f"p = {crossed('second_answer')}",
+        False,
+    ),
     ("a bit of the test's answer hangs on another", "both", "rdata = returned", f"rdata = {hung('returned')}", True),
-    ("a bit that the controller takes hangs on another", "both", ".rdata(bist_taken)", f".rdata({hung('bist_taken')})", True),
-    ("two bits of what the test writes are crossed", "both", "t_wdata = s_wdata", f"t_wdata = {crossed('s_wdata')}", True),
-    ("a bit of what the other port writes hangs on another", "both", "m_e = test ? t_wdata", "m_e = test ? {t_wdata[3:1], t_wdata[1]}", True),
+    (
+        "a bit that the controller takes hangs on another",
+        "both",
+        ".rdata(bist_taken)",
+        f".rdata({hung('bist_taken')})",
+        True,
+    ),
+    (
+        "two bits of what the test writes are crossed",
+        "both",
+        "t_wdata = s_wdata",
+        f"t_wdata = {crossed('s_wdata')}",
+        True,
+    ),
+    (
+        "a bit of what the other port writes hangs on another",
+        "both",
+        "m_e = test ? t_wdata",
+        "m_e = test ? {t_wdata[3:1], t_wdata[1]}",
+        True,
+    ),
     ("the lanes are compared in the low half alone", "both", "(rdata != want_2)", "(rdata[1:0] != want_2[1:0])", True),
-    ("a lane of the other port stands open in writes of zeros", "both", "t_lanes_1)", "(t_lanes_1 | {{~t_wdata[0], 1'b0}}))", True),
-    ("the lanes are tried at the first address alone", "both", "s_addr = lanes_go ? l_addr", "s_addr = lanes_go ? 3'd0", False),
-    ("the machine of the lanes stays at the first address", "both", "if (is_last) place <= 1'b1", "place <= 1'b0", False),
+    (
+        "a lane of the other port stands open in writes of zeros",
+        "both",
+        "t_lanes_1)",
+        "(t_lanes_1 | {{~t_wdata[0], 1'b0}}))",
+        True,
+    ),
+    (
+        "the lanes are tried at the first address alone",
+        "both",
+        "s_addr = lanes_go ? l_addr",
+        "s_addr = lanes_go ? 3'd0",
+        False,
+    ),
+    (
+        "the machine of the lanes stays at the first address",
+        "both",
+        "if (is_last) place <= 1'b1",
+        "place <= 1'b0",
+        False,
+    ),
     ("the supply is another in test", "two", "test ? 1'h0 : sleep", "test ? 1'h1 : sleep", False),
     ("the high part's address is open", "lower", ".addr(high_addr)", ".addr()", False),
-    ("the high part reads the low one", "lower", "high_rdata = returned[7:3]", "high_rdata = {2'd0, returned[2:0]}", False),
+    (
+        "the high part reads the low one",
+        "lower",
+        "high_rdata = returned[7:3]",
+        "high_rdata = {2'd0, returned[2:0]}",
+        False,
+    ),
     ("the high part does not count", "lower", "low_fail | high_fail", "low_fail", True),
     ("parts out of step do not count", "lower", " | apart_kept", "", True),
     ("an enable hangs on the chip's pin of another memory", "six", ".cea(dual_cea)", ".cea(bytes_cen)", False),
@@ -84,11 +139,21 @@ WRONG = [
     ("a pin of the chip hangs on that of another memory", "joins", ".sleep(left_sleep)", ".sleep(right_sleep)", False),
     ("the chip's write is never idle", "six", ".w(late_w)", ".w(1'b1)", False),
     ("an address hangs on the chip's pin of the other port", "six", ".ab(dual_ab)", ".ab(dual_aa)", False),
-    ("a bit that a chip takes hangs on another", "six", "_taken = n_late_rdata", "_taken = n_late_rdata & ~12'h8 | {8'd0, n_late_rdata[2], 3'd0}", True),
+    (
+        "a bit that a chip takes hangs on another",
+        "six",
+        "_taken = n_late_rdata",
+        "_taken = n_late_rdata & ~12'h8 | {8'd0, n_late_rdata[2], 3'd0}",
+        True,
+    ),
     ("an answer doesn't reach the chip", "six", ".q(rest_q)", ".q()", False),
 ]
 # what is said of some of them
-SAID = {"the macro answers a cycle earlier than the description says": "behind 1 cycle: latency 3 fits, and the description says 4"}
+SAID = {
+    "the macro answers a cycle earlier than the description says": (
+        "behind 1 cycle: latency 3 fits, and the description says 4"
+    )
+}
 
 
 def made_system(bench: Bench, name: str) -> pathlib.Path:
@@ -112,7 +177,17 @@ def made(bench: Bench, name: str) -> pathlib.Path:
         model = folder / "made" / "held.v"
         model.write_text(model.read_text(encoding="utf-8").replace("{4{1'bx}}", "answers_1[1]"), encoding="utf-8")
     for memory, word in zip(OF[name], words):
-        bench.run(["./vidlakost", "compile", f"wrong/{name}/c.m", word, "empty.list", f"wrong/{name}/made/{memory}_bist.v", "report"])
+        bench.run(
+            [
+                "./vidlakost",
+                "compile",
+                f"wrong/{name}/c.m",
+                word,
+                "empty.list",
+                f"wrong/{name}/made/{memory}_bist.v",
+                "report",
+            ]
+        )
     return folder / "made"
 
 

@@ -7,8 +7,8 @@ import re
 import tempfile
 import unittest
 
-from vidlakost_tools.access import apb, block as access_block, log_window, standards, tap
-from vidlakost_tools.access.block import Target, Unit
+from vidlakost_tools.access import apb, log_window, standards, tap
+from vidlakost_tools.access.target import Target, Unit
 from vidlakost_tools.access.log import Entry, read_log
 from vidlakost_tools.diagnosis import tester
 from vidlakost_tools.pages import signoff
@@ -54,7 +54,7 @@ class Reads(unittest.TestCase):
 
 class Register(unittest.TestCase):
     def setUp(self) -> None:
-        self.target = access_block.of_memory(memory(), 41)
+        self.target = Target.of_memory(memory(), 41)
 
     def test_the_parts_of_a_memory(self) -> None:
         found = [(part.name, part.low, part.width) for part in tap.parts(self.target)]
@@ -89,9 +89,10 @@ class Register(unittest.TestCase):
 
 class Waits(unittest.TestCase):
     def test_a_test_is_over_before_it_is_read(self) -> None:
-        """Whatever the clock, a player that reads the seconds, or whole microseconds of them, waits as long as the test goes."""
+        """Whatever the clock, a player that reads the seconds, or whole microseconds of them, waits as long as the test
+        goes."""
         for cycles, mhz in ((1_234_400, 100.0), (41, 200.0), (62_725, 33.3), (2_000_000_000, 999.0)):
-            text = standards.svf(access_block.of_memory(memory(), cycles), mhz)
+            text = standards.svf(Target.of_memory(memory(), cycles), mhz)
             said = re.search(r"^RUNTEST IDLE (\S+) SEC;\nRUNTEST IDLE 16 TCK;$", text, re.MULTILINE)
             assert said is not None
             self.assertGreaterEqual(int(1e6 * float(said[1])) * mhz, cycles)
@@ -99,7 +100,7 @@ class Waits(unittest.TestCase):
 
 class LogWindow(unittest.TestCase):
     def test_what_a_bus_has_without_a_log_and_with_one(self) -> None:
-        target = access_block.of_memory(memory(), 41)
+        target = Target.of_memory(memory(), 41)
         with_log = dataclasses.replace(target, depth=3)
         self.assertNotIn("log_", apb.block(target) + tap.block(target) + apb.table(target))
         self.assertIn("is_there <= paddr[10:5] < 6'd3;", apb.block(with_log))
@@ -130,7 +131,10 @@ class Logs(unittest.TestCase):
 
     def test_a_log_behind_a_bus(self) -> None:
         first = "fail 1 cycle 7 expected 0 returned 4\n"
-        self.assertEqual(self.read(first + "cycle 7 expected 0 returned 4\ncycle 9 expected 5 returned d\n")[0][1:], [Entry(9, 5, 13)])
+        self.assertEqual(
+            self.read(first + "cycle 7 expected 0 returned 4\ncycle 9 expected 5 returned d\n")[0][1:],
+            [Entry(9, 5, 13)],
+        )
         with self.assertRaises(ToolError):
             self.read("cycle 7 expected 0 returned 4\n" + first)
 

@@ -16,12 +16,13 @@ from vidlakost_tools.audit.random_comparison import agree
 from vidlakost_tools.audit.waveform import code_of, shown, write_save
 from vidlakost_tools.texts.memory import parse_memory
 from vidlakost_tools.tool import ToolError
-from vidlakost_tools.verilog import clock_tree, model_checker, replayed, source_texts, yosys, yosys_cells as cells
+from vidlakost_tools.verilog import clock_tree, model_checker, replayed, rtlil, source_texts, yosys, yosys_cells as cells
 from vidlakost_tools.verilog.front_end import Plain
 from vidlakost_tools.verilog.replayed import Case, Test
 from vidlakost_tools.verilog.source_texts import blanked
 from vidlakost_tools.verilog.vhdl import literal_of, placed, with_defaults
-from vidlakost_tools.verilog.yosys_operators import Drive, NotWords, Writer
+from vidlakost_tools.verilog.yosys_operators import Writer
+from vidlakost_tools.verilog.named_bits import Drive, NotWords
 
 
 def port(way: str, *bits: int) -> dict[str, Any]:
@@ -194,8 +195,9 @@ class Lanes(unittest.TestCase):
 
 
 class Toggles:
-    """A machine that notes wrong words, those with a bit at 1, in `twice`, which turns with each, and in `once`, which stays: its
-    `fail` is `twice | ~twice & once`, so that three values lose what two tell; or by a wrong gate `twice` alone."""
+    """A machine that notes wrong words, those with a bit at 1, in `twice`, which turns with each, and in `once`, which
+    stays: its `fail` is `twice | ~twice & once`, so that three values lose what two tell; or by a wrong gate `twice`
+    alone."""
 
     def __init__(self, is_wrong: bool = False):
         rdata, reset, going, hit, twice, once, turned, kept, held, next_twice, next_once, other, fail = range(2, 15)
@@ -213,7 +215,9 @@ class Toggles:
             "fail": cell("$_OR_", A=[twice], B=[held], Y=[fail]),
         }
         ports = {"rdata": port("input", rdata), "reset": port("input", reset), "fail": port("output", fail)}
-        self.machine = Machine({**module(gates, **ports), "netnames": {"twice": net(twice), "once": net(once)}}, ("fail",))
+        self.machine = Machine(
+            {**module(gates, **ports), "netnames": {"twice": net(twice), "once": net(once)}}, ("fail",)
+        )
         self.hit = hit
         self.plain = Plain("m", [], [], [], [], [], {}, None)
         # a word comes in every cycle that is looked at
@@ -232,13 +236,18 @@ class Splits(unittest.TestCase):
         case = Toggles(is_wrong=True)
         told = fail_search.look_at(case.machine, case.plan, case.plain, lanes.Clock(60))
         self.assertEqual(told.found.line(), "fail is 0 in cycle 3 though bit 0 of the answer of cycle 1 is wrong")
-        self.assertEqual(told.history, "  so with rdata 1 in cycle 1, 1 in cycle 2, 0 in cycle 3, and 0 where nothing was read")
+        self.assertEqual(
+            told.history, "  so with rdata 1 in cycle 1, 1 in cycle 2, 0 in cycle 3, and 0 where nothing was read"
+        )
 
     def test_words_of_the_model_checker(self) -> None:
         rows = ["  Time Signal Name  Dec  Hex  Bin"]
         for step, word in ((1, 0), (2, 0xFFFFFFFF)):
             number = word - (1 << 32) if word >> 31 else word
-            rows += [f"  {step} \\ok   {2 - step}   {2 - step}    {2 - step}", f"  {step} \\rdata   {number}   {word:x}   {word:032b}"]
+            rows += [
+                f"  {step} \\ok   {2 - step}   {2 - step}    {2 - step}",
+                f"  {step} \\rdata   {number}   {word:x}   {word:032b}",
+            ]
         with tempfile.TemporaryDirectory() as name, mock.patch.object(yosys, "run", return_value=rows):
             found = model_checker.differs_within(3, "", pathlib.Path(name))
         assert found is not None
@@ -266,7 +275,12 @@ class Splits(unittest.TestCase):
 def remembers() -> Plain:
     """A module whose `fail` is what it remembers of bit 0 on `rdata`, but for what nothing drives."""
     others = ("en", "we", "addr", "wdata", "done")
-    ports = [("input", "clk", 1), ("input", "reset", 1), ("input", "rdata", 2), *(("output", port, 1) for port in (*others, "fail"))]
+    ports = [
+        ("input", "clk", 1),
+        ("input", "reset", 1),
+        ("input", "rdata", 2),
+        *(("output", port, 1) for port in (*others, "fail")),
+    ]
     outputs = [*(Drive(port, 1, "1'b0", [[]]) for port in others), Drive("fail", 1, "(bad ^ lost)", [["bad", "lost"]])]
     bad = Drive("bad", 1, "(rdata[0] & (~reset))", [["rdata", "reset"]])
     return Plain("m", ports, [], outputs, [bad], ["lost"], {}, "clk")
@@ -278,7 +292,12 @@ class Replays(unittest.TestCase):
 
     def test_case_is_clocked(self) -> None:
         # in the reset what was on rdata is not remembered, and of cycle 1 it is
-        for cycle, bad, lost, fail in ((0, 1, [0, 0, 0], 1), (1, 1, [0, 0, 0], 0), (2, 0, [0, 0, 0], 1), (2, 0, [0, 0, 1], 0)):
+        for cycle, bad, lost, fail in (
+            (0, 1, [0, 0, 0], 1),
+            (1, 1, [0, 0, 0], 0),
+            (2, 0, [0, 0, 0], 1),
+            (2, 0, [0, 0, 1], 0),
+        ):
             case = Case(cycle, [1, 3, 0], {0}, {"dut.bad": [bad], "dut.lost": lost})
             self.assertEqual(replayed.ports_at(remembers(), case)["fail"], fail, (cycle, bad, lost))
 
@@ -289,12 +308,19 @@ class Replays(unittest.TestCase):
         memory = parse_memory("memory 1\nname m\nwords 2\nbits 1\n")
         # two words are written and read, and the second answer is compared in cycle 5
         test = Test(memory, [None, (True, 0, 0), (True, 1, 0), (False, 0, 0), (False, 1, 0), *[None] * 5], 6)
-        self.assertEqual(test.due(Case(2, [0] * 3)), [("en", 1), ("we", 1), ("addr", 1), ("wdata", 0), ("done", 0), ("fail", 0)])
-        self.assertEqual(test.due(Case(4, [0, 1, 1, 1, 1])), [("en", 1), ("we", 0), ("addr", 1), ("done", 0), ("fail", 0)])
+        self.assertEqual(
+            test.due(Case(2, [0] * 3)), [("en", 1), ("we", 1), ("addr", 1), ("wdata", 0), ("done", 0), ("fail", 0)]
+        )
+        self.assertEqual(
+            test.due(Case(4, [0, 1, 1, 1, 1])), [("en", 1), ("we", 0), ("addr", 1), ("done", 0), ("fail", 0)]
+        )
         self.assertEqual(test.due(Case(5, [0, 0, 0, 0, 1, 0])), [("en", 0), ("done", 0), ("fail", 1)])
         self.assertEqual(test.due(Case(6, [0, 0, 0, 0, 0, 1])), [("en", 0), ("done", 1), ("fail", 1)])
         # a reset begins the test anew
-        self.assertEqual(test.due(Case(7, [0, 0, 0, 0, 1, 1, 0, 0], {0, 6})), [("en", 1), ("we", 1), ("addr", 0), ("wdata", 0), ("done", 0), ("fail", 0)])
+        self.assertEqual(
+            test.due(Case(7, [0, 0, 0, 0, 1, 1, 0, 0], {0, 6})),
+            [("en", 1), ("we", 1), ("addr", 0), ("wdata", 0), ("done", 0), ("fail", 0)],
+        )
 
     def test_case_that_does_not_come_out_is_no_finding(self) -> None:
         plan, lost = lanes.Plan({1: 0}, 4, 2), lanes.Found("unknown", 2, 1, "open", 1, 0)
@@ -306,9 +332,11 @@ class Replays(unittest.TestCase):
             assert checked is not None
             self.assertEqual((checked.found.got, checked.is_replayed), ("0", said))
             machine = Toggles().machine
-            with mock.patch.object(lanes, "look_at", return_value=lost), mock.patch.object(splits, "look_at", return_value=None), \
-                    mock.patch.object(fail_search, "is_undriven", return_value=False), \
-                    mock.patch.object(model_checker, "fail_of", return_value=checked):
+            with mock.patch.object(lanes, "look_at", return_value=lost), mock.patch.object(
+                splits, "look_at", return_value=None
+            ), mock.patch.object(fail_search, "is_undriven", return_value=False), mock.patch.object(
+                model_checker, "fail_of", return_value=checked
+            ):
                 told = fail_search.look_at(machine, plan, remembers(), lanes.Clock(60))
             self.assertEqual(told.found.kind, "differs" if said else "unknown")
             self.assertEqual("so it is no finding" in told.how, not said)
@@ -316,12 +344,18 @@ class Replays(unittest.TestCase):
 
 class Places(unittest.TestCase):
     def test_register_of_vhdl_has_its_name_there(self) -> None:
-        nets = {"n6": net(5), "n7_q": {**net(5), "attributes": {"src": "vhdl.v:24"}}, "index": {**net(5), "attributes": {"src": "walk.vhd:9.3-9.8"}}}
+        nets = {
+            "n6": net(5),
+            "n7_q": {**net(5), "attributes": {"src": "vhdl.v:24"}},
+            "index": {**net(5), "attributes": {"src": "walk.vhd:9.3-9.8"}},
+        }
         register = {**cell("$dff", Q=[5], D=[6]), "attributes": {"src": "/tmp/x/vhdl.v:24.3"}}
         self.assertEqual(cells.place_of({"netnames": nets}, register), "index, walk.vhd:9")
         self.assertEqual(cells.place_of({"netnames": {"n7_q": nets["n7_q"]}}, register), "n7_q, vhdl.v:24")
         plain = {**register, "attributes": {"src": "/a/m.v:4.3|m.v:9"}}
-        self.assertEqual(cells.place_of({"netnames": {"q": {**net(5), "attributes": {"src": "m.v:2"}}}}, plain), "q, m.v:4")
+        self.assertEqual(
+            cells.place_of({"netnames": {"q": {**net(5), "attributes": {"src": "m.v:2"}}}}, plain), "q, m.v:4"
+        )
 
 
 class Texts(unittest.TestCase):
@@ -333,7 +367,9 @@ class Texts(unittest.TestCase):
 
     def test_places_of_vhdl(self) -> None:
         made = "  wire bad;\n  reg n7_q;\n  wire n8_o;\n  assign bad = n7_q;\n"
-        text = placed(made, {"a.vhd": "-- bad : no\nsignal go, Bad : std_logic;\n", "no name.vhd": "signal n8_o : bit;"})
+        text = placed(
+            made, {"a.vhd": "-- bad : no\nsignal go, Bad : std_logic;\n", "no name.vhd": "signal n8_o : bit;"}
+        )
         self.assertIn('`line 2 "a.vhd" 0\n  reg n7_q;\n`line 3 "vhdl.v" 0\n  wire n8_o;', text)
         self.assertNotIn("no name", text)
 
@@ -344,18 +380,37 @@ class Texts(unittest.TestCase):
             self.assertEqual(text.split(), ["`include", '"x.vh"'])
 
     def test_escaped_name_hides_nothing(self) -> None:
-        for line in ("wire \\x// ; `ifdef YOSYS", 'wire \\y" ; `ifdef YOSYS wire \\z" ;', "wire \\x/* ; `ifdef YOSYS /* */"):
+        for line in (
+            "wire \\x// ; `ifdef YOSYS",
+            'wire \\y" ; `ifdef YOSYS wire \\z" ;',
+            "wire \\x/* ; `ifdef YOSYS /* */",
+        ):
             self.assertTrue(any("`ifdef YOSYS" in text for text in blanked(line)), line)
 
     def test_source_that_means_something_else_to_yosys(self) -> None:
         typed = "typedef struct packed { logic [1:0] a; } t; t s;"
         with tempfile.TemporaryDirectory() as name:
             source = pathlib.Path(name) / "a.v"
-            for text in ("(* \\wand *) wire a;", "(* a = (1), wor *) wire a;", "(* hierconn *) wire \\u.x ;", f"{typed} x = s.a[2];", f"{typed} x = |s.a[2:1];", "struct packed { logic [W-1:0] w; } s; x = s.w[1];", "struct packed { logic [3:1] w; } s; x = s.w[0];", f"{typed} logic [W:0] a; x = s.a[1]; // [9:0] a"):
+            for text in (
+                "(* \\wand *) wire a;",
+                "(* a = (1), wor *) wire a;",
+                "(* hierconn *) wire \\u.x ;",
+                f"{typed} x = s.a[2];",
+                f"{typed} x = |s.a[2:1];",
+                "struct packed { logic [W-1:0] w; } s; x = s.w[1];",
+                "struct packed { logic [3:1] w; } s; x = s.w[0];",
+                f"{typed} logic [W:0] a; x = s.a[1]; // [9:0] a",
+            ):
                 source.write_text(text)
                 with self.assertRaises(ToolError, msg=text):
                     source_texts.asked([str(source)])
-            for text in ("always @(*) begin end wand w;", "(* keep *) wire wor_x;", f"{typed} sub u(.a(x[i])); x = s.a[1];", "a = u.b[i];", "struct packed { logic [W-1:0] w; } s; x = s.w[0];"):
+            for text in (
+                "always @(*) begin end wand w;",
+                "(* keep *) wire wor_x;",
+                f"{typed} sub u(.a(x[i])); x = s.a[1];",
+                "a = u.b[i];",
+                "struct packed { logic [W-1:0] w; } s; x = s.w[0];",
+            ):
                 source.write_text(text)
                 self.assertEqual(source_texts.asked([str(source)]), [], text)
 
@@ -374,9 +429,11 @@ class Texts(unittest.TestCase):
         wires = "module \\t\n  wire \\x}\n  attribute \\src \"a.v:3.1\"\n  wire width 2 \\y\n"
         for first in ("{ \\x} \\y } 3'110", "{ \\y \\x} } 3'110", "\\y [1] 1'1", "{ \\x} \\y [1:0] } 3'110"):
             for second in ("\\y 2'00", "{ \\y [1] \\x} [0] } 2'00"):
-                told = yosys.driven_twice(f"{wires}  connect {first}\n  connect {second}\nend\n") or ""
+                told = rtlil.driven_twice(f"{wires}  connect {first}\n  connect {second}\nend\n") or ""
                 self.assertIn(" has two drivers", told, (first, second))
-        self.assertIsNone(yosys.driven_twice(f"{wires}  connect {{ \\x}} \\y [0] }} 2'10\n  connect \\y [1] 1'0\nend\n"))
+        self.assertIsNone(
+            rtlil.driven_twice(f"{wires}  connect {{ \\x}} \\y [0] }} 2'10\n  connect \\y [1] 1'0\nend\n")
+        )
 
     def test_fraction_that_becomes_0_is_refused(self) -> None:
         said = "a.v:14: Warning: converting real value {} to binary {}."
@@ -389,7 +446,10 @@ class Texts(unittest.TestCase):
         one = f"module \\one\n{ports}  cell $array:0:2:\\sub \\u\n    connect \\a 1'0\n  end\nend\n"
         modules = f"{one}module \\sub\n  wire input 1 \\a\nend\nmodule \\helper\n  wire input 1 \\b\nend\n"
         yosys.refuse_other_top(modules, "one")
-        for more, top, said in ((f"module \\two\n{ports}end\n", "one", "'two' has its ports too"), ("", "sub", "a part of another")):
+        for more, top, said in (
+            (f"module \\two\n{ports}end\n", "one", "'two' has its ports too"),
+            ("", "sub", "a part of another"),
+        ):
             with self.assertRaisesRegex(ToolError, said):
                 yosys.refuse_other_top(modules + more, top)
 
@@ -402,7 +462,11 @@ class Texts(unittest.TestCase):
         ):
             with self.assertRaisesRegex(ToolError, "'a.v':1: .* is one with a name behind a backslash", msg=text):
                 source_texts.refuse_one_name("a.v", text)
-        for text in ("sub u(.a(b), .c(d)); wire \\u1.x ; x = 1.5;", 'wire \\a.b ; \\$_AND_ u(.A(a)); $display("a.b"); // a.b', "y = u.x;"):
+        for text in (
+            "sub u(.a(b), .c(d)); wire \\u1.x ; x = 1.5;",
+            'wire \\a.b ; \\$_AND_ u(.A(a)); $display("a.b"); // a.b',
+            "y = u.x;",
+        ):
             source_texts.refuse_one_name("a.v", text)
 
     def test_note_of_a_part_is_no_cell(self) -> None:

@@ -41,7 +41,20 @@ class Literals(unittest.TestCase):
         self.assertEqual(found, [(4, 10), (2, 1), (3, 7), (12, 1023), (1, 1)])
 
     def test_what_is_no_literal(self) -> None:
-        for text in ("1", "1'b2", "2'd4", "0'b0", "1'bx", "2'b_1", "4'hg", "'b1", "2'sb1", "99999'h0", "2000'h0", "1'b"):
+        for text in (
+            "1",
+            "1'b2",
+            "2'd4",
+            "0'b0",
+            "1'bx",
+            "2'b_1",
+            "4'hg",
+            "'b1",
+            "2'sb1",
+            "99999'h0",
+            "2000'h0",
+            "1'b",
+        ):
             self.assertIsNone(macro_pins.literal(text), msg=text)
         self.assertEqual((macro_pins.literal("3", 2), macro_pins.literal("4", 2)), ((2, 3), None))
 
@@ -66,7 +79,9 @@ class Lines(unittest.TestCase):
         self.assertEqual(sorted(map(str, one.pins)), sorted(map(str, other.pins)))
 
     def test_comments_and_carriage_returns(self) -> None:
-        self.assertEqual(read([f"{line}\r" for line in PINS] + ["# all", "tie t 1'b0 # one"]).of("tie")[0].value, "1'b0")
+        self.assertEqual(
+            read([f"{line}\r" for line in PINS] + ["# all", "tie t 1'b0 # one"]).of("tie")[0].value, "1'b0"
+        )
 
     def test_what_is_missing(self) -> None:
         self.assertEqual(self.refusal([]), ": no line for macro, clk, rdata, addr, wdata, we or write")
@@ -136,7 +151,12 @@ class Texts(unittest.TestCase):
         self.assertEqual([names.of("s_en"), names.of("s_we"), names.of("s_en")], ["s_en__", "s_we", "s_en__"])
 
     def test_ports_and_modules_that_would_collide(self) -> None:
-        for line, more in (("macro m_bist", PINS[1:]), ("macro M_COLLAR", PINS[1:]), ("out fail 1", PINS), ("out m_collar 1", PINS)):
+        for line, more in (
+            ("macro m_bist", PINS[1:]),
+            ("macro M_COLLAR", PINS[1:]),
+            ("out fail 1", PINS),
+            ("out m_collar 1", PINS),
+        ):
             with self.assertRaises(ToolError, msg=line):
                 collar(read([line, *more]), Word([memory()]), "bist")
 
@@ -149,7 +169,10 @@ class Texts(unittest.TestCase):
 class Holds(unittest.TestCase):
     def test_where_pauses_are(self) -> None:
         held = Memory("m", words=4, bits=4, latency=1, polarity=0, pause=3, rows=None, backgrounds=[0, 5])
-        found = [(hold.background, hold.element, hold.first, hold.last) for hold in holds_of(elements_of("any(w0);del;any(r0)"), held)]
+        found = [
+            (hold.background, hold.element, hold.first, hold.last)
+            for hold in holds_of(elements_of("any(w0);del;any(r0)"), held)
+        ]
         self.assertEqual(found, [(0, 1, 5, 7), (1, 1, 16, 18)])
 
 
@@ -162,7 +185,11 @@ class Files(unittest.TestCase):
     def write(self, **texts: str) -> None:
         given = {name.replace("_", "."): text for name, text in texts.items()}
         with contextlib.redirect_stdout(io.StringIO()):
-            write_own(self.folder, given or {"a.v": "// made by vidlakost top\n1\n", "b.v": "// made by vidlakost top\n2\n"}, [])
+            write_own(
+                self.folder,
+                given or {"a.v": "// made by vidlakost top\n1\n", "b.v": "// made by vidlakost top\n2\n"},
+                [],
+            )
 
     def test_what_others_wrote_stays(self) -> None:
         self.write()

@@ -65,7 +65,9 @@ class Meaning:
         word = self.words[values["a"]]
         if self.is_read(values):
             return word
-        bits = [f"{values['d'] >> bit & 1}" if self.writes(values, bit) else word[BITS - 1 - bit] for bit in range(BITS)]
+        bits = [
+            f"{values['d'] >> bit & 1}" if self.writes(values, bit) else word[BITS - 1 - bit] for bit in range(BITS)
+        ]
         self.words[values["a"]] = "".join(reversed(bits))
         return "x" * BITS
 

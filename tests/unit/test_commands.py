@@ -25,7 +25,9 @@ class Table(unittest.TestCase):
     def test_it_has_the_forms_of_the_definitions(self) -> None:
         pattern = r'name = codes "(\w+)"; count = (\d+); first = (\d+); last = (\d+)'
         defined = [
-            tuple(found) for path in (SOURCES / "specs").glob("*.antt") for found in re.findall(pattern, read_text(path))
+            tuple(found)
+            for path in (SOURCES / "specs").glob("*.antt")
+            for found in re.findall(pattern, read_text(path))
         ]
         told = [
             (command.name, *map(str, (len(command.form), command.files[0], command.files[-1] + 1)))

@@ -53,7 +53,13 @@ class Decoders(unittest.TestCase):
         self.assertEqual(DecoderVerdict("other", 1, 0, "00", "u").reached(0), [0])
 
     def test_what_a_read_answers(self) -> None:
-        for name, answers in (("none 0", "0000"), ("none 1", "1111"), ("other", "0101"), ("both and", "0001"), ("both or", "0111")):
+        for name, answers in (
+            ("none 0", "0000"),
+            ("none 1", "1111"),
+            ("other", "0101"),
+            ("both and", "0001"),
+            ("both or", "0111"),
+        ):
             verdict = DecoderVerdict(name, 0, 1, "00", "u")
             told = [verdict.answer(list(cells), 0) for cells in itertools.product((0, 1), repeat=2)]
             self.assertEqual("".join(map(str, told)), answers, name)
@@ -80,7 +86,13 @@ class Reasons(unittest.TestCase):
         self.assertIn("is caught in element 1", self.why("both and", "{any(w0);any(r0,w1)}", "uu"))
 
     def test_an_element_turns_a_bit(self) -> None:
-        for element, read in (("up(r0,w1)", "r0"), ("up(r1,w0,r0)", "r1"), ("up(r0,w1,w0)", None), ("up(w1)", None), ("up(r0)", None)):
+        for element, read in (
+            ("up(r0,w1)", "r0"),
+            ("up(r1,w0,r0)", "r1"),
+            ("up(r0,w1,w0)", None),
+            ("up(w1)", None),
+            ("up(r0)", None),
+        ):
             self.assertEqual(decoder.turned(elements_of(element)[0]), read, element)
         self.assertIsNone(decoder.turned(elements_of("del")[0]))
 

@@ -60,7 +60,9 @@ def plainly_escapes(text: str, march: str) -> bool:
     """Whether a primitive escapes in an array of two to four cells, by the definition."""
     primitive, elements = read_primitive(text), elements_of(march)
     for cells in (2, 3, 4):
-        for victim, aggressor in itertools.product(range(cells), [None] if primitive.aggressor is None else range(cells)):
+        for victim, aggressor in itertools.product(
+            range(cells), [None] if primitive.aggressor is None else range(cells)
+        ):
             if victim == aggressor:
                 continue
             for content in itertools.product("01", repeat=cells):
@@ -81,7 +83,11 @@ class Surviving(unittest.TestCase):
             self.assertEqual(survives(instances_of(text), march), plainly_escapes(text, march), (text, march))
 
     def test_wrong_decoders(self) -> None:
-        for march in ("{any(w0);any(r0,w1);any(r1)}", "{any(w0);up(r0,w1);up(r1,w0)}", "{any(w0);up(r0,w0);down(r0,w1,r1,w0)}"):
+        for march in (
+            "{any(w0);any(r0,w1);any(r1)}",
+            "{any(w0);up(r0,w1);up(r1,w0)}",
+            "{any(w0);up(r0,w0);down(r0,w1,r1,w0)}",
+        ):
             elements = elements_of(march)
             plainly = {
                 name
@@ -101,9 +107,12 @@ class Surviving(unittest.TestCase):
         self.assertFalse(list(verdict.steps(elements_of(C_MINUS)))[-1].differs)
 
     def test_a_shared_aggressor(self) -> None:
-        """An aggressor has one content: of both primitives at once there is no array where one asks for 0 and one for 1."""
+        """An aggressor has one content: of both primitives at once there is no array where one asks for 0 and one for
+        1."""
         made = linked_instances("LF2aa", "<0;0w1/0/->", "<1w0;0/1/->")
-        self.assertEqual({(it.links[0].aggressor, it.links[1].aggressor, it.victim) for it in made}, {(0, 0, 1), (1, 1, 0)})
+        self.assertEqual(
+            {(it.links[0].aggressor, it.links[1].aggressor, it.victim) for it in made}, {(0, 0, 1), (1, 1, 0)}
+        )
 
 
 class Marches(unittest.TestCase):
@@ -117,20 +126,26 @@ class Marches(unittest.TestCase):
     def test_one_operation_less(self) -> None:
         found = [text_of(parts) for parts in shorter(parts_of(elements_of("{up(w0,w1);up(r1)}")), 0)]
         self.assertEqual(found, ["{up(w1);up(r1)}", "{up(w0);up(r0)}", "{up(w0,w1)}"])
-        self.assertEqual([text_of(it) for it in shorter(parts_of(elements_of("{up(w0,w1);up(r1)}")), 1)], ["{up(w0,w1)}"])
+        self.assertEqual(
+            [text_of(it) for it in shorter(parts_of(elements_of("{up(w0,w1);up(r1)}")), 1)], ["{up(w0,w1)}"]
+        )
 
     def test_what_is_too_much_goes(self) -> None:
         parts = trimmed(self.survivors, parts_of(elements_of("{any(w0);up(r0,w1);up(r1,w0,r0);up(r0)}")))
         self.assertEqual(length(parts), 5)
 
     def test_orders_are_opened(self) -> None:
-        self.assertEqual(text_of(opened(self.survivors, parts_of(elements_of("{up(w0,w1,r1,w0,r0)}")))), "{any(w0,w1,r1,w0,r0)}")
+        self.assertEqual(
+            text_of(opened(self.survivors, parts_of(elements_of("{up(w0,w1,r1,w0,r0)}")))), "{any(w0,w1,r1,w0,r0)}"
+        )
 
 
 class Bounds(unittest.TestCase):
     def least(self, texts: Sequence[str], decoder: bool = False) -> int:
         """How short a march of these is at best, by the search of all."""
-        survivors = Survivors([it for text in texts for it in instances_of(text)], decoder_instances() if decoder else [])
+        survivors = Survivors(
+            [it for text in texts for it in instances_of(text)], decoder_instances() if decoder else []
+        )
         bound = Bound(survivors, Limits(), [], lambda text: None)
         for operations in itertools.count(bound.least):
             parts = bound.search(operations)
@@ -160,12 +175,22 @@ class Bounds(unittest.TestCase):
         return 0
 
     def test_against_all_marches(self) -> None:
-        for texts in (STUCK, ["<0/1/->"], ["<0w1/0/->"], ["<0w1;0/1/->"], ["<1;0/1/->"], ["<0r0/0/1>"], ["<0;0r0/1/1>"], ["<1r1;1/0/->"]):
+        for texts in (
+            STUCK,
+            ["<0/1/->"],
+            ["<0w1/0/->"],
+            ["<0w1;0/1/->"],
+            ["<1;0/1/->"],
+            ["<0r0/0/1>"],
+            ["<0;0r0/1/1>"],
+            ["<1r1;1/0/->"],
+        ):
             self.assertEqual(self.least(texts), self.shortest(texts, 6) or self.least(texts), texts)
             self.assertLessEqual(self.least(texts), 6, texts)
 
     def test_by_hand(self) -> None:
-        """A stuck-at fault of each kind asks for both writes and a read of each; MATS+ is the least with the decoder."""
+        """A stuck-at fault of each kind asks for both writes and a read of each; MATS+ is the least with the
+        decoder."""
         self.assertEqual(self.least(STUCK), 4)
         self.assertEqual(self.least(TRANSITIONS), 5)
         self.assertEqual(self.least(STUCK, decoder=True), 5)

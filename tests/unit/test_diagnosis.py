@@ -63,11 +63,14 @@ class Cells(unittest.TestCase):
     def test_the_side_of_an_aggressor(self) -> None:
         # 0 to 1 below: seen by r0 of up(r0,w1), which comes behind it, and not by that of down(r0,w1)
         found = whats({3: {0: 2}})
-        self.assertTrue(any(one.startswith("<0w1;0/1/-> CFds at index 3 bit 1, aggressor at any index below") for one in found))
+        self.assertTrue(
+            any(one.startswith("<0w1;0/1/-> CFds at index 3 bit 1, aggressor at any index below") for one in found)
+        )
         self.assertFalse(any("above" in one and one.startswith("<0w1;0/1/->") for one in found))
 
     def test_a_border_of_two_elements(self) -> None:
-        # of two operations at an aggressor: the word at which an element ends and the next begins is visited twice in a row
+        # of two operations at an aggressor: the word at which an element ends and the next begins is visited twice in a
+        # row
         test = Test(elements_of("{up(w0);down(r0);up(r0)}"), memory())
         fault = Fault("<0w0r0;0/1/->", "dCFds")
         seen = []
@@ -108,7 +111,9 @@ class Addresses(unittest.TestCase):
         test, wrong = Test(MARCH, memory()), {}
         for low in range(4):
             wrong.update(Groups(test).found({low: (low,), low + 4: (low,)}, "and"))
-        self.assertIn("address bit 2 open or stuck at 0", whats({index: reads for index, reads in wrong.items() if reads}))
+        self.assertIn(
+            "address bit 2 open or stuck at 0", whats({index: reads for index, reads in wrong.items() if reads})
+        )
 
 
 class Apart(unittest.TestCase):

@@ -85,7 +85,9 @@ class Searched(unittest.TestCase):
                 searches.begin({"list": "TF\n", "decoder": wrong, "linked": False})
         for letter in ("", "AB", "/", "E"):
             with self.assertRaises(questions.Wrong):
-                searches.begin({"list": "TF\n", "decoder": False, "linked": False, "march": "any(w0)", "letter": letter})
+                searches.begin(
+                    {"list": "TF\n", "decoder": False, "linked": False, "march": "any(w0)", "letter": letter}
+                )
 
 
 class Bounds(unittest.TestCase):

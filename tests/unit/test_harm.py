@@ -57,11 +57,27 @@ class Sources(unittest.TestCase):
             self.assertEqual(found and found[:2], (5, "file"))
 
     def test_what_may_be_read_twice_is_looked_at(self) -> None:
-        for text in ("'\"' file \"", "'\\' file \\", "'\"'; -- file", "\"open file", "'\"' /* \"", "\\a\"\\ file \\\"\\"):
+        for text in (
+            "'\"' file \"",
+            "'\\' file \\",
+            "'\"'; -- file",
+            "\"open file",
+            "'\"' /* \"",
+            "\\a\"\\ file \\\"\\",
+        ):
             self.assertIsNotNone(reaching(text), text)
 
     def test_comments_and_texts_say_nothing(self) -> None:
-        for text in ("-- file", "/* file\n*/", '"file"', '"a""file"', "\\file\\", '"--" -- file', '"/*" -- file */', "profile"):
+        for text in (
+            "-- file",
+            "/* file\n*/",
+            '"file"',
+            '"a""file"',
+            "\\file\\",
+            '"--" -- file',
+            '"/*" -- file */',
+            "profile",
+        ):
             self.assertIsNone(reaching(text), text)
 
 
@@ -76,4 +92,6 @@ class Long(unittest.TestCase):
 
     def test_declared_names_have_places(self) -> None:
         found = declared_at({"a.vhd": "signal a, b : bit; -- c : d\n  x := 1; port (q : out bit; r: in bit)\n"})
-        self.assertEqual(found, {"signal": ("a.vhd", 1), "a": ("a.vhd", 1), "b": ("a.vhd", 1), "q": ("a.vhd", 2), "r": ("a.vhd", 2)})
+        self.assertEqual(
+            found, {"signal": ("a.vhd", 1), "a": ("a.vhd", 1), "b": ("a.vhd", 1), "q": ("a.vhd", 2), "r": ("a.vhd", 2)}
+        )

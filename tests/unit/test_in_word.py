@@ -31,7 +31,9 @@ class Reports(unittest.TestCase):
 
     def test_a_report(self) -> None:
         report = self.read(REPORT)
-        self.assertEqual(report.verdicts, [WordVerdict("<0;0/1/->", "CFst"), WordVerdict("<0w1;0/1/->", "CFds", 0, 1, "00")])
+        self.assertEqual(
+            report.verdicts, [WordVerdict("<0;0/1/->", "CFst"), WordVerdict("<0w1;0/1/->", "CFds", 0, 1, "00")]
+        )
         self.assertEqual((report.apart, report.total), (3, (2, 1, 1)))
         self.assertEqual(report.classes, {"CFst": (1, 1), "CFds": (1, 0)})
         self.assertEqual(report.memory["bits"], 2)

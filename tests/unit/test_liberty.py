@@ -72,8 +72,13 @@ class Libraries(unittest.TestCase):
         memory_cell("l.lib", CELL.replace(more, f"type(word) {{ bit_width : 8; }} {more}"), "ram")
         self.assertIn("has a bit_width of 8, and bits from 6 to 0", self.refusal("bit_from : 7", "bit_from : 6"))
         self.assertIn("'csb' stands twice; line 14 has it", self.refusal("pin(cen)", "pin(csb)"))
-        self.assertIn("word_width is 8 by line 5, and 9 here", self.refusal("word_width : 8;", "word_width : 8; word_width : 9;"))
-        self.assertIn("a second group memory(); the first stands on line 5", self.refusal("bus(q)", "memory() { type : ram; } bus(q)"))
+        self.assertIn(
+            "word_width is 8 by line 5, and 9 here", self.refusal("word_width : 8;", "word_width : 8; word_width : 9;")
+        )
+        self.assertIn(
+            "a second group memory(); the first stands on line 5",
+            self.refusal("bus(q)", "memory() { type : ram; } bus(q)"),
+        )
 
     def test_an_address_that_is_no_pin(self) -> None:
         told = self.refusal("memory_write() { address : a;", "memory_write() { address : b;")
@@ -89,7 +94,14 @@ class Libraries(unittest.TestCase):
         self.assertIn("en ~csb", pin_names.pins("ram", pins, {"csb": "~en"})[0])
 
     def test_what_is_no_library(self) -> None:
-        for text in ("", "library", "library(l){", 'library(l){ x"', "library(l){ a b }", CELL.replace("memory()", "memories()")):
+        for text in (
+            "",
+            "library",
+            "library(l){",
+            'library(l){ x"',
+            "library(l){ a b }",
+            CELL.replace("memory()", "memories()"),
+        ):
             with self.assertRaises(ToolError, msg=text):
                 memory_cell("l.lib", text, "ram")
         with self.assertRaises(ToolError):
@@ -107,7 +119,10 @@ class Lists(unittest.TestCase):
         return [(pin.name, pin.way, pin.width) for pin in Ports("m.v", text, module).ports()]
 
     def test_the_new_style(self) -> None:
-        text = "module m #(parameter int W = 2*(3+1), localparam H = W/2) (input wire [W-1:0] a, b, (* keep *) output reg q = 1'b0"
+        text = (
+            "module m #(parameter int W = 2*(3+1), localparam H = W/2) (input wire [W-1:0] a, b, (* keep *) output reg"
+            " q = 1'b0"
+        )
         found = [("a", "input", 8), ("b", "input", 8), ("q", "output", 1), ("r", "output", 4)]
         self.assertEqual(self.read(text + ", output [H-1:0] r); endmodule"), found)
 
@@ -115,14 +130,24 @@ class Lists(unittest.TestCase):
         text = "module m(input a, wire [3:0] b, other.way x, output logic q); always @(*) q = a; endmodule // (* *)"
         found = [("a", "input", 1), ("b", "input", 4)]
         self.assertEqual(self.read(text)[:2], found)
-        self.assertEqual([name for name, _, _ in self.read("module n; always @(*) x; endmodule module m(input z); endmodule")], ["z"])
+        self.assertEqual(
+            [name for name, _, _ in self.read("module n; always @(*) x; endmodule module m(input z); endmodule")], ["z"]
+        )
 
     def test_the_old_style(self) -> None:
-        text = "module m(a, q\n`ifdef P\n, v\n`endif\n); parameter A = 3, W = A*2; inout v; input [W-1:0] a; output q; function f; input z; f = z;"
-        self.assertEqual(sorted(self.read(text + " endfunction endmodule")), [("a", "input", 6), ("q", "output", 1), ("v", "inout", 1)])
+        text = (
+            "module m(a, q\n`ifdef P\n, v\n`endif\n); parameter A = 3, W = A*2; inout v; input [W-1:0] a; output q;"
+            " function f; input z; f = z;"
+        )
+        self.assertEqual(
+            sorted(self.read(text + " endfunction endmodule")),
+            [("a", "input", 6), ("q", "output", 1), ("v", "inout", 1)],
+        )
 
     def test_what_is_not_known(self) -> None:
-        self.assertEqual(self.read("module m(input [W:0] a, input [9999:0] b); endmodule"), [("a", "input", 0), ("b", "input", 0)])
+        self.assertEqual(
+            self.read("module m(input [W:0] a, input [9999:0] b); endmodule"), [("a", "input", 0), ("b", "input", 0)]
+        )
         for text in ("", "// module m\n", '"module m"', "module m(input a); endmodule module m(input b); endmodule"):
             with self.assertRaises(ToolError, msg=text):
                 self.read(text)
@@ -150,18 +175,31 @@ class Lists(unittest.TestCase):
         self.assertEqual(found, [7, 3, None, None, None, None])
 
     def test_modules_outside_of_comments(self) -> None:
-        text = '// module a\n/* module b */ module /* */ c; "module d"; endmodule macromodule e; endmodule `define module f'
+        text = (
+            '// module a\n/* module b */ module /* */ c; "module d"; endmodule macromodule e; endmodule `define'
+            ' module f'
+        )
         self.assertEqual(modules_in(text), ["c", "e"])
 
 
 class Usual(unittest.TestCase):
     def lines(self, *names: str) -> list[str]:
-        pins = [Found(name, "output" if name.lower()[-1] in "qo" else "input", 4 if len(name) == 1 else 1) for name in names]
+        pins = [
+            Found(name, "output" if name.lower()[-1] in "qo" else "input", 4 if len(name) == 1 else 1) for name in names
+        ]
         return pin_names.pins("m", pins)[0][1:]
 
     def test_ports_by_their_names(self) -> None:
         lines = self.lines("A_ADDR", "A_DI", "A_DO", "B_ADDR", "B_DO", "A_CLK", "B_CLK")
-        told = ["addr A_ADDR", "wdata A_DI", "rdata A_DO", "port addr B_ADDR", "port rdata B_DO", "clk A_CLK", "port clk B_CLK"]
+        told = [
+            "addr A_ADDR",
+            "wdata A_DI",
+            "rdata A_DO",
+            "port addr B_ADDR",
+            "port rdata B_DO",
+            "clk A_CLK",
+            "port clk B_CLK",
+        ]
         self.assertEqual([line.split("  #")[0] for line in lines], [f"#? {line}" for line in told])
 
     def test_an_address_for_each_way(self) -> None:

@@ -69,7 +69,9 @@ class Model(unittest.TestCase):
 
     def test_a_read_that_differs_ends_it(self) -> None:
         verdict = LinkVerdict("LF1", "<0w0/1/->", "<1w1/0/->", None, None, 0, "000", "uu")
-        self.assertEqual(self.steps(verdict, "{up(w0,r0);up(r0)}"), [("000", 0, False), ("100", 1, False), ("100", 0, True)])
+        self.assertEqual(
+            self.steps(verdict, "{up(w0,r0);up(r0)}"), [("000", 0, False), ("100", 1, False), ("100", 0, True)]
+        )
 
 
 class Reasons(unittest.TestCase):
@@ -88,7 +90,9 @@ class Reasons(unittest.TestCase):
             verdict = LinkVerdict("LF1", *pair, None, None, 0, "000", "u")
             self.assertEqual(self.reason(verdict, march), why, march)
         hidden = LinkVerdict("LF1", "<0w1/0/->", "<0r0/1/1>", None, None, 0, "000", "u")
-        self.assertEqual(self.reason(hidden, "{up(w1,r1)}"), "<0w1/0/-> acts in element 0, and <0r0/1/1> hides it in element 0")
+        self.assertEqual(
+            self.reason(hidden, "{up(w1,r1)}"), "<0w1/0/-> acts in element 0, and <0r0/1/1> hides it in element 0"
+        )
         second = LinkVerdict("LF1", *pair, None, None, 0, "100", "u")
         self.assertEqual(self.reason(second, "{up(w1)}"), "<0w0/1/-> never acts, and no read shows what <1w1/0/-> does")
 

@@ -13,7 +13,7 @@ from vidlakost_tools.texts.memory import parse_memory
 from vidlakost_tools.tool import ToolError
 from vidlakost_tools.verilog import known_cells, members, simulation, source_texts, two_meanings, unread, yosys
 from vidlakost_tools.verilog.front_end import Plain
-from vidlakost_tools.verilog.yosys_operators import Drive
+from vidlakost_tools.verilog.named_bits import Drive
 
 CASE = """module \\m
   wire \\a
@@ -110,14 +110,20 @@ class Words(unittest.TestCase):
     def test_address_with_more_bits_than_the_last_word(self) -> None:
         self.assertEqual(self.told([2, 3, 4]), [])
         self.assertEqual(self.told([2, 3, 4, "0", "0"]), [])
-        why = "'m' (m.v:4): an address beyond its 5 words is cut to 3 bits; a simulator reads an x there, and writes nothing"
+        why = (
+            "'m' (m.v:4): an address beyond its 5 words is cut to 3 bits; a simulator reads an x there, and writes"
+            " nothing"
+        )
         self.assertEqual(self.told([2, 3, 4, 5]), [why])
 
 
 class Drivers(unittest.TestCase):
     def test_cells_that_can_be_off(self) -> None:
         pin = 'pin(Y) { function : "!A"; three_state : "E"; }'
-        text = f'cell (A) {{ pin(Y) {{ function : "A"; }} }} /* cell(C) {{ {pin} }} */ cell ("B") {{ {pin} }} three_state : "x";'
+        text = (
+            f'cell (A) {{ pin(Y) {{ function : "A"; }} }} /* cell(C) {{ {pin} }} */ cell ("B") {{ {pin} }} three_state'
+            ' : "x";'
+        )
         self.assertEqual(two_meanings.off_cells(text), {"B"})
 
     def test_gate_of_a_module_that_is_a_part(self) -> None:
@@ -173,27 +179,51 @@ class Members(unittest.TestCase):
 
     def test_part_that_is_read_is_one_of_a_word_of_its_own(self) -> None:
         text, said = self.told("assign y = x.b[i + 3'd1];")
-        function = "function automatic vidlakost_part_0(input [3:0] word, input [63:0] at); vidlakost_part_0 = word[at]; endfunction"
+        function = (
+            "function automatic vidlakost_part_0(input [3:0] word, input [63:0] at); vidlakost_part_0 = word[at];"
+            " endfunction"
+        )
         self.assertEqual(text, f"assign y = vidlakost_part_0(x.b, $unsigned(i + 3'd1));\n{function} endmodule")
-        self.assertEqual(said, ["'m.sv':3: x.b[i + 3'd1] is read as a part of a word of its own, beyond which it is open"])
-        for right in ("always_comb if (x.c[i]) y = 1;", "always @* y = {x.a[j], x.c[i +: 2]};", "always_ff @(posedge c) y <= p.x.a[i[1:0]];"):
+        self.assertEqual(
+            said, ["'m.sv':3: x.b[i + 3'd1] is read as a part of a word of its own, beyond which it is open"]
+        )
+        for right in (
+            "always_comb if (x.c[i]) y = 1;",
+            "always @* y = {x.a[j], x.c[i +: 2]};",
+            "always_ff @(posedge c) y <= p.x.a[i[1:0]];",
+        ):
             self.assertEqual(len(self.told(right)[1]), right.count("x."), right)
         self.assertEqual(self.told("assign y = x.a[1] & x.b[3:2];")[1], [])
 
     def test_what_is_written_or_unknown_is_refused(self) -> None:
         for wrong in (
-            "always_ff @(posedge c) x.b[i] <= v;", "assign x.b[i] = v;", "assign {y, x.b[i]} = v;", "sub u(.o(x.b[i]));",
-            "always_comb if (a <= 1) x.b[i] = 1;", "always_comb for (int k = 0; k < 3; k = k + 1) x.b[k] = 1;", "sub u(x.b[i]);",
-            "always_comb begin if (a) y = 1; else x.b[i] = 1; end", "always_comb case (a) 1: y = 1; 2: x.b[i] = 1; endcase",
-            "assign y = x.b[i +: W];", "assign y = q[1].b[i];", "assign y = x.b[i:0];", "assign y = x.b[0][i];", "assign y = x.b[x.a[i]];",
-            "wire [9:0] b; assign y = u.b[i];", "wire signed [2:0] i; assign y = x.b[i];", "assign y = x.d[i];",
+            "always_ff @(posedge c) x.b[i] <= v;",
+            "assign x.b[i] = v;",
+            "assign {y, x.b[i]} = v;",
+            "sub u(.o(x.b[i]));",
+            "always_comb if (a <= 1) x.b[i] = 1;",
+            "always_comb for (int k = 0; k < 3; k = k + 1) x.b[k] = 1;",
+            "sub u(x.b[i]);",
+            "always_comb begin if (a) y = 1; else x.b[i] = 1; end",
+            "always_comb case (a) 1: y = 1; 2: x.b[i] = 1; endcase",
+            "assign y = x.b[i +: W];",
+            "assign y = q[1].b[i];",
+            "assign y = x.b[i:0];",
+            "assign y = x.b[0][i];",
+            "assign y = x.b[x.a[i]];",
+            "wire [9:0] b; assign y = u.b[i];",
+            "wire signed [2:0] i; assign y = x.b[i];",
+            "assign y = x.d[i];",
         ):
             with self.assertRaisesRegex(ToolError, "'m.sv':3: a part of a structure's member", msg=wrong):
                 self.told(wrong)
 
 
 class Bounds(unittest.TestCase):
-    ENDLESS = "module m(input clk);\n  genvar i;\n  generate for (i = 0; i < 1; i = i + 0) begin : g wire a; end endgenerate\nendmodule\n"
+    ENDLESS = (
+        "module m(input clk);\n  genvar i;\n  generate for (i = 0; i < 1; i = i + 0) begin : g wire a; end"
+        " endgenerate\nendmodule\n"
+    )
 
     @unittest.skipUnless(shutil.which("yosys"), "Yosys is not installed")
     def test_loop_without_end_ends(self) -> None:
@@ -225,7 +255,10 @@ class Simulation(unittest.TestCase):
     def told(self, body: str) -> list[str]:
         """What is warned of in a module, without the words that all warnings have."""
         text = f"module m(input clk, a, b, output reg y);\n{body}\nendmodule\n"
-        ends = [one.partition(";")[0].replace("'m.v':", "") for one in simulation.warnings_of("m.v", text, source_texts.blanked(text)[0])]
+        ends = [
+            one.partition(";")[0].replace("'m.v':", "")
+            for one in simulation.warnings_of("m.v", text, source_texts.blanked(text)[0])
+        ]
         return ends
 
     def test_list_that_is_not_whole(self) -> None:
@@ -235,34 +268,52 @@ class Simulation(unittest.TestCase):
 
     def test_names_that_are_no_signals_are_not_waited_for(self) -> None:
         body = "parameter P = 1;\ntypedef enum logic {ON, OFF} t;\nfunction f(input x); f = x; endfunction\n"
-        self.assertEqual(self.told(f"{body}always @(a) case (a) ON: y = f(a) ^ P; 1'b1: y = `Q; default: y = OFF; endcase"), [])
+        self.assertEqual(
+            self.told(f"{body}always @(a) case (a) ON: y = f(a) ^ P; 1'b1: y = `Q; default: y = OFF; endcase"), []
+        )
 
     def test_set_before_it_is_read(self) -> None:
-        self.assertEqual(self.told("reg t;\nalways @* begin y = t; t = a; end"), ["3: the block reads t before it sets it"])
+        self.assertEqual(
+            self.told("reg t;\nalways @* begin y = t; t = a; end"), ["3: the block reads t before it sets it"]
+        )
         for right in ("t = a; y = t;", "t = 0; if (a) t = ~t; y = t;", "reg t; t = b; y = t;"):
             self.assertEqual(self.told(f"reg t;\nalways @* begin {right} end"), [], right)
 
     def test_race_of_two_blocks(self) -> None:
         first, second = "always @(posedge clk) r = a;", "always @(posedge clk) y <= r;"
-        self.assertEqual(self.told(f"reg r;\n{first}\n{second}"), ["3: the block sets r at once (=), and another block reads it at an edge"])
+        self.assertEqual(
+            self.told(f"reg r;\n{first}\n{second}"),
+            ["3: the block sets r at once (=), and another block reads it at an edge"],
+        )
         self.assertEqual(self.told(f"reg r;\n{first.replace('=', '<=')}\n{second}"), [])
         # each of them has its loop's number for itself
         loop = "always @(posedge clk) for (i = 0; i < 2; i = i + 1) {} <= a;"
         self.assertEqual(self.told(f"integer i;\n{loop.format('y')}\n{loop.format('z')}"), [])
 
     def test_delays_and_what_one_tool_sees(self) -> None:
-        for text, line in (("assign #1 z = a;", 2), ("always @(posedge clk) y <= #1 a;", 2), ("always @(posedge clk)\n  #3 y <= a;", 3)):
+        for text, line in (
+            ("assign #1 z = a;", 2),
+            ("always @(posedge clk) y <= #1 a;", 2),
+            ("always @(posedge clk)\n  #3 y <= a;", 3),
+        ):
             self.assertEqual(self.told(text), [f"{line}: a delay is passed over"], text)
         self.assertEqual(self.told("sub #(.W(2)) u(.a(a));\nsub #(3) v(.a(a));"), [])
         self.assertEqual(self.told("// synopsys translate_off"), ["2: what stands behind translate_off is passed over"])
 
     def test_any_text_comes_to_an_end(self) -> None:
-        for text in ("always " * 3000, "always @(" * 3000, "always unique " + "unique " * 3000, "always begin " * 3000, "always if (" * 3000):
+        for text in (
+            "always " * 3000,
+            "always @(" * 3000,
+            "always unique " + "unique " * 3000,
+            "always begin " * 3000,
+            "always if (" * 3000,
+        ):
             simulation.warnings_of("m.v", f"module {text}", f"module {text}")
 
 
 def two_bits(**origins: list[list[tuple[str, int]]]) -> beside_icarus.Beside:
-    """A module with a register of two bits, which are these signals of the sources, and one of two bits that is none."""
+    """A module with a register of two bits, which are these signals of the sources, and one of two bits that is
+    none."""
     memory = parse_memory("memory 1\nname m\nwords 2\nbits 1\n")
     held = Drive("held", 2, "held", [["held"]])
     plain = Plain("m", [], [], [], [held], [], {}, "clk", origins=origins, widths={"q": 2, "low": 1, "wide": 3})
@@ -275,21 +326,45 @@ class Unread(unittest.TestCase):
         said = unread.reason([("there/m.sv", source)], "yosys refuses it: there/m.sv:3: ERROR: syntax error")
         self.assertEqual(said, "'there/m.sv':3: Yosys doesn't read `inside`; comparisons with == say the same")
         # of an error without a line the first form is told, and of a source without one nothing
-        self.assertIn("'there/m.sv':2: Yosys doesn't read `return`", str(unread.reason([("there/m.sv", source)], "m.sv:0: ERROR: x")))
+        self.assertIn(
+            "'there/m.sv':2: Yosys doesn't read `return`",
+            str(unread.reason([("there/m.sv", source)], "m.sv:0: ERROR: x")),
+        )
         self.assertIsNone(unread.reason([("m.sv", "module m; endmodule\n")], "m.sv:1: ERROR: x"))
 
     def test_names_that_only_look_so(self) -> None:
-        for text in ("count c(.first(first), .last(l));", "logic [1:0] m [0:3];", "struct packed { logic a; } s;", "assign y = 4'(x);", "x = (a == b) ? c : d;", "xor x (a[0], b);"):
+        for text in (
+            "count c(.first(first), .last(l));",
+            "logic [1:0] m [0:3];",
+            "struct packed { logic a; } s;",
+            "assign y = 4'(x);",
+            "x = (a == b) ? c : d;",
+            "xor x (a[0], b);",
+        ):
             self.assertEqual(list(unread.reasons(text)), [], text)
-        for text in ("s = s.next();", "logic [1:0][0:3] m;", "struct { logic a; } s;", "assign y = int'(x);", "x = a ==? b;", "assign (weak1, weak0) f = b;", "xor x [1:0] (a, b, c);"):
+        for text in (
+            "s = s.next();",
+            "logic [1:0][0:3] m;",
+            "struct { logic a; } s;",
+            "assign y = int'(x);",
+            "x = a ==? b;",
+            "assign (weak1, weak0) f = b;",
+            "xor x [1:0] (a, b, c);",
+        ):
             self.assertEqual(len(list(unread.reasons(text))), 1, text)
 
     def test_names_within_a_part(self) -> None:
-        said = ["a/m.sv:25: Warning: Identifier `\\part.bad' is implicitly declared.", "m.sv:9: Warning: Identifier `\\bad' is implicitly declared."]
+        said = [
+            "a/m.sv:25: Warning: Identifier `\\part.bad' is implicitly declared.",
+            "m.sv:9: Warning: Identifier `\\bad' is implicitly declared.",
+        ]
         self.assertEqual([one.partition(":2")[0] for one in unread.within_parts(said)], ["part.bad (m.sv"])
 
     def test_latch_of_a_combinational_block(self) -> None:
-        error = "yosys refuses it: ERROR: Latch inferred for signal `\\m.\\flip' from always_comb process `\\m.$proc$/a/m.sv:0$19'."
+        error = (
+            "yosys refuses it: ERROR: Latch inferred for signal `\\m.\\flip' from always_comb process"
+            " `\\m.$proc$/a/m.sv:0$19'."
+        )
         self.assertEqual(str(unread.latch(error))[:49], "flip (m.sv): an always_comb doesn't set it in eve")
         self.assertIsNone(unread.latch("yosys refuses it: ERROR: other"))
 

@@ -45,11 +45,16 @@ class Arrays(unittest.TestCase):
 
     def test_what_is_due_is_what_is_compared(self) -> None:
         elements = elements_of("{up(w1);del;down(r1,w0);any(r0)}")
-        text = "memory 2\nname m\nwords 4\nbits 3\nlatency 2\npolarity 5\npause 3\nscramble a0 = p1\nscramble a1 = p0 ^ 1\n"
+        text = (
+            "memory 2\nname m\nwords 4\nbits 3\nlatency 2\npolarity 5\npause 3\nscramble a0 = p1\nscramble a1 = p0"
+            " ^ 1\n"
+        )
         memory = parse_memory(text)
         commands = [None, *commands_of(elements, memory), *[None] * (memory.latency + 1)]
         for cycle, command in enumerate(commands):
-            self.assertEqual(due_numbers(elements, memory, cycle), dict(compared(command, cycle == len(commands) - 1)), cycle)
+            self.assertEqual(
+                due_numbers(elements, memory, cycle), dict(compared(command, cycle == len(commands) - 1)), cycle
+            )
 
     def test_a_wrong_answer(self) -> None:
         step = last("<0r0/1/0>", None, 0, "00", "{any(w0);up(r0,r0)}", "uu")
@@ -81,7 +86,9 @@ class OpenRuns(unittest.TestCase):
         self.assertEqual(self.said(MODULE), "conforms 5")
 
     def test_a_port_that_differs(self) -> None:
-        self.assertEqual(self.said(MODULE.replace("addr = t[0]", "addr = t[1]")), "differs cycle 2 port addr expected 1 got 0")
+        self.assertEqual(
+            self.said(MODULE.replace("addr = t[0]", "addr = t[1]")), "differs cycle 2 port addr expected 1 got 0"
+        )
 
     def test_a_register_that_nothing_resets(self) -> None:
         self.assertEqual(self.said(MODULE.replace("(reset ? 3'd0 : ", "(reset ? t : ")), "unknown cycle 1 port en")
@@ -94,7 +101,9 @@ class OpenRuns(unittest.TestCase):
     def test_a_way_through_wires_may_be_long(self) -> None:
         names = [f"w{number}" for number in range(30000)]
         zero = Value(1, lambda _: 0)
-        run = Run(assigns=dict.fromkeys(names, zero), reads={one: {other} for one, other in zip(names, [*names[1:], "reset"])})
+        run = Run(
+            assigns=dict.fromkeys(names, zero), reads={one: {other} for one, other in zip(names, [*names[1:], "reset"])}
+        )
         self.assertEqual(order_of(run), names[::-1])
         run.reads["w29999"] = {"w7"}
         self.assertRaises(ToolError, order_of, run)

@@ -14,7 +14,15 @@ class Names(unittest.TestCase):
             self.assertIsNone(meaning_of(name))
 
     def test_letters_that_are_written_out(self) -> None:
-        told = {"CFdrd": "CFdr", "CFdrdf": "CFdr", "cfrdf": "CFrd", "CFwdf": "CFwd", "CF-ir": "CFir", "CFtrf": "CFtr", "CFd": "CFds"}
+        told = {
+            "CFdrd": "CFdr",
+            "CFdrdf": "CFdr",
+            "cfrdf": "CFrd",
+            "CFwdf": "CFwd",
+            "CF-ir": "CFir",
+            "CFtrf": "CFtr",
+            "CFd": "CFds",
+        }
         self.assertEqual({name: class_of(name) for name in told}, told)
         for name in ("CF", "CFin", "CFid", "CFxx", "CFdrdd", "DRDF", "", "F"):
             self.assertIsNone(class_of(name), name)

@@ -130,7 +130,10 @@ class InPlace(unittest.TestCase):
             done = self.called(sys.executable, str(ROOT / "tools" / tool[0]), *tool[1:])
             self.assertEqual(done.returncode, 0, done.stdout)
         build = f"cd {self.folder} && iverilog -g2012 -o tb -c camera_places.f && vvp -n tb"
-        found = {f"+planted={name}": f"{name} is found, first in cycle {cycle}" for name, cycle in (("late_1", 11), ("left", 10))}
+        found = {
+            f"+planted={name}": f"{name} is found, first in cycle {cycle}"
+            for name, cycle in (("late_1", 11), ("left", 10))
+        }
         for more, told in {"": "camera: passes once more", **found}.items():
             done = self.called("bash", "-c", f"{build} {more}")
             self.assertEqual(done.returncode, 0, done.stdout)

@@ -63,7 +63,17 @@ class Marches(unittest.TestCase):
             self.assertEqual(elements_of(f"{{any(w0);{word}(r0)}}")[1].order, order)
 
     def test_what_is_no_march(self) -> None:
-        for march in ("{}", "any()", "up w0", "{any(w2)}", "del(w0)", "any", "{any(w0)};", "any{(w0)", "{any(w0);" * 70 + "up(r0)}"):
+        for march in (
+            "{}",
+            "any()",
+            "up w0",
+            "{any(w2)}",
+            "del(w0)",
+            "any",
+            "{any(w0)};",
+            "any{(w0)",
+            "{any(w0);" * 70 + "up(r0)}",
+        ):
             self.assertRaises(ToolError, elements_of, march)
         self.assertRaises(ToolError, elements_of, f"{{any({','.join(['w0'] * 17)})}}")
         self.assertEqual(len(read_elements(";".join(["any(w0)"] * 65))), 65)
@@ -93,7 +103,12 @@ class Memories(unittest.TestCase):
         self.assertEqual(logarithmic(5), [0, 0b01010, 0b01100, 0b10000])
 
     def test_numbers_out_of_their_range(self) -> None:
-        for old, new in (("words 4", "words 1"), ("bits 4", "bits 65"), ("latency 2", "latency 5"), ("polarity A", "polarity 1A")):
+        for old, new in (
+            ("words 4", "words 1"),
+            ("bits 4", "bits 65"),
+            ("latency 2", "latency 5"),
+            ("polarity A", "polarity 1A"),
+        ):
             self.assertRaises(ToolError, parse_memory, self.TEXT.replace(old, new))
         self.assertRaises(ToolError, parse_memory, self.TEXT.replace("name m", "name ../m"))
 
@@ -180,7 +195,10 @@ class Modules(unittest.TestCase):
 
     def test_ports_and_names(self) -> None:
         found = self.module("wire [7:0] x, y; reg z;")
-        self.assertEqual([(it.kind, it.width, it.token.text) for it in found.ports], [("input", 1, "clk"), ("input", 4, "a"), ("reg", 2, "b")])
+        self.assertEqual(
+            [(it.kind, it.width, it.token.text) for it in found.ports],
+            [("input", 1, "clk"), ("input", 4, "a"), ("reg", 2, "b")],
+        )
         told = [(it.kind, it.width, it.token.text) for it in found.items if isinstance(it, verilog.Declared)]
         self.assertEqual(told, [("wire", 8, "x"), ("wire", 8, "y"), ("reg", 1, "z")])
 
@@ -209,7 +227,10 @@ class Modules(unittest.TestCase):
         self.assertIsNone(self.expression("a").bits)
 
     def test_statements(self) -> None:
-        body = "always @(posedge clk) begin if (a) b <= 2'd1; else case (a) 4'd0, 4'd1: b <= 2'd0; default b <= b; endcase end"
+        body = (
+            "always @(posedge clk) begin if (a) b <= 2'd1; else case (a) 4'd0, 4'd1: b <= 2'd0; default b <= b;"
+            " endcase end"
+        )
         always = self.module(body).items[0]
         assert isinstance(always, verilog.Always) and isinstance(always.body, verilog.Block)
         found = always.body.parts[0]
@@ -217,7 +238,12 @@ class Modules(unittest.TestCase):
         self.assertEqual([len(labels) for labels, _ in found.otherwise.arms], [2, 0])
 
     def test_where_a_text_is_no_module(self) -> None:
-        for body, word in (("assign = a;", "="), ("wire w", "endmodule"), ("assign w = 5;", "5"), ("always @(negedge clk);", "negedge")):
+        for body, word in (
+            ("assign = a;", "="),
+            ("wire w", "endmodule"),
+            ("assign w = 5;", "5"),
+            ("always @(negedge clk);", "negedge"),
+        ):
             with self.assertRaises(verilog.Unread, msg=body) as caught:
                 self.module(body)
             said = f"// m\nmodule m(input clk, input [3:0] a, output reg [1:0] b);\n{body}\nendmodule\n"
@@ -236,9 +262,21 @@ class Warnings(unittest.TestCase):
         return [line.split(": ", 2)[2] for line in otherwise.of_module("m.v", text.encode())[:-1]]
 
     def test_far_shifts(self) -> None:
-        for value in ("(b << 32'hffffffff)", "(b >> n)", "(b << {b, 28'h0})", "(b << (b[0] ? n : 32'h0))", "(b << 33'h100000000)"):
+        for value in (
+            "(b << 32'hffffffff)",
+            "(b >> n)",
+            "(b << {b, 28'h0})",
+            "(b << (b[0] ? n : 32'h0))",
+            "(b << 33'h100000000)",
+        ):
             self.assertEqual(self.told(value), [otherwise.FAR_SHIFT], value)
-        for value in ("(b << 32'h7fffffff)", "(b >> n[30:0])", "(b << {1'h0, n[30:0]})", "(b << (n == 32'h0))", "(b << b) /* << n */"):
+        for value in (
+            "(b << 32'h7fffffff)",
+            "(b >> n[30:0])",
+            "(b << {1'h0, n[30:0]})",
+            "(b << (n == 32'h0))",
+            "(b << b) /* << n */",
+        ):
             self.assertEqual(self.told(value), [], value)
 
     def test_shifts_within_amounts_take_no_time(self) -> None:

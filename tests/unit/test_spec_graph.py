@@ -1,4 +1,5 @@
-"""The reading of the definitions: each form of a definition, of a `use` and of a block, and that a changed edge is noticed."""
+"""The reading of the definitions: each form of a definition, of a `use` and of a block, and that a changed edge is
+noticed."""
 from __future__ import annotations
 
 import pathlib
@@ -14,7 +15,10 @@ from vidlakost_tools.tool import ToolError
 class Uses(unittest.TestCase):
     def test_each_form(self) -> None:
         for line, wanted in (
-            ("use Rattle.low.specs.Parts.{Half, Whole as All};", {"Half": ("low", "Parts", "Half"), "All": ("low", "Parts", "Whole")}),
+            (
+                "use Rattle.low.specs.Parts.{Half, Whole as All};",
+                {"Half": ("low", "Parts", "Half"), "All": ("low", "Parts", "Whole")},
+            ),
             ("use Rattle.low.specs.inner.Parts as P;", {"P": ("low", "inner.Parts", "")}),
             ("ghost use Rattle.low.specs.Parts.{Half};", {"Half": ("low", "Parts", "Half")}),
             ("pub use Rattle.low.specs.Parts.{Half};", {"Half": ("low", "Parts", "Half")}),
@@ -143,7 +147,13 @@ class Graphs(unittest.TestCase):
                 "Fits": ("block", ["Fits"]),
             },
         )
-        for name, wanted in (("Half", []), ("Pair", ["Half"]), ("Twice", ["Half"]), ("Even", ["Half"]), ("Fits", ["Half", "Twice"])):
+        for name, wanted in (
+            ("Half", []),
+            ("Pair", ["Half"]),
+            ("Twice", ["Half"]),
+            ("Even", ["Half"]),
+            ("Fits", ["Half", "Twice"]),
+        ):
             self.assertEqual(self.uses(graph, name), wanted, name)
 
     def test_comments_and_heads(self) -> None:
@@ -164,7 +174,9 @@ class Graphs(unittest.TestCase):
     def test_a_record_that_is_changed_in_a_type_binds_nothing(self) -> None:
         kind = "data Kind : Type where\n  one : Kind\n  many : Nat → Kind"
         many = "(p : Pair) → double p.left ≡ 1 → p ≡ record p { left = 0 } → Kind"
-        graph = self.graph(low=(kind, kind.replace("data", "double : Nat → Nat\ndouble n = n\n\ndata").replace("Nat → Kind", many)))
+        graph = self.graph(
+            low=(kind, kind.replace("data", "double : Nat → Nat\ndouble n = n\n\ndata").replace("Nat → Kind", many))
+        )
         self.assertEqual(self.uses(graph, "Kind"), ["Pair", "double"])
 
     def test_clauses_of_public_calls(self) -> None:
@@ -175,7 +187,10 @@ class Graphs(unittest.TestCase):
 
     def test_a_clause_with_a_star_is_one(self) -> None:
         graph = self.graph(source=("ensures told { Uses n }", "ensures* told { Uses n }"))
-        self.assertEqual([(one.call, one.name, [key.name for key in one.uses]) for one in graph.clauses], [("high::shown", "told", ["Uses"])])
+        self.assertEqual(
+            [(one.call, one.name, [key.name for key in one.uses]) for one in graph.clauses],
+            [("high::shown", "told", ["Uses"])],
+        )
 
     def test_declared_types_stand_on_their_parts(self) -> None:
         graph = self.graph()

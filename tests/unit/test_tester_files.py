@@ -4,8 +4,8 @@ from __future__ import annotations
 import dataclasses
 import unittest
 
-from vidlakost_tools.access import block as access_block, ijtag, network, standards, stil, tap_run, wgl
-from vidlakost_tools.access.block import Target
+from vidlakost_tools.access import ijtag, network, standards, stil, tap_run, wgl
+from vidlakost_tools.access.target import Target
 from vidlakost_tools.tester_files import bsdl, icl, pdl, scan_path, stil as stil_reader, wgl as wgl_reader
 from vidlakost_tools.tester_files.cycles import Cycle, joined, listing
 from vidlakost_tools.tester_files.retarget import Session
@@ -124,7 +124,7 @@ class Retargeting(unittest.TestCase):
 class Runs(unittest.TestCase):
     def setUp(self) -> None:
         memory = Memory("m", words=4, bits=4, latency=2, polarity=5, pause=3, rows=None, backgrounds=[0, 0xA])
-        self.target: Target = access_block.of_memory(memory, 41)
+        self.target: Target = Target.of_memory(memory, 41)
 
     def test_stil_and_wgl_have_the_steps_of_the_run(self) -> None:
         for target in (self.target, dataclasses.replace(self.target, has_sib=True, depth=3, identity=0x2468ACE1)):

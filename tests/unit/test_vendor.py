@@ -14,11 +14,18 @@ from vidlakost_tools.tool import ToolError
 MEMORY = "memory 1\nname s\nwords {words}\nbits {bits}\n"
 PINS = "macro ram\nparameter TWICE 8\nclk ck\nen ~ce\nwe ~wen\naddr a\nwdata d\nrdata q\ntie t 2'h0\nopen o\nout p 3\n"
 HEADS = {
-    "ansi": "module ram(input ck, ce, wen, input [{a}-1:0] a, input [{d}-1:0] d, output [{q}-1:0] q, input [1:0] t, output o, output [2:0] p);",
-    "older": "module ram(ck, ce, wen, a, d, q, t, o, p);\n  input ck, ce, wen; input [{a}-1:0] a; input [{d}-1:0] d;\n"
-    "  output [{q}-1:0] q; input [1:0] t; output o; output [2:0] p;",
-    "parameters": "module ram #(parameter A = {a}, parameter D = {d} - 1)(input ck, ce, wen, input [A-1:0] a, input [D:0] d, "
-    "output [{q}-1:0] q, input [1:0] t, output o, output [2:0] p);",
+    "ansi": (
+        "module ram(input ck, ce, wen, input [{a}-1:0] a, input [{d}-1:0] d, output [{q}-1:0] q, input [1:0] t, output"
+        " o, output [2:0] p);"
+    ),
+    "older": (
+        "module ram(ck, ce, wen, a, d, q, t, o, p);\n  input ck, ce, wen; input [{a}-1:0] a; input [{d}-1:0] d;\n"
+        "  output [{q}-1:0] q; input [1:0] t; output o; output [2:0] p;"
+    ),
+    "parameters": (
+        "module ram #(parameter A = {a}, parameter D = {d} - 1)(input ck, ce, wen, input [A-1:0] a, input [D:0] d, "
+        "output [{q}-1:0] q, input [1:0] t, output o, output [2:0] p);"
+    ),
 }
 
 
@@ -43,7 +50,9 @@ class Widths(unittest.TestCase):
     def test_a_model_of_another_size_is_not(self) -> None:
         for style, head in HEADS.items():
             for a, d, q in ((4, 4, 4), (2, 4, 4), (3, 8, 8), (3, 4, 8), (3, 8, 4), (4, 8, 8)):
-                self.assertIn("by the pins and the description", self.refusal(head.format(a=a, d=d, q=q)), (style, a, d, q))
+                self.assertIn(
+                    "by the pins and the description", self.refusal(head.format(a=a, d=d, q=q)), (style, a, d, q)
+                )
 
     def test_the_place_and_both_widths_are_told(self) -> None:
         told = self.refusal(HEADS["ansi"].format(a=4, d=4, q=4))
@@ -56,7 +65,10 @@ class Widths(unittest.TestCase):
         self.assertIn("ce is an output", self.refusal(head.replace("input ck, ce", "input ck, output ce, input z")))
 
     def test_a_parameter_of_the_pins_is_the_models(self) -> None:
-        head = "module ram #(parameter TWICE = 4)(input ck, ce, wen, input [2:0] a, input [TWICE/2-1:0] d, output [3:0] q);"
+        head = (
+            "module ram #(parameter TWICE = 4)(input ck, ce, wen, input [2:0] a, input [TWICE/2-1:0] d, output"
+            " [3:0] q);"
+        )
         self.assertEqual(self.refusal(head), "")
         self.assertIn("d has 2 bits", self.refusal(head, pins=PINS.replace("parameter TWICE 8\n", "")))
 

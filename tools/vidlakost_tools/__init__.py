@@ -7,7 +7,11 @@ import sys
 def tell_memory(kind, error, trace):  # type: ignore[no-untyped-def]
     """Tells in a line that there was no memory, also where a tool has not begun; all else is told as always."""
     is_none = isinstance(error, MemoryError) or getattr(error, "errno", None) == errno.ENOMEM
-    if is_none or isinstance(error, ImportError) and any(told in str(error) for told in ("allocate memory", "map segment")):
+    if (
+        is_none
+        or isinstance(error, ImportError)
+        and any(told in str(error) for told in ("allocate memory", "map segment"))
+    ):
         os.write(2, b"vidlakost: there was no memory\n")
         os._exit(9)
     sys.__excepthook__(kind, error, trace)

@@ -72,7 +72,9 @@ def refuse_strangers(folder: pathlib.Path, names: Iterable[str]) -> None:
     for name in names:
         path = folder / name
         if os.path.lexists(path) and (path.is_symlink() or not path.is_file() or not is_own(path)):
-            raise ToolError(f"{path} is there and was not written by vidlakost, or was changed since, so nothing is written")
+            raise ToolError(
+                f"{path} is there and was not written by vidlakost, or was changed since, so nothing is written"
+            )
 
 
 def refuse_no_folder(folder: pathlib.Path) -> None:
@@ -82,8 +84,8 @@ def refuse_no_folder(folder: pathlib.Path) -> None:
 
 
 def look_first(folder: pathlib.Path, name: str, head: str) -> None:
-    """Refuses what `write_own` would of a file, before its text is made; a text that begins with this head may be one of an
-    older version."""
+    """Refuses what `write_own` would of a file, before its text is made; a text that begins with this head may be one
+    of an older version."""
     refuse_no_folder(folder)
     path = folder / name
     if not is_plain(path) or not read_described(path, LARGE_BYTES).startswith(head):
@@ -115,9 +117,9 @@ def is_unmarked(path: pathlib.Path, text: str) -> bool:
 
 
 def write_own(folder: pathlib.Path, texts: dict[str, str], inputs: list[str], told: list[str] | None = None) -> None:
-    """Writes files that may be written anew where nobody changed them, all of them or none, and no one over an input. Those
-    without a line that says whose they are are told with their sums in the list beside them. Only then it says their names,
-    or those in `told`: who closes the pipe behind the first line has them all."""
+    """Writes files that may be written anew where nobody changed them, all of them or none, and no one over an input.
+    Those without a line that says whose they are are told with their sums in the list beside them. Only then it says
+    their names, or those in `told`: who closes the pipe behind the first line has them all."""
     refuse_no_folder(folder)
     for name in texts:
         refuse_inputs(str(folder / name), [("what is read", given) for given in inputs])

@@ -67,7 +67,9 @@ def command_table() -> list[Command]:
 def commands() -> list[Command]:
     """The commands, each with its example and its text in FORMATS."""
     sections = re.findall(
-        r"^## The command `(\w+)`\n\n```\n[^\n]*\n([^\n]*)\n```\n\n(.*?)(?=^## )", read_text(FORMATS), re.MULTILINE | re.DOTALL
+        r"^## The command `(\w+)`\n\n```\n[^\n]*\n([^\n]*)\n```\n\n(.*?)(?=^## )",
+        read_text(FORMATS),
+        re.MULTILINE | re.DOTALL,
     )
     told = {name: (example, does.strip()) for name, example, does in sections}
     known = command_table()
@@ -94,7 +96,9 @@ def version() -> tuple[str, str, str]:
         commit, date = second.split(" ", 1)[1].split(", ")
         return first.split(" ")[1], date, commit
     form = ["git", "-C", str(ROOT), "log", "-1", "--format=%cs %h"]
-    said = subprocess.run(form, stdout=subprocess.PIPE, stderr=subprocess.DEVNULL, text=True, check=False).stdout.split()
+    said = subprocess.run(
+        form, stdout=subprocess.PIPE, stderr=subprocess.DEVNULL, text=True, check=False
+    ).stdout.split()
     date, commit = said if len(said) == 2 else ("0000-00-00", "none")
     changed = subprocess.run(
         [*form[:3], "status", "--porcelain"], stdout=subprocess.PIPE, stderr=subprocess.DEVNULL, text=True, check=False
@@ -108,13 +112,15 @@ def quick_program() -> str | None:
     launcher = ROOT / "vidlakost"
     if not (os.path.exists(named) and os.path.samefile(named, launcher)):
         return named
-    done = subprocess.run([launcher, "--program"], stdout=subprocess.PIPE, stderr=subprocess.DEVNULL, text=True, check=False)
+    done = subprocess.run(
+        [launcher, "--program"], stdout=subprocess.PIPE, stderr=subprocess.DEVNULL, text=True, check=False
+    )
     return done.stdout.strip() or None
 
 
 def settle(seconds: float) -> str | None:
-    """For a tool that asks many times: looks up once which program answers at once (None: there is none, and the launcher
-    answers unproved), asks it without the launcher from now on, and bounds the time of each call."""
+    """For a tool that asks many times: looks up once which program answers at once (None: there is none, and the
+    launcher answers unproved), asks it without the launcher from now on, and bounds the time of each call."""
     global PROGRAM, SECONDS
     quick = quick_program()
     if quick:
@@ -125,24 +131,30 @@ def settle(seconds: float) -> str | None:
 
 def sum_of_sources() -> str:
     """The sum of the sources that are proved, as the launcher takes it."""
-    done = subprocess.run([ROOT / "vidlakost", "--sources"], stdout=subprocess.PIPE, stderr=subprocess.DEVNULL, text=True, check=False)
+    done = subprocess.run(
+        [ROOT / "vidlakost", "--sources"], stdout=subprocess.PIPE, stderr=subprocess.DEVNULL, text=True, check=False
+    )
     return done.stdout.strip()
 
 
 def proof_of(program: Path) -> str | None:
-    """The line of the kit that proved a program of the sources that are here, as the file `kit` beside it tells, which its proof
-    left; None where nothing says that it was."""
+    """The line of the kit that proved a program of the sources that are here, as the file `kit` beside it tells, which
+    its proof left; None where nothing says that it was."""
     path = pathlib.Path(program)
     kept = path.with_name("kit")
     told = lines_of(read_described(kept)) if kept.is_file() and path.is_file() else []
-    if len(told) != 3 or told[0] != hashlib.sha256(path.read_bytes()).hexdigest() or told[2] != f"sources {sum_of_sources()}":
+    if (
+        len(told) != 3
+        or told[0] != hashlib.sha256(path.read_bytes()).hexdigest()
+        or told[2] != f"sources {sum_of_sources()}"
+    ):
         return None
     return told[1]
 
 
 def is_proved(program: str | None, named: bool) -> bool:
-    """Whether a program is known to be proved: the launcher takes no other by itself; of one that was named its proof has left
-    the file `kit` beside it, or it is a release's own."""
+    """Whether a program is known to be proved: the launcher takes no other by itself; of one that was named its proof
+    has left the file `kit` beside it, or it is a release's own."""
     release = ROOT / "RELEASE"
     own = ROOT / "libexec" / "vidlakost"
     if release.exists() and (not named or program is not None and pathlib.Path(program).resolve() == own.resolve()):
@@ -189,8 +201,8 @@ def with_text(text: str, use: Callable[[pathlib.Path], Answer]) -> Answer:
 
 
 def take_module(path: Path, text: str) -> None:
-    """Hands on what the program refuses of the module of a file. One that it takes, with or without full parentheses, it has
-    read when it misses the march behind it."""
+    """Hands on what the program refuses of the module of a file. One that it takes, with or without full parentheses,
+    it has read when it misses the march behind it."""
 
     def ask_both(copy: pathlib.Path) -> None:
         missing = [copy.with_name(name) for name in ("march", "memory")]

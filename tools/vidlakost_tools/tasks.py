@@ -12,9 +12,28 @@ TOOLS = ROOT / "tools"
 OLD = {"replay": "trace"}
 TASKS = {
     "To begin with": ["judge", "compile", "bench", "show", "explain"],
-    "Marches and their escapes": ["explore", "design", "decoder", "linked", "inword", "sim", "trace", "report", "compare"],
+    "Marches and their escapes": [
+        "explore",
+        "design",
+        "decoder",
+        "linked",
+        "inword",
+        "sim",
+        "trace",
+        "report",
+        "compare",
+    ],
     "A module beside its memory": [
-        "vectors", "benchfault", "benchall", "testbench", "locate", "turn", "liberty", "collar", "hold", "summary",
+        "vectors",
+        "benchfault",
+        "benchall",
+        "testbench",
+        "locate",
+        "turn",
+        "liberty",
+        "collar",
+        "hold",
+        "summary",
     ],
     "Modules of others": ["audit", "check", "benchfile", "plain", "formal"],
     "Chips": ["chip", "schedule", "top", "places", "flow"],
@@ -31,7 +50,11 @@ def tools() -> list[str]:
 
 def doc_of(tool: str) -> str:
     """The description at the head of a tool."""
-    found = re.search(r'^"""(.*?)"""', read_text(TOOLS / "vidlakost_tools" / "commands" / f"{OLD.get(tool, tool)}.py"), re.MULTILINE | re.DOTALL)
+    found = re.search(
+        r'^"""(.*?)"""',
+        read_text(TOOLS / "vidlakost_tools" / "commands" / f"{OLD.get(tool, tool)}.py"),
+        re.MULTILINE | re.DOTALL,
+    )
     return found[1] if found else ""
 
 

@@ -12,14 +12,14 @@ from typing import Iterator, Union
 Path = Union[str, "os.PathLike[str]"]
 
 
-# how many bytes of an input are read: as the program of its own inputs; of sources and models; and of what Yosys or a line
-# after the other is to read, or what tools have written
+# how many bytes of an input are read: as the program of its own inputs; of sources and models; and of what Yosys or a
+# line after the other is to read, or what tools have written
 INPUT_BYTES, SOURCE_BYTES, LARGE_BYTES = 1 << 20, 1 << 24, 1 << 26
 
 
 def read_bytes(path: Path, most: int = INPUT_BYTES) -> bytes:
-    """What a file holds. One that is longer, or a device that never ends, is told by `start`, as are a folder and a missing
-    file."""
+    """What a file holds. One that is longer, or a device that never ends, is told by `start`, as are a folder and a
+    missing file."""
     with open(path, "rb") as file:
         content = file.read(most + 1)
     if len(content) > most:
@@ -38,8 +38,8 @@ def read_described(path: Path, most: int = INPUT_BYTES) -> str:
 
 
 def stream(path: Path, most: int) -> Iterator[str]:
-    """The lines of a long text one by one, each without its line feed but the last, which has none if the text ends without
-    it; a line is one of an input at most."""
+    """The lines of a long text one by one, each without its line feed but the last, which has none if the text ends
+    without it; a line is one of an input at most."""
     left = most
     with open(path, "rb") as file:
         while True:
@@ -98,8 +98,8 @@ def cut(line: str) -> str:
 
 
 def harmless(text: str) -> str:
-    """The lines of an answer without what a terminal would obey. Bytes that are no text, as in the name of a folder, stay as they
-    came."""
+    """The lines of an answer without what a terminal would obey. Bytes that are no text, as in the name of a folder,
+    stay as they came."""
     if text.replace("\n", "").replace("\t", "").isprintable():
         return text
     return "".join(letter if letter in "\n\t" or "\udc80" <= letter <= "\udcff" else visible(letter) for letter in text)

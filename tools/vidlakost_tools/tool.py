@@ -1,7 +1,8 @@
 """How a tool starts and ends, its words, and the files that it writes.
 
-`tools/NAME` calls `command` once, and a script of the repository's own `start(main)`. What goes wrong in it (a file that is missing, words that are wrong, an input that the
-program refuses, a reader that closes the pipe) becomes a line on standard error and a status there, and nowhere else."""
+`tools/NAME` calls `command` once, and a script of the repository's own `start(main)`. What goes wrong in it (a file
+that is missing, words that are wrong, an input that the program refuses, a reader that closes the pipe) becomes a line
+on standard error and a status there, and nowhere else."""
 from __future__ import annotations
 
 import argparse
@@ -79,7 +80,9 @@ class Words(argparse.ArgumentParser):
 
     def error(self, message: str) -> NoReturn:
         found = re.match(r"argument (--[\w-]+): expected", message)
-        raise ToolError(f"{found[1]} needs a word behind it\n{usage_of(self.doc)}" if found else f"{message}\n{usage_of(self.doc)}")
+        raise ToolError(
+            f"{found[1]} needs a word behind it\n{usage_of(self.doc)}" if found else f"{message}\n{usage_of(self.doc)}"
+        )
 
 
 def words_of(
@@ -222,7 +225,8 @@ def progress(cycles: Iterable[int], what: str) -> Iterator[int]:
 
 
 def tell(line: str) -> None:
-    """Says something on standard error; of what a terminal would obey only the number is shown, and long lines are cut."""
+    """Says something on standard error; of what a terminal would obey only the number is shown, and long lines are
+    cut."""
     if sys.stderr is None:
         return
     try:
@@ -270,8 +274,9 @@ def write_whole(target: Path, text: str) -> None:
 
 
 def write_all(texts: Mapping[pathlib.Path, str], keeps_names: bool = True) -> None:
-    """Writes several files: none takes its place before the texts of all are on the disk. What is no plain file and a link are
-    written as they are, and so is a file with several names, unless the other names are to keep the old text."""
+    """Writes several files: none takes its place before the texts of all are on the disk. What is no plain file and a
+    link are written as they are, and so is a file with several names, unless the other names are to keep the old
+    text."""
     staged: dict[pathlib.Path, str] = {}
     as_they_are = [path for path in texts if is_written_as_it_is(path, keeps_names)]
     try:
@@ -295,7 +300,8 @@ def is_written_as_it_is(path: pathlib.Path, keeps_names: bool) -> bool:
 
 
 def sweep(folder: pathlib.Path) -> None:
-    """Removes what a tool or a program that was killed left in a folder: the caller's own, and more than an hour old."""
+    """Removes what a tool or a program that was killed left in a folder: the caller's own, and more than an hour
+    old."""
     for path in folder.glob(".vidlakost-*"):
         with contextlib.suppress(OSError):
             found = path.lstat()
@@ -327,8 +333,8 @@ def beside(path: pathlib.Path, text: str) -> str:
 
 
 def permissions(before: os.stat_result | None, group: int) -> int:
-    """Those of a new file of this group: where it takes the place of another, what that had; but of one of another group the
-    group and others get what both had, since who was kept out by the one could come in by the other."""
+    """Those of a new file of this group: where it takes the place of another, what that had; but of one of another
+    group the group and others get what both had, since who was kept out by the one could come in by the other."""
     if before is None:
         umask = os.umask(0)
         os.umask(umask)

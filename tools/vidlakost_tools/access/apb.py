@@ -5,7 +5,8 @@ import dataclasses
 
 from vidlakost_tools.access import log_window
 from vidlakost_tools.access.bench import most, testbench
-from vidlakost_tools.access.block import Port, Target, extended, header, inside, links, zero
+from vidlakost_tools.access.block import inside
+from vidlakost_tools.access.target import Port, Target, extended, header, links, zero
 from vidlakost_tools.verilog.bench_end import FINISH
 
 
@@ -52,8 +53,11 @@ def parts_of(name: str, source: str, width: int, at: int, about: str) -> list[Re
     return [Register(f"{name}_LOW", at, [low]), Register(f"{name}_HIGH", at + 4, [high])]
 
 
-def in_words(name: str, at: int, further: int, source: str, count: int, about: str, writable: bool = False) -> list[Register]:
-    """A bit for each unit in one register, or in several of 32 bits; those behind the first stand at `further` and behind."""
+def in_words(
+    name: str, at: int, further: int, source: str, count: int, about: str, writable: bool = False
+) -> list[Register]:
+    """A bit for each unit in one register, or in several of 32 bits; those behind the first stand at `further` and
+    behind."""
     field = source.split("_")[-1].replace("failed", "fail")
     if count <= 32:
         return [Register(name, at, [Field(field, 0, count, source, about)], writable)]
@@ -63,7 +67,9 @@ def in_words(name: str, at: int, further: int, source: str, count: int, about: s
         bits = f"{source}[{low + width - 1}:{low}]" if width > 1 else f"{source}[{low}]"
         told = f"{about}: units {low} to {low + width - 1}"
         place = further + 4 * (number - 1) if number else at
-        made.append(Register(f"{name}_{number}" if number else name, place, [Field(field, 0, width, bits, told)], writable))
+        made.append(
+            Register(f"{name}_{number}" if number else name, place, [Field(field, 0, width, bits, told)], writable)
+        )
     return made
 
 
@@ -188,7 +194,11 @@ def block(target: Target) -> str:
     # what is declared stands before what uses it
     lines.remove("  wire writable;")
     lines.insert(lines.index("  wire access_phase;"), "  wire writable;")
-    return header(APB.format(name=target.name), f"{target.name}_apb", ports, before=target.conditional()) + "\n".join(lines) + "\n"
+    return (
+        header(APB.format(name=target.name), f"{target.name}_apb", ports, before=target.conditional())
+        + "\n".join(lines)
+        + "\n"
+    )
 
 
 # ---- the registers in words
@@ -346,12 +356,19 @@ def bench(target: Target) -> str:
   wire pready;
   wire pslverr;
 """
-    link = f"  {target.name}_apb dut({target.bench_links()}{links(bus())},\n    .clk(clk), {links(target.ports())}, .test(test));\n"
+    link = (
+        f"  {target.name}_apb dut({target.bench_links()}{links(bus())},\n    .clk(clk), {links(target.ports())},"
+        " .test(test));\n"
+    )
     # with a log the first address behind the window, or behind an entry of it
-    beyond = "12'h028" if target.depth is None else f"12'h{0x800 + 32 * target.depth:x}" if target.depth < 64 else "12'hff4"
+    beyond = (
+        "12'h028" if target.depth is None else f"12'h{0x800 + 32 * target.depth:x}" if target.depth < 64 else "12'hff4"
+    )
     log = log_window.apb_reads(target)
     read = f"      get(12'h010);\n      when_read = heard;\n{words}"
     each = target.read_each("apb", read)
-    body = BODY.format(name=target.name, most=most(target), fails=read_fails(target), read=read, each=each, beyond=beyond, log=log)
+    body = BODY.format(
+        name=target.name, most=most(target), fails=read_fails(target), read=read, each=each, beyond=beyond, log=log
+    )
     declared += log_window.APB_DECLARED if target.depth else ""
     return testbench(target, "apb", "by an APB3 bus", 5, declared, link, body)

@@ -2,7 +2,7 @@
 read."""
 from __future__ import annotations
 
-from vidlakost_tools.access.block import Port, Target, extended, links, zero
+from vidlakost_tools.access.target import Port, Target, extended, links, zero
 from vidlakost_tools.text import template
 from vidlakost_tools.verilog.bench_end import FINISH, over, planted
 from vidlakost_tools.verilog.syntax import ranged
@@ -85,7 +85,9 @@ def access_bench(target: Target) -> str:
     if target.each:
         choice = ", .ignore(ignored)"
     read = READ.format(whose=extended("unit", target.unit_bits, 10) if target.is_chip else "10'd0")
-    link = f"  {target.name}_access dut({target.bench_links()}.clk(clk), .start(start){choice}, {links(target.ports())},\n"
+    link = (
+        f"  {target.name}_access dut({target.bench_links()}.clk(clk), .start(start){choice}, {links(target.ports())},\n"
+    )
     link += f"    .test(test), {links(state)});\n"
     body = ACCESS_BODY.format(
         name=target.name,

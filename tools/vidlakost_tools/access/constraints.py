@@ -3,7 +3,7 @@ from __future__ import annotations
 
 import dataclasses
 
-from vidlakost_tools.access.block import Target
+from vidlakost_tools.access.target import Target
 from vidlakost_tools.chip.access import SystemTarget
 from vidlakost_tools.text import template
 
@@ -115,7 +115,9 @@ def constraints(target: Target, kind: str, timing: Timing, in_test: bool) -> str
     when = f"{'under test' if in_test else 'in normal use, where test is 0'}, at {mhz:g} MHz"
     lines = bus_lines(kind, timing) if kind in BUSES else access_lines(target, period, timing.share)
     is_whole = isinstance(target, SystemTarget)
-    lines += chip_lines(target, period, timing) if isinstance(target, SystemTarget) else memory_lines(target, period, timing)
+    lines += (
+        chip_lines(target, period, timing) if isinstance(target, SystemTarget) else memory_lines(target, period, timing)
+    )
     lines.append(f"set_output_delay {period * timing.share:g} -clock clk [get_ports test]")
     lines += (IN_TEST_WHOLE if is_whole else IN_TEST) if in_test else NORMAL
     head = HEAD.substitute(name=target.name, kind=kind, when=when, at="", period=format(period, "g"))

@@ -6,7 +6,7 @@ import dataclasses
 from typing import Iterator, Sequence
 
 from vidlakost_tools.access import log_window, network
-from vidlakost_tools.access.block import Target
+from vidlakost_tools.access.target import Target
 from vidlakost_tools.access.tap import parts
 from vidlakost_tools.text import beside, template
 

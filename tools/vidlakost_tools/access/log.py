@@ -6,7 +6,8 @@ import dataclasses
 import re
 
 from vidlakost_tools.access.bench import most
-from vidlakost_tools.access.block import Port, Target, header, links, model_links
+from vidlakost_tools.access.target import model_links
+from vidlakost_tools.access.target import Port, Target, header, links
 from vidlakost_tools.text import stream
 from vidlakost_tools.texts.memory import Memory
 from vidlakost_tools.tool import ToolError
@@ -176,8 +177,9 @@ def entry_in(line: str) -> re.Match[str] | None:
 
 
 def read_log(path: str, memory: Memory, unit: int | None = None) -> tuple[list[Entry], bool]:
-    """The entries of a log, of a chip those of a unit, and whether more came. A line has `cycle C expected X returned W`;
-    other lines are left. They come in the order of their cycles, and the last one may be cut off where a run was ended."""
+    """The entries of a log, of a chip those of a unit, and whether more came. A line has `cycle C expected X returned
+    W`; other lines are left. They come in the order of their cycles, and the last one may be cut off where a run was
+    ended."""
     entries: list[Entry] = []
     more = False
     # a testbench of a bus says the first failure in front of the log

@@ -1,11 +1,11 @@
-"""The way of a log to a tester: the log of each memory behind a bus, the window of an APB3 bus, and the register of a TAP that
-tells one entry in each scan."""
+"""The way of a log to a tester: the log of each memory behind a bus, the window of an APB3 bus, and the register of a
+TAP that tells one entry in each scan."""
 from __future__ import annotations
 
 import dataclasses
 
 from vidlakost_tools.access import network
-from vidlakost_tools.access.block import Port, Target, extended, zero
+from vidlakost_tools.access.target import Port, Target, extended, zero
 from vidlakost_tools.text import template
 from vidlakost_tools.verilog.syntax import ranged
 
@@ -103,7 +103,12 @@ def window(target: Target, before: list[str]) -> list[str]:
     lines += [f"        is_there <= {in_range};", "        case (paddr[4:0])"]
     whole = {"log_cycle": 32, "log_expected": target.word, "log_returned": target.word}
     lines += [f"          5'h{cell.at:02x}: value <= {cell.value(whole[cell.source])};" for cell in cells(target)]
-    lines += ["          default: begin", "            value <= 32'd0;", "            is_there <= 1'b0;", "          end"]
+    lines += [
+        "          default: begin",
+        "            value <= 32'd0;",
+        "            is_there <= 1'b0;",
+        "          end",
+    ]
     return [*lines, "        endcase", "      end else begin", *(f"  {line}" for line in before), "      end"]
 
 
@@ -144,7 +149,9 @@ def apb_reads(target: Target) -> str:
         part = f"[{cell.low + cell.width - 1}:{cell.low}]" if cell.width > 1 else f"[{cell.low}]"
         part = part if cell.width < target.word else ""
         heard = f"heard[{cell.width - 1}:0]" if cell.width > 1 else "heard[0]"
-        lines.append(f"          get(12'h{WINDOW + cell.at:03x} + 12'd32 * entry[11:0]);\n          {name}{part} = {heard};\n")
+        lines.append(
+            f"          get(12'h{WINDOW + cell.at:03x} + 12'd32 * entry[11:0]);\n          {name}{part} = {heard};\n"
+        )
     choose, again, form, unit = "", "", "", ""
     if target.is_chip:
         choose = f"        for (of_unit = 0; of_unit < {target.count}; of_unit = of_unit + 1) begin\n"
@@ -163,7 +170,14 @@ def fields(target: Target) -> list[tuple[str, int, str]]:
     words = [(name, target.word, f"(log_here ? log_{name} : {zero(target.word)})") for name in ("expected", "returned")]
     unit = [("unit", target.unit_bits, "log_unit")] if target.is_chip else []
     cycle = "(log_here ? log_cycle : 32'd0)"
-    return [("valid", 1, "log_here"), ("last", 1, "log_last"), ("more", 1, "log_more"), ("cycle", 32, cycle), *words, *unit]
+    return [
+        ("valid", 1, "log_here"),
+        ("last", 1, "log_last"),
+        ("more", 1, "log_more"),
+        ("cycle", 32, cycle),
+        *words,
+        *unit,
+    ]
 
 
 def length(target: Target) -> int:
@@ -192,7 +206,9 @@ def tap_parts(target: Target) -> dict[str, str]:
         "log_shift": own.format(f"        LOG: log_data <= {{tdi, log_data[{top}:1]}};\n"),
         "log_reset": "\n".join([*reset, ""]),
         "log_step": "\n".join([*step, ""]),
-        "log_update": own.format("\n".join(["    else if (state == UPDATE_DR && instruction == LOG) begin", *step, "    end", ""])),
+        "log_update": own.format(
+            "\n".join(["    else if (state == UPDATE_DR && instruction == LOG) begin", *step, "    end", ""])
+        ),
         "log_out": own.format("        LOG: out <= log_data[0];\n"),
         "log_wires": "\n".join(
             [
@@ -209,7 +225,8 @@ TAP_READS = template(__file__, "log_window_tap_reads.sv")
 
 
 def scan_length(target: Target) -> int:
-    """How many bits a scan of the log has: behind its segment insertion bit also this bit and that of the self-test, the lowest."""
+    """How many bits a scan of the log has: behind its segment insertion bit also this bit and that of the self-test,
+    the lowest."""
     return length(target) + (2 if target.has_sib else 0)
 
 
@@ -223,7 +240,8 @@ def places(target: Target) -> dict[str, str]:
 
 
 def tap_reads(target: Target, size: int, width: int) -> str:
-    """What the testbench of a TAP reads of the log, where a scan of its register has so many bits, and a word has `width`."""
+    """What the testbench of a TAP reads of the log, where a scan of its register has so many bits, and a word has
+    `width`."""
     if target.depth is None:
         return ""
     at, scan = places(target), scan_length(target)

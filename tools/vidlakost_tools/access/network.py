@@ -3,7 +3,7 @@ self-test, and one in front of that of its log. From TDI to TDO stand the bit of
 self-test, and its register: so the register has the lowest bits of a scan, as without the network."""
 from __future__ import annotations
 
-from vidlakost_tools.access.block import Target
+from vidlakost_tools.access.target import Target
 from vidlakost_tools.text import template
 
 SIB = template(__file__, "network_sib.sv")

@@ -5,7 +5,7 @@ import math
 import re
 
 from vidlakost_tools.access import log_window, network
-from vidlakost_tools.access.block import Target
+from vidlakost_tools.access.target import Target
 from vidlakost_tools.access.tap import length
 from vidlakost_tools.access.tap_run import TURNS, Step, Wait, steps
 from vidlakost_tools.text import template
@@ -52,7 +52,12 @@ def bsdl(target: Target) -> str:
         if target.depth is not None:
             log, register = '    "LOG (1001), " &\n', f", LOGREG[{log_window.length(target)}] (LOG)"
     return BSDL.substitute(
-        name=target.name, identity=format(target.identity, "032b"), length=length_told, log=log, register=register, note=note
+        name=target.name,
+        identity=format(target.identity, "032b"),
+        length=length_told,
+        log=log,
+        register=register,
+        note=note,
     )
 
 

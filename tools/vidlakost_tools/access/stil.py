@@ -1,7 +1,7 @@
 """The run of the TAP in STIL (IEEE 1450), a vector for each cycle of TCK."""
 from __future__ import annotations
 
-from vidlakost_tools.access.block import Target
+from vidlakost_tools.access.target import Target
 from vidlakost_tools.access.tap_run import Vector, vectors
 from vidlakost_tools.text import template
 

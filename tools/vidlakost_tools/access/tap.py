@@ -5,7 +5,9 @@ import dataclasses
 
 from vidlakost_tools.access import log_window, network
 from vidlakost_tools.access.bench import most, testbench
-from vidlakost_tools.access.block import Port, Target, extended, header, inside, links, model_links, zero
+from vidlakost_tools.access.block import inside
+from vidlakost_tools.access.target import model_links
+from vidlakost_tools.access.target import Port, Target, extended, header, links, zero
 from vidlakost_tools.text import beside, template
 from vidlakost_tools.verilog.bench_end import FINISH
 
@@ -194,7 +196,10 @@ def bench(target: Target) -> str:
     size = length(target)
     scan = network.whole(target, size)
     width = max(scan, log_window.scan_length(target) if target.depth else 0)
-    link = f"  {target.name}_tap dut({target.bench_links()}{links(pins())},\n    .clk(clk), {links(target.ports())}, .test(test));\n"
+    link = (
+        f"  {target.name}_tap dut({target.bench_links()}{links(pins())},\n    .clk(clk), {links(target.ports())},"
+        " .test(test));\n"
+    )
     whose = extended(f"heard{at['unit']}", target.unit_bits, 10) if target.is_chip else "10'd0"
     read = READ.format(wanted=at["expected"], got=at["returned"], whose=whose)
     again = f"            shift({length(target)}, {{ignored, {length(target) - target.count}'d1}});\n" * 2

@@ -6,7 +6,7 @@ import dataclasses
 from typing import Iterator, Union
 
 from vidlakost_tools.access import network
-from vidlakost_tools.access.block import Target
+from vidlakost_tools.access.target import Target
 from vidlakost_tools.access.tap import IR_BITS, length, parts
 
 IDCODE, BIST = 2, 8

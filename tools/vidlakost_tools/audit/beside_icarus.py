@@ -1,5 +1,5 @@
-"""The sources themselves, clocked by Icarus beside the module that Yosys makes of them, from the same random registers, before a
-memory some of whose answers are wrong: what a simulator reads otherwise shows as a port that differs."""
+"""The sources themselves, clocked by Icarus beside the module that Yosys makes of them, from the same random registers,
+before a memory some of whose answers are wrong: what a simulator reads otherwise shows as a port that differs."""
 from __future__ import annotations
 
 import dataclasses
@@ -34,8 +34,8 @@ BENCH = template(__file__, "beside_icarus_bench.sv")
 
 @dataclasses.dataclass
 class Beside:
-    """What is clocked: the files of the sources, the module made of them, its pins and the memory, and the models of known
-    cells."""
+    """What is clocked: the files of the sources, the module made of them, its pins and the memory, and the models of
+    known cells."""
 
     files: list[str]
     plain: Plain
@@ -45,7 +45,8 @@ class Beside:
     cycles: int = CYCLES
 
     def known(self) -> str:
-        """The models of known cells. Icarus reads no number that a port has where nothing is connected; x it is then."""
+        """The models of known cells. Icarus reads no number that a port has where nothing is connected; x it is
+        then."""
         return re.sub(r"(\binput \w+) = 1'b[01]", r"\1", self.cells)
 
     def dut_pins(self) -> str:
@@ -69,8 +70,9 @@ class Beside:
         return found
 
     def same(self, dut: str = "dut.", made_in: str = "made.") -> dict[str, set[str]]:
-        """The lines by which the registers of the sources become as those of the made module are, with the bits of these. A signal
-        of which some bits are no registers is set where no other has its bits, and is said to have none."""
+        """The lines by which the registers of the sources become as those of the made module are, with the bits of
+        these. A signal of which some bits are no registers is set where no other has its bits, and is said to have
+        none."""
         bits: dict[str, dict[int, str]] = {}
         for register in self.plain.registers:
             for index, origin in enumerate(self.plain.origins.get(register.name, [])):
@@ -85,13 +87,19 @@ class Beside:
                 continue
             value = ", ".join(bits[name].get(at, "1'b0") for at in reversed(range(self.plain.widths[name])))
             # a word of a memory is no target of $deposit
-            line = f"    {dut}{name} = {{{value}}};" if name.endswith("]") else f"    $deposit({dut}{name}, {{{value}}});"
+            line = (
+                f"    {dut}{name} = {{{value}}};" if name.endswith("]") else f"    $deposit({dut}{name}, {{{value}}});"
+            )
             found[line] = set(bits[name].values()) if name in whole else set()
         return found
 
     def is_whole(self, same: dict[str, set[str]]) -> bool:
         """Whether these lines set each register, so that they may be set at any time."""
-        bits = {f"made.{one.name}[{index}]" if one.width > 1 else f"made.{one.name}" for one in self.plain.registers for index in range(one.width)}
+        bits = {
+            f"made.{one.name}[{index}]" if one.width > 1 else f"made.{one.name}"
+            for one in self.plain.registers
+            for index in range(one.width)
+        }
         return bits <= set().union(*same.values())
 
     def bench(self, same: dict[str, set[str]]) -> str:
@@ -101,7 +109,9 @@ class Beside:
             wires="\n".join(self.wires()),
             top=self.plain.top,
             pins=self.dut_pins(),
-            ports=", ".join(f".{name}({name if way == 'input' else f'made_{name}'})" for way, name, _ in self.plain.ports),
+            ports=", ".join(
+                f".{name}({name if way == 'input' else f'made_{name}'})" for way, name, _ in self.plain.ports
+            ),
             last=2**self.memory.width - 1,
             latency=self.memory.latency,
             registers="\n".join(f"    made.{one.name} = {{$urandom, $urandom}};" for one in self.plain.registers),
@@ -121,7 +131,13 @@ def refuse_sources(files: list[str], libraries: list[str]) -> None:
     for file, source in with_included(files):
         found = next((match for text in blanked(source) for match in WRITES.finditer(text)), None)
         if found:
-            raise ToolError(f"{shown(file)}:{source.count(chr(10), 0, found.start()) + 1}: {found[0]} would reach beyond a simulation", 1)
+            raise ToolError(
+                (
+                    f"{shown(file)}:{source.count(chr(10), 0, found.start()) + 1}: {found[0]} would reach beyond a"
+                    " simulation"
+                ),
+                1,
+            )
 
 
 def how_far(out: pathlib.Path) -> str:
@@ -168,7 +184,9 @@ def known(same: dict[str, set[str]], unknown: set[str]) -> dict[str, set[str]]:
     return {told: same[line] for line, told in lines.items() if told is not None}
 
 
-def compiled(words: list[str], folder: pathlib.Path, bench: Callable[[dict[str, set[str]]], str], same: dict[str, set[str]]) -> None:
+def compiled(
+    words: list[str], folder: pathlib.Path, bench: Callable[[dict[str, set[str]]], str], same: dict[str, set[str]]
+) -> None:
     """Compiles a bench whose lines set the registers of the sources, but for those that Icarus doesn't know."""
     for _ in range(20):
         text = bench(same)
@@ -192,7 +210,10 @@ def beside(asked: Beside) -> str:
         (folder / "cells.v").write_text(asked.known(), encoding="utf-8")
         copies, _ = with_members(asked.files, folder)
         files = [os.path.abspath(file) for file in copies]
-        places = [f"-I{place}" for place in dict.fromkeys([os.getcwd(), *(os.path.dirname(os.path.abspath(file)) for file in asked.files)])]
+        places = [
+            f"-I{place}"
+            for place in dict.fromkeys([os.getcwd(), *(os.path.dirname(os.path.abspath(file)) for file in asked.files)])
+        ]
         words = ["iverilog", "-g2012", "-s", "vidlakost_beside", *places, "-o", str(folder / "run")]
         words += [str(folder / part) for part in ("bench.v", "made.v", "cells.v")] + files
         compiled(words, folder, asked.bench, asked.same())

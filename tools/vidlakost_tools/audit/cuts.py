@@ -32,7 +32,11 @@ class Flow:
     def is_free(self, begin: Node, end: Node) -> bool:
         if begin[0] == end[0]:
             is_onward = end[1]
-            return self.used[begin, end] == 0 if is_onward and begin[0] != self.sink else is_onward or self.used[end, begin] > 0
+            return (
+                self.used[begin, end] == 0
+                if is_onward and begin[0] != self.sink
+                else is_onward or self.used[end, begin] > 0
+            )
         # from bit to bit any number of ways may go
         return begin[1] or self.used[end, begin] > 0
 
@@ -65,7 +69,8 @@ class Flow:
 
 
 def least_cut(machine: Machine, sources: list[Any], sink: Any) -> list[Any]:
-    """The fewest bits through which all ways go, as near to the sources as can be; none where they are many, or there is no way."""
+    """The fewest bits through which all ways go, as near to the sources as can be; none where they are many, or there
+    is no way."""
     flow = Flow(machine, sources, sink)
     for _ in range(MOST + 1):
         before, is_reached = flow.search()

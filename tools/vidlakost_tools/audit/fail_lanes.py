@@ -1,12 +1,12 @@
-"""The port `fail` of a controller in all histories at once: its gates are run with three values (1, 0, open) in lanes, a
-bit of a long number for each.
+"""The port `fail` of a controller in all histories at once: its gates are run with three values (1, 0, open) in lanes,
+a bit of a long number for each.
 
-In lane 0 every answer is right. For each answer and each of its bits one lane has right answers before it, that bit of it
-the lowest that is wrong, and everything later open. Each history is that of lane 0 or has a first answer that is wrong, with
-a lowest wrong bit in it, so `fail` is as it has to be in every history where it is so in each lane; and so it is where each
-lane has the highest wrong bit, which tells what a comparison of sizes answers. Every register is open at first, and so is
-`rdata` in each cycle without an answer. A lane whose answer lies some answers back is laid together with the earlier lanes of its
-bit: what is not the same in both becomes open."""
+In lane 0 every answer is right. For each answer and each of its bits one lane has right answers before it, that bit of
+it the lowest that is wrong, and everything later open. Each history is that of lane 0 or has a first answer that is
+wrong, with a lowest wrong bit in it, so `fail` is as it has to be in every history where it is so in each lane; and so
+it is where each lane has the highest wrong bit, which tells what a comparison of sizes answers. Every register is open
+at first, and so is `rdata` in each cycle without an answer. A lane whose answer lies some answers back is laid together
+with the earlier lanes of its bit: what is not the same in both becomes open."""
 from __future__ import annotations
 
 import dataclasses
@@ -26,7 +26,8 @@ SLICE = 4096
 
 
 class Side(enum.Enum):
-    """Of which wrong bit of the first wrong answer a lane is: of the lowest, so that those below it are right, or of the highest."""
+    """Of which wrong bit of the first wrong answer a lane is: of the lowest, so that those below it are right, or of
+    the highest."""
 
     LOWEST = "lowest"
     HIGHEST = "highest"
@@ -42,8 +43,9 @@ class Side(enum.Enum):
 
 @dataclasses.dataclass
 class Plan:
-    """The answers of a test, by their cycles; the cycles to the one that shows the last; the first cycle that is looked at; how
-    many cycles later than the rule `fail` may tell a wrong answer, fewer than there are answers with lanes of their own."""
+    """The answers of a test, by their cycles; the cycles to the one that shows the last; the first cycle that is looked
+    at; how many cycles later than the rule `fail` may tell a wrong answer, fewer than there are answers with lanes of
+    their own."""
 
     answers: dict[int, int]
     cycles: int
@@ -116,8 +118,8 @@ def compare(found: tuple[int, int], live: int, want: int) -> int:
 
 
 def run_joined(machine: Machine, plan: Plan, clock: Clock) -> Found | None:
-    """Lane 0, a lane for each bit of the recent answers, and for each bit one lane in which the earlier ones lie together;
-    None where that is not told by them."""
+    """Lane 0, a lane for each bit of the recent answers, and for each bit one lane in which the earlier ones lie
+    together; None where that is not told by them."""
     bits = plan.bits
     word = (1 << bits) - 1
     full = (1 << 1 + bits + RECENT * bits) - 1
@@ -138,7 +140,8 @@ def run_joined(machine: Machine, plan: Plan, clock: Clock) -> Found | None:
             live, want = live | word << base, want & ~(word << base)
             known, wrong, values = True, word << base, plan.answers[cycle]
         rdata = [
-            given(values >> bit & 1, 1 | right[bit] << base, 1 << base + bit) if known else (0, 0) for bit in range(bits)
+            given(values >> bit & 1, 1 | right[bit] << base, 1 << base + bit) if known else (0, 0)
+            for bit in range(bits)
         ]
         before = state
         state, (fail,) = machine.step(state, [*rdata, (full, 0) if cycle == 0 else (0, full)], full)
@@ -184,8 +187,8 @@ def found_at(fail: tuple[int, int], cycle: int, want: int, lane: int, wrong: tup
 
 
 def run_slice(machine: Machine, plan: Plan, answers: list[int], start: tuple[int, list[Any]], clock: Clock) -> Found:
-    """A lane for each bit of each of some answers, and behind them one in which all are right, from the state of lane 0 at
-    the first of them."""
+    """A lane for each bit of each of some answers, and behind them one in which all are right, from the state of lane 0
+    at the first of them."""
     bits = plan.bits
     place = {cycle: count * bits for count, cycle in enumerate(answers)}
     right = [plan.side.lanes(bit, bits) for bit in range(bits)]

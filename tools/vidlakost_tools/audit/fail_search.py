@@ -1,5 +1,5 @@
-"""What is found of the port `fail` of a controller: by three values in lanes; where these lose that open values hang together, by
-splitting what it hangs on; and where that is too much, by Yosys' model checker."""
+"""What is found of the port `fail` of a controller: by three values in lanes; where these lose that open values hang
+together, by splitting what it hangs on; and where that is too much, by Yosys' model checker."""
 from __future__ import annotations
 
 import dataclasses
@@ -48,7 +48,12 @@ def look_at(machine: Machine, plan: Plan, plain: Plain, clock: Clock) -> Told:
         why = "and that doesn't come out where the module is clocked by itself from there, so it is no finding"
         return Told(found, plan, f"{lost}; Yosys' model checker says that {checked.found.line()}, {why}")
     words = [f"{word:0{plan.bits}b}" for word in checked.words]
-    return Told(checked.found, plan, f"{lost}, and Yosys' model checker does", told_words(plan, checked.found, words) if words else "")
+    return Told(
+        checked.found,
+        plan,
+        f"{lost}, and Yosys' model checker does",
+        told_words(plan, checked.found, words) if words else "",
+    )
 
 
 def is_undriven(machine: Machine, plan: Plan, plain: Plain, found: Found) -> bool:
@@ -74,9 +79,13 @@ def history_told(machine: Machine, plan: Plan, plain: Plain, split: splits.Split
 
 
 def told_words(plan: Plan, found: Found, words: list[str]) -> str:
-    """The words on `rdata` from the first wrong answer on, or all where none is wrong; those of cycles without an answer where
-    they are not 0."""
+    """The words on `rdata` from the first wrong answer on, or all where none is wrong; those of cycles without an
+    answer where they are not 0."""
     begin = found.answer or 0
-    shown = [f"{word} in cycle {cycle}" for cycle, word in enumerate(words) if cycle >= begin and (cycle in plan.answers or "1" in word)]
+    shown = [
+        f"{word} in cycle {cycle}"
+        for cycle, word in enumerate(words)
+        if cycle >= begin and (cycle in plan.answers or "1" in word)
+    ]
     more = ", .." if len(shown) > WORDS else ""
     return f"  so with rdata {', '.join(shown[:WORDS]) or '0'}{more}, and 0 where nothing was read"

@@ -1,5 +1,5 @@
-"""A module of the subset as gates with three values (1, 0, open), each in many lanes at once: a signal is two long numbers,
-the lanes in which it is 1 and those in which it is 0."""
+"""A module of the subset as gates with three values (1, 0, open), each in many lanes at once: a signal is two long
+numbers, the lanes in which it is 1 and those in which it is 0."""
 from __future__ import annotations
 
 import pathlib
@@ -20,8 +20,10 @@ def gates_of(plain: Plain) -> dict[str, Any]:
         source, out = folder / "plain.v", folder / "gates.json"
         source.write_text(plain.text())
         yosys.run(
-            f"read_verilog {yosys.quoted(source)}\nhierarchy -auto-top\nproc -noopt -norom\n{yosys.OPEN}{OPEN_X}{SIMPLER}"
-            f"techmap\n{SIMPLER}{OPEN_X}write_json {yosys.quoted(out)}\n",
+            (
+                f"read_verilog {yosys.quoted(source)}\nhierarchy -auto-top\nproc -noopt"
+                f" -norom\n{yosys.OPEN}{OPEN_X}{SIMPLER}techmap\n{SIMPLER}{OPEN_X}write_json {yosys.quoted(out)}\n"
+            ),
             folder,
             "-q",
         )
@@ -113,9 +115,9 @@ class Machine:
         return found
 
     def compiled(self, results: list[Any], split: Sequence[Any] = ()) -> Callable[..., Any]:
-        """A function of the registers, the inputs and all lanes to the registers behind the edge and the results. Of each bit that
-        is split it takes two more masks, the lanes in which it is 1 and those in which it is 0 where it is open, and answers the
-        lanes in which it is open even so."""
+        """A function of the registers, the inputs and all lanes to the registers behind the edge and the results. Of
+        each bit that is split it takes two more masks, the lanes in which it is 1 and those in which it is 0 where it
+        is open, and answers the lanes in which it is open even so."""
         self.known = {*self.order, *self.registers, *self.inputs, *split}
         lines = ["def step(state, inputs, full, force=()):"]
         for bits, name in ((self.registers, "state"), (self.inputs, "inputs")):
@@ -130,7 +132,10 @@ class Machine:
             lines.append(f"  a{bit} = {one}; b{bit} = {zero}")
             lines += forced(bit, split.index(bit)) if bit in split else []
         after = [self.pair(self.driver[bit]["connections"]["D"][0]) for bit in self.registers]
-        told = ["[" + "".join(f"({one}, {zero}), " for one, zero in pairs) + "]" for pairs in (after, map(self.pair, results))]
+        told = [
+            "[" + "".join(f"({one}, {zero}), " for one, zero in pairs) + "]"
+            for pairs in (after, map(self.pair, results))
+        ]
         opens = "[" + "".join(f"u{bit}, " for bit in split) + "]"
         lines.append(f"  return {told[0]}, {told[1]}" + (f", {opens}" if split else ""))
         made: dict[str, Any] = {}
@@ -142,6 +147,9 @@ class Machine:
 def forced(bit: object, place: int) -> list[str]:
     """The lines by which a bit that is open becomes what the masks at a place say."""
     return [
-        f"  u{bit} = full & ~(a{bit} | b{bit}); a{bit} |= u{bit} & force[{place}][0]; b{bit} |= u{bit} & force[{place}][1]",
+        (
+            f"  u{bit} = full & ~(a{bit} | b{bit}); a{bit} |= u{bit} & force[{place}][0]; b{bit} |= u{bit} &"
+            f" force[{place}][1]"
+        ),
         f"  u{bit} &= ~(a{bit} | b{bit})",
     ]

@@ -1,5 +1,6 @@
-"""A controller that compares in a pipeline, so that `fail` and `done` come some cycles later than the rule of the ports has them:
-by how many, and the module whose `done` comes when it is due, so that `check` tells whether its commands are right."""
+"""A controller that compares in a pipeline, so that `fail` and `done` come some cycles later than the rule of the ports
+has them: by how many, and the module whose `done` comes when it is due, so that `check` tells whether its commands are
+right."""
 from __future__ import annotations
 
 import dataclasses
@@ -9,14 +10,15 @@ from vidlakost_tools.program import with_text
 from vidlakost_tools.tool import progress
 from vidlakost_tools.verilog import open_run
 from vidlakost_tools.verilog.front_end import Plain
-from vidlakost_tools.verilog.yosys_operators import Drive
+from vidlakost_tools.verilog.named_bits import Drive
 
 MOST = 7
 WIDTH = 22
 
 
 def late(plain: Plain, end: int) -> int | None:
-    """How many cycles behind the one in which it is due `done` comes, being 0 until then, and `en` too; None where it does not."""
+    """How many cycles behind the one in which it is due `done` comes, being 0 until then, and `en` too; None where it
+    does not."""
     cycles = open_run.cycles_of(with_text(plain.text(), open_run.read_module))
     for _ in progress(range(end), f"the module is clocked to the end in cycle {end}"):
         next(cycles)
@@ -32,7 +34,9 @@ def in_time(plain: Plain, end: int) -> Plain:
     used |= {port for _, port, _ in plain.ports}
     name = next(name for name in (f"cycle_{count}" for count in itertools.count()) if name not in used)
     last = f"{WIDTH}'d{end}"
-    count = Drive(name, WIDTH, f"(reset ? {WIDTH}'d1 : (({name} == {last}) ? {last} : ({name} + {WIDTH}'d1)))", [["reset", name]])
+    count = Drive(
+        name, WIDTH, f"(reset ? {WIDTH}'d1 : (({name} == {last}) ? {last} : ({name} + {WIDTH}'d1)))", [["reset", name]]
+    )
     done = Drive("done", 1, f"(({name} == {last}) & (~reset))", [[name, "reset"]])
     outputs = [done if output.name == "done" else output for output in plain.outputs]
     return dataclasses.replace(plain, registers=[*plain.registers, count], outputs=outputs)

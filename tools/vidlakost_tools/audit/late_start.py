@@ -1,5 +1,5 @@
-"""A controller that starts some cycles behind its reset, as one with an idle state: what it is so many cycles later becomes
-what it is behind the reset, so that `check` tells whether it is right from there on."""
+"""A controller that starts some cycles behind its reset, as one with an idle state: what it is so many cycles later
+becomes what it is behind the reset, so that `check` tells whether it is right from there on."""
 from __future__ import annotations
 
 import dataclasses
@@ -9,7 +9,7 @@ from typing import Any
 from vidlakost_tools.program import with_text
 from vidlakost_tools.verilog import open_run
 from vidlakost_tools.verilog.front_end import Plain
-from vidlakost_tools.verilog.yosys_operators import Drive
+from vidlakost_tools.verilog.named_bits import Drive
 
 MOST = 8
 
@@ -51,5 +51,7 @@ def started(plain: Plain, at: dict[str, Any]) -> Plain:
         return dataclasses.replace(output, value=f"({output.value} & (~reset))")
 
     return dataclasses.replace(
-        plain, registers=[reset(register) for register in plain.registers], outputs=[quiet(output) for output in plain.outputs]
+        plain,
+        registers=[reset(register) for register in plain.registers],
+        outputs=[quiet(output) for output in plain.outputs],
     )

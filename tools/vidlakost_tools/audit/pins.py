@@ -1,5 +1,5 @@
-"""The pins of a controller whose ports have other names than those of a self-test: which pin is which port, which is active
-low, which input is tied and which output left open."""
+"""The pins of a controller whose ports have other names than those of a self-test: which pin is which port, which is
+active low, which input is tied and which output left open."""
 from __future__ import annotations
 
 import dataclasses
@@ -90,7 +90,9 @@ class Pins:
         wanted += [(name, "input") for name in self.ties] + [(name, "output") for name in self.opens]
         for name, way in wanted:
             if ports[name]["direction"] != way:
-                raise ToolError(f"{self.file}: {name} is an {ports[name]['direction']} of the module, and has to be an {way}")
+                raise ToolError(
+                    f"{self.file}: {name} is an {ports[name]['direction']} of the module, and has to be an {way}"
+                )
         for name, value in self.ties.items():
             if value >> len(ports[name]["bits"]):
                 raise ToolError(f"{self.file}: {name} has {len(ports[name]['bits'])} bits, and {value} does not fit")
@@ -133,7 +135,9 @@ def take_line(pins: Pins, words: list[str]) -> str | None:
         return f"there is no line '{kind}': they begin with {', '.join((*INPUTS, *OUTPUTS))}, tie or open"
     name = rest[0].lstrip("~") if len(rest) == 1 else ""
     if not PIN.fullmatch(name) or rest[0] not in (name, f"~{name}") or kind == "open" and rest[0] != name:
-        return f"behind '{kind}' stands the name of one pin" + ("" if kind == "open" else ", with ~ where it is active low")
+        return f"behind '{kind}' stands the name of one pin" + (
+            "" if kind == "open" else ", with ~ where it is active low"
+        )
     if kind == "open":
         pins.opens.append(name)
     else:

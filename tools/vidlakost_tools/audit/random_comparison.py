@@ -1,4 +1,5 @@
-"""`audit` beside Yosys' model checker, on random modules of `compile` whose port `fail` is damaged in a random place."""
+"""`audit` beside Yosys' model checker, on random modules of `compile` whose port `fail` is damaged in a random
+place."""
 from __future__ import annotations
 
 import collections
@@ -17,7 +18,8 @@ OF_FAIL = re.compile(r"\b(bad|want\w*|reads\w*|fail|value\w*|back\w*)\b")
 
 
 def damaged(files: list[pathlib.Path], chance: random.Random) -> str:
-    """A module with one place changed on which `fail` hangs, whose commands are still right; as it was, if none is found."""
+    """A module with one place changed on which `fail` hangs, whose commands are still right; as it was, if none is
+    found."""
     text = files[0].read_text()
     for _ in range(60):
         other = changed(text, chance)
@@ -39,8 +41,8 @@ def told(tool: str, files: list[pathlib.Path]) -> tuple[int, str]:
 
 
 def agree(audited: tuple[int, str], judged: tuple[int, str]) -> bool:
-    """Whether `audit` and `formal` both judged a module, and say the same of it where `audit` knows. Either may also have
-    refused it, or have come to nothing, with the status of a module that is wrong."""
+    """Whether `audit` and `formal` both judged a module, and say the same of it where `audit` knows. Either may also
+    have refused it, or have come to nothing, with the status of a module that is wrong."""
     (status, line), (other_status, other) = audited, judged
     is_told = line.startswith("audit: ") and line != "audit: refused"
     is_judged = other_status == 0 or other.startswith("differs in cycle ")
@@ -68,6 +70,11 @@ def compare(number: int, chance: random.Random) -> int:
             said_of["unknown and right"] += kind == "unknown" and other_status == 0
             if not agree(audited, judged):
                 wrong += 1
-                print(f"audit says '{line}', and formal '{other}'\n{files[1].read_text()}\n{files[2].read_text()}{text}")
-    print(f"{number} modules, {wrong} differences; " + ", ".join(f"{count} {kind}" for kind, count in sorted(said_of.items())))
+                print(
+                    f"audit says '{line}', and formal '{other}'\n{files[1].read_text()}\n{files[2].read_text()}{text}"
+                )
+    print(
+        f"{number} modules, {wrong} differences; "
+        + ", ".join(f"{count} {kind}" for kind, count in sorted(said_of.items()))
+    )
     return 1 if wrong else 0

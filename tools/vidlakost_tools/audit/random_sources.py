@@ -1,5 +1,5 @@
-"""Random controllers in many styles of Verilog and SystemVerilog, with the ports of a self-test, for comparisons of what reads
-them: no index lies beyond its word, nothing is divided by 0, and each signal is set before it is read."""
+"""Random controllers in many styles of Verilog and SystemVerilog, with the ports of a self-test, for comparisons of
+what reads them: no index lies beyond its word, nothing is divided by 0, and each signal is set before it is read."""
 from __future__ import annotations
 
 import dataclasses
@@ -10,7 +10,32 @@ BITS, ADDRESS = 8, 4
 MEMORY = f"memory 1\nname random\nwords {1 << ADDRESS}\nbits {BITS}\n"
 OUTPUTS = {"en": 1, "we": 1, "addr": ADDRESS, "wdata": BITS, "done": 1, "fail": 1}
 WIDTHS = [1, 2, 3, 4, 5, 8, 9, 13, 16]
-BINARY = ["+", "-", "&", "|", "^", "+", "-", "&", "|", "^", "~^", "<<", ">>", ">>>", "==", "!=", "<", "<=", ">", ">=", "&&", "||", "===", "!=="]
+BINARY = [
+    "+",
+    "-",
+    "&",
+    "|",
+    "^",
+    "+",
+    "-",
+    "&",
+    "|",
+    "^",
+    "~^",
+    "<<",
+    ">>",
+    ">>>",
+    "==",
+    "!=",
+    "<",
+    "<=",
+    ">",
+    ">=",
+    "&&",
+    "||",
+    "===",
+    "!==",
+]
 UNARY = ["~", "!", "-", "&", "|", "^", "~&", "~|", "~^"]
 
 
@@ -23,7 +48,10 @@ class Name:
     is_signed: bool = False
 
     def declared(self, kind: str) -> str:
-        return f"{kind}{' signed' if self.is_signed else ''}{f' [{self.width - 1}:0]' if self.width > 1 else ''} {self.name}"
+        return (
+            f"{kind}{' signed' if self.is_signed else ''}"
+            f"{f' [{self.width - 1}:0]' if self.width > 1 else ''} {self.name}"
+        )
 
 
 class Writer:
@@ -60,7 +88,11 @@ class Writer:
     def of(self, depth: int) -> str:
         kind = self.chance.randrange(12) if depth else 0
         if kind < 3:
-            return self.part(self.chance.choice(self.names)) if self.chance.random() < 0.8 else self.literal(self.chance.choice(WIDTHS))
+            return (
+                self.part(self.chance.choice(self.names))
+                if self.chance.random() < 0.8
+                else self.literal(self.chance.choice(WIDTHS))
+            )
         one, other = self.of(depth - 1), self.of(depth - 1)
         if kind < 7:
             return self.both(one, other)
@@ -69,7 +101,9 @@ class Writer:
         if kind == 8:
             return f"(({self.of(depth - 1)}) ? {one} : {other})"
         if kind == 9:
-            return f"{{{self.part(self.chance.choice(self.names))}, {{2{{{self.part(self.chance.choice(self.names))}}}}}}}"
+            return (
+                f"{{{self.part(self.chance.choice(self.names))}, {{2{{{self.part(self.chance.choice(self.names))}}}}}}}"
+            )
         if kind == 10 and self.functions:
             return f"{self.chance.choice(self.functions)}({one}, {other})"
         return f"{self.chance.choice(['$signed', '$unsigned'])}({one})"
@@ -99,7 +133,10 @@ class Writer:
         wide = [target for target in targets if target.width > 1]
         if kind == 5 and wide:
             target = self.chance.choice(wide)
-            return f"for (k = 0; k < {target.width}; k = k + 1) {target.name}[k] {mark} {target.name}[{target.width - 1} - k] ^ ({self.of(1)});"
+            return (
+                f"for (k = 0; k < {target.width}; k = k + 1) {target.name}[k] {mark} {target.name}[{target.width - 1} -"
+                f" k] ^ ({self.of(1)});"
+            )
         return body
 
     def assignment(self, targets: list[Name], mark: str) -> str:
@@ -115,7 +152,9 @@ class Writer:
         for _ in range(self.chance.randrange(1, 4)):
             bits = "".join(self.chance.choice("01?" if kind == "casez" else "01") for _ in range(word.width))
             rows.append(f"{word.width}'b{bits}: begin {self.statement(targets, mark, depth - 1)} end")
-        default = f" default: begin {self.statement(targets, mark, depth - 1)} end" if self.chance.random() < 0.7 else ""
+        default = (
+            f" default: begin {self.statement(targets, mark, depth - 1)} end" if self.chance.random() < 0.7 else ""
+        )
         return f"{kind} ({word.name}) {' '.join(rows)}{default} endcase"
 
 
@@ -128,9 +167,15 @@ def function_of(chance: random.Random, name: str) -> str:
 
 def random_source(chance: random.Random) -> str:
     """A controller, of which each port hangs on registers and on what comes in."""
-    registers = [Name(f"r{count}", chance.choice(WIDTHS), chance.random() < 0.25) for count in range(chance.randrange(3, 8))]
-    temps = [Name(f"t{count}", chance.choice(WIDTHS), chance.random() < 0.25) for count in range(chance.randrange(1, 4))]
-    wires = [Name(f"w{count}", chance.choice(WIDTHS), chance.random() < 0.25) for count in range(chance.randrange(1, 5))]
+    registers = [
+        Name(f"r{count}", chance.choice(WIDTHS), chance.random() < 0.25) for count in range(chance.randrange(3, 8))
+    ]
+    temps = [
+        Name(f"t{count}", chance.choice(WIDTHS), chance.random() < 0.25) for count in range(chance.randrange(1, 4))
+    ]
+    wires = [
+        Name(f"w{count}", chance.choice(WIDTHS), chance.random() < 0.25) for count in range(chance.randrange(1, 5))
+    ]
     functions = [f"f{count}" for count in range(chance.randrange(0, 3))]
     logic = chance.choice(["reg", "reg", "logic"])
     names = [*registers, Name("rdata", BITS), Name("P", 6)]
@@ -142,14 +187,24 @@ def random_source(chance: random.Random) -> str:
     writer = Writer(chance, list(names), functions)
     first = " ".join(f"{temp.name} = {writer.of(2)};" for temp in temps)
     blocks = " ".join(Writer(chance, [*names, *temps], functions).statement(temps, "=", 2) for _ in range(2))
-    items.append(f"  {chance.choice(['always @*', 'always_comb' if logic == 'logic' else 'always @(*)'])} begin : b\n    integer k;\n    {first} {blocks}\n  end\n")
+    items.append(
+        f"  {chance.choice(['always @*', 'always_comb' if logic == 'logic' else 'always @(*)'])} begin : b\n    integer"
+        f" k;\n    {first} {blocks}\n  end\n"
+    )
     items.append(clocked(chance, registers, [*names, *temps], functions))
     last = Writer(chance, [*names, *temps], functions)
     items += [f"  assign {port} = {last.of(2)};\n" for port in OUTPUTS]
     declared = [name.declared(logic) for name in [*registers, *temps]] + [name.declared("wire") for name in wires]
-    ports = ["input clk", "input reset", f"input [{BITS - 1}:0] rdata"] + [Name(port, width).declared("output") for port, width in OUTPUTS.items()]
+    ports = ["input clk", "input reset", f"input [{BITS - 1}:0] rdata"] + [
+        Name(port, width).declared("output") for port, width in OUTPUTS.items()
+    ]
     parameter = f"  parameter [5:0] P = {chance.getrandbits(6)};\n"
-    return f"module random_source({', '.join(ports)});\n{parameter}" + "".join(f"  {one};\n" for one in declared) + "".join(items) + "endmodule\n"
+    return (
+        f"module random_source({', '.join(ports)});\n{parameter}"
+        + "".join(f"  {one};\n" for one in declared)
+        + "".join(items)
+        + "endmodule\n"
+    )
 
 
 def clocked(chance: random.Random, registers: list[Name], names: list[Name], functions: list[str]) -> str:
@@ -158,21 +213,33 @@ def clocked(chance: random.Random, registers: list[Name], names: list[Name], fun
     writer = Writer(chance, names, functions)
     body = " ".join(writer.statement(registers, "<=", 3) for _ in range(4))
     # what nothing else sets would be an x for ever, of which a simulator makes a choice
-    start += "".join(f" {one.name} <= 0;" for one in registers if not re.search(rf"\b{one.name}(\[[^\]]*\])? <= ", f"{start} {body}"))
+    start += "".join(
+        f" {one.name} <= 0;" for one in registers if not re.search(rf"\b{one.name}(\[[^\]]*\])? <= ", f"{start} {body}")
+    )
     edge = chance.choice(["posedge clk", "posedge clk", "posedge clk or posedge reset"])
     if "or" in edge:
         # each register is set by such a reset, or has a block of its own
         start = " ".join(f"{one.name} <= {chance.getrandbits(one.width)};" for one in registers)
-    return f"  always @({edge}) begin : c\n    integer k;\n    if (reset) begin {start} end else begin {body} end\n  end\n"
+    return (
+        f"  always @({edge}) begin : c\n    integer k;\n    if (reset) begin {start} end else begin {body} end\n  end\n"
+    )
 
 
 def damaged(text: str, chance: random.Random) -> str:
     """A source with one operator, number or name behind its declarations changed."""
     begin = text.index("assign")
-    places = list(re.finditer(r"(?<=[ (])(?:[-+*&|^]|==|!=|<|>|&&|\|\|)(?= )|\d+'s?[bdh][0-9a-f?]+|\b[rtw]\d\b", text[begin:]))
+    places = list(
+        re.finditer(r"(?<=[ (])(?:[-+*&|^]|==|!=|<|>|&&|\|\|)(?= )|\d+'s?[bdh][0-9a-f?]+|\b[rtw]\d\b", text[begin:])
+    )
     for _ in range(60):
         match = chance.choice(places)
-        other = chance.choice([one[0] for one in places if (one[0][0] in "rtw") == (match[0][0] in "rtw") and one[0][0].isdigit() == match[0][0].isdigit()])
+        other = chance.choice(
+            [
+                one[0]
+                for one in places
+                if (one[0][0] in "rtw") == (match[0][0] in "rtw") and one[0][0].isdigit() == match[0][0].isdigit()
+            ]
+        )
         if other != match[0]:
             return f"{text[: begin + match.start()]}{other}{text[begin + match.end() :]}"
     return text

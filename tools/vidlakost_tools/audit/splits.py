@@ -1,10 +1,12 @@
-"""The port `fail` where three values lose that open values hang together: the states that a controller may be in, as a set.
+"""The port `fail` where three values lose that open values hang together: the states that a controller may be in, as a
+set.
 
-A state has three values in each register, and is run with right answers, with each wrong bit of an answer as the lowest that
-is wrong, and behind that with open words. What `fail` hangs on is split: where it is open, it is 1 in one case and 0 in the
-other. Cases that come to one state go on as one. Inputs and registers at the start may have any number, so what is found of
-their cases is so. Where all that `rdata` does to `fail` goes through a few gates, these are split in its stead: then each
-history is in one of the cases, and a case need not be a history, so that a `fail` that is wrong in one is no finding."""
+A state has three values in each register, and is run with right answers, with each wrong bit of an answer as the lowest
+that is wrong, and behind that with open words. What `fail` hangs on is split: where it is open, it is 1 in one case and
+0 in the other. Cases that come to one state go on as one. Inputs and registers at the start may have any number, so
+what is found of their cases is so. Where all that `rdata` does to `fail` goes through a few gates, these are split in
+its stead: then each history is in one of the cases, and a case need not be a history, so that a `fail` that is wrong in
+one is no finding."""
 from __future__ import annotations
 
 import dataclasses
@@ -37,8 +39,8 @@ def text_of(lanes: int, count: int) -> str:
 
 @dataclasses.dataclass
 class Cases:
-    """Cases of a cycle side by side: of each how many cycles ago an answer was wrong, from which state it comes, and of each
-    column the cases in which it is 1 and those in which it is 0."""
+    """Cases of a cycle side by side: of each how many cycles ago an answer was wrong, from which state it comes, and of
+    each column the cases in which it is 1 and those in which it is 0."""
 
     ages: list[int]
     origins: list[int]
@@ -54,7 +56,9 @@ class Cases:
         chosen = text_of(mask, self.count).encode().translate(ZERO_ONE)
         upward = chosen[::-1]
         columns = [(self.some(one, chosen), self.some(zero, chosen)) for one, zero in self.columns]
-        return Cases(list(itertools.compress(self.ages, upward)), list(itertools.compress(self.origins, upward)), columns)
+        return Cases(
+            list(itertools.compress(self.ages, upward)), list(itertools.compress(self.origins, upward)), columns
+        )
 
     def some(self, lanes: int, chosen: bytes) -> int:
         return int("".join(itertools.compress(text_of(lanes, self.count), chosen)) or "0", 2)
@@ -119,7 +123,11 @@ class Splitter:
 
     def parts(self, cases: Cases) -> tuple[list[Pair], list[Pair], list[Pair]]:
         registers, words, _ = self.sizes
-        return cases.columns[:registers], cases.columns[registers : registers + words], cases.columns[registers + words :]
+        return (
+            cases.columns[:registers],
+            cases.columns[registers : registers + words],
+            cases.columns[registers + words :],
+        )
 
     def stepped(self, cases: Cases, cycle: int) -> Any:
         state, words, forces = self.parts(cases)
@@ -209,7 +217,8 @@ class Splitter:
         return full & ((fail[0] ^ want) | (fail[1] ^ full & ~want))
 
     def way_to(self, cycle: int, cases: Cases, place: int) -> list[Step]:
-        """The way to a case from the start: of each cycle a case that comes to the state from which the next one comes."""
+        """The way to a case from the start: of each cycle a case that comes to the state from which the next one
+        comes."""
         way = []
         while True:
             way.append(self.step_of(cases, place))
@@ -253,8 +262,8 @@ def more_split(machine: Machine, found: set[Any], split: Sequence[Any]) -> list[
 
 @dataclasses.dataclass
 class Split:
-    """What splitting found of `fail`; how many bits were split, and how many states there were at once at most; the way of a
-    history in which it is wrong."""
+    """What splitting found of `fail`; how many bits were split, and how many states there were at once at most; the way
+    of a history in which it is wrong."""
 
     found: Found
     bits: int
@@ -284,8 +293,8 @@ def look_at(machine: Machine, plan: Plan, plain: Plain, clock: Clock) -> Split |
 
 
 def history_of(splitter: Splitter, run: Run) -> list[Step] | None:
-    """A history that goes the way, whose words make the gates that are split what they are there; None where it is not found, or
-    `fail` is not wrong at its end."""
+    """A history that goes the way, whose words make the gates that are split what they are there; None where it is not
+    found, or `fail` is not wrong at its end."""
     machine, plan = splitter.machine, splitter.plan
     inputs = {*machine.registers, *machine.words}
     free = [bit for bit in splitter.split if bit in inputs]
@@ -329,5 +338,7 @@ def found_at(plan: Plan, run: Run) -> Found:
     found = Found("differs", run.cycle, wanted, str(1 - wanted), wrong)
     if wrong is not None:
         word = plan.answers[wrong]
-        found.bit = next(bit for bit, (one, zero) in enumerate(run.way[wrong].words) if (zero if word >> bit & 1 else one))
+        found.bit = next(
+            bit for bit, (one, zero) in enumerate(run.way[wrong].words) if (zero if word >> bit & 1 else one)
+        )
     return found

@@ -1,4 +1,5 @@
-"""A run with open registers and words as a waveform, x being open, beside the ports that are due; and GTKWave's save file."""
+"""A run with open registers and words as a waveform, x being open, beside the ports that are due; and GTKWave's save
+file."""
 from __future__ import annotations
 
 import os
@@ -66,7 +67,12 @@ def runs_of(plain: Plain, commands: list[Any], memory: Memory, last: int) -> Ite
             words[name], place = shown(told[place : place + width]), place + width
         command = commands[cycle] if cycle < len(commands) else None
         due = due_in(command, cycle, len(commands) - 1, memory)
-        yield cycle, {"clk": "", "reset": str(int(cycle == 0)), **words, **{f"due.{port}": word for port, word in due.items()}}
+        yield cycle, {
+            "clk": "",
+            "reset": str(int(cycle == 0)),
+            **words,
+            **{f"due.{port}": word for port, word in due.items()},
+        }
 
 
 def save_of(file: str) -> pathlib.Path:
@@ -75,7 +81,8 @@ def save_of(file: str) -> pathlib.Path:
 
 
 def write_save(path: pathlib.Path, text: str) -> bool:
-    """Writes a save file, unless another stands there: GTKWave saves the signals that somebody chose under that name."""
+    """Writes a save file, unless another stands there: GTKWave saves the signals that somebody chose under that
+    name."""
     is_free = not os.path.lexists(path) or not path.is_symlink() and is_own(path)
     if is_free:
         write_whole(path, summed(text))
@@ -116,7 +123,12 @@ def header(words: dict[str, str], codes: dict[str, str]) -> list[str]:
 
 
 def save_file(file: str, codes: dict[str, str], words: dict[str, str], cycle: int) -> str:
-    lines = ["[*] made by vidlakost audit", f'[dumpfile] "{pathlib.Path(file).resolve()}"', f"*4.0 {cycle * CYCLE}", "@28"]
+    lines = [
+        "[*] made by vidlakost audit",
+        f'[dumpfile] "{pathlib.Path(file).resolve()}"',
+        f"*4.0 {cycle * CYCLE}",
+        "@28",
+    ]
     pairs = [name for port in PORTS for name in (f"ports.{port}", f"due.{port}") if name in codes]
     for name in ["clk", "reset", *pairs, *(name for name in codes if name.startswith("registers."))]:
         width = len(words[name])

@@ -26,7 +26,8 @@ class Values:
 
 
 def values_of(machine: Machine, words: dict[int, list[tuple[int, int]]], last: int) -> dict[int, Values]:
-    """Of the cycles up to the last, or as many of them as are kept, each bit; `words` are the answers that are not open."""
+    """Of the cycles up to the last, or as many of them as are kept, each bit; `words` are the answers that are not
+    open."""
     bits = [*machine.order, *machine.registers, *machine.inputs]
     step = machine.compiled(bits)
     state = [(0, 0)] * len(machine.registers)

@@ -7,7 +7,7 @@ import pathlib
 import re
 from typing import Iterator
 
-from vidlakost_tools.access.block import Port, Target, Unit, links
+from vidlakost_tools.access.target import Port, Target, Unit, links
 from vidlakost_tools.chip import text as system_text
 from vidlakost_tools.chip.steps import cycles
 from vidlakost_tools.chip.system import System
@@ -69,19 +69,28 @@ class SystemTarget(Target):
 
     def read_each(self, kind: str, read: str) -> str:
         """Behind the run the first failure of each memory, one behind the other, as their bits of ignore are 0."""
-        return EACH.substitute(count=self.count, read=read, ignore=self.ignoring(kind), name=self.name) if self.each else ""
+        return (
+            EACH.substitute(count=self.count, read=read, ignore=self.ignoring(kind), name=self.name)
+            if self.each
+            else ""
+        )
 
     def ignoring(self, kind: str) -> str:
         """The statements by which all memories but those of `ignored` are told."""
         if kind == "apb":
             places = [(0x24 if low == 0 else 0x200 + 4 * (low // 32 - 1), low) for low in range(0, self.count, 32)]
             widths = [min(32, self.count - low) for _, low in places]
-            return "\n".join(f"        put(12'h{at:03x}, ignored[{low + width - 1}:{low}]);" for (at, low), width in zip(places, widths))
+            return "\n".join(
+                f"        put(12'h{at:03x}, ignored[{low + width - 1}:{low}]);"
+                for (at, low), width in zip(places, widths)
+            )
         return "" if kind == "access" else "        shift_ignored;"
 
     def ages(self, kind: str) -> str:
         """In which cycle each bit of fail rose."""
-        return AGES.substitute(count=self.count, inside="dut" if kind == "access" else "dut.tested") if self.each else ""
+        return (
+            AGES.substitute(count=self.count, inside="dut" if kind == "access" else "dut.tested") if self.each else ""
+        )
 
     @property
     def has_scan(self) -> bool:
@@ -177,7 +186,9 @@ class SystemTarget(Target):
                 at = f"{chosen} ? {width}'d4 << {3 * number} :\n    {at}"
                 bit = f"{chosen} ? 7'd{first} + {{1'b0, at_bit}} :\n    {bit}"
                 first += part.memory.bits
-        return f"  assign planted_at = !planted & !is_each ? {width}'d0 :\n    {at};\n  assign planted_bit =\n    {bit};\n"
+        return (
+            f"  assign planted_at = !planted & !is_each ? {width}'d0 :\n    {at};\n  assign planted_bit =\n    {bit};\n"
+        )
 
     def beside_nets(self) -> str:
         each = f"  reg [{self.count - 1}:0] ignored = {self.count}'d0;\n  reg is_each = 1'b0;\n  integer asked_one;\n"
@@ -208,7 +219,9 @@ def joined(names: list[str]) -> str:
 def of_system(system: System) -> SystemTarget:
     """The target of a whole chip, whose chips are placed."""
     if system.name in RESERVED:
-        raise ToolError(f"'{system.name}' is a word of SystemVerilog, so it names no module: give the chip another name")
+        raise ToolError(
+            f"'{system.name}' is a word of SystemVerilog, so it names no module: give the chip another name"
+        )
     memories = [dataclasses.replace(part.memory, name=part.name) for part in system.parts]
     units = [Unit(memory, f"_{number}") for number, memory in enumerate(memories)]
     return SystemTarget(system.name, f"{system.name}_system", units, True, cycles(system), system=system)
@@ -230,7 +243,9 @@ def files_of(folder: pathlib.Path, target: SystemTarget) -> list[str]:
     """The files that `top` wrote to a folder, without its testbench."""
     listed, module = folder / "files.f", folder / f"{target.top}.v"
     if not listed.is_file() or not module.is_file():
-        raise ToolError(f"{folder} has no {target.top}.v and files.f: it is the folder that vidlakost top --access wrote")
+        raise ToolError(
+            f"{folder} has no {target.top}.v and files.f: it is the folder that vidlakost top --access wrote"
+        )
     if " given_0" not in read_text(str(module), LARGE_BYTES):
         raise ToolError(f"{module} tells no tester what its memories answer: write it by vidlakost top --access")
     names = [line for line in lines_of(read_described(str(listed))) if line and not line.startswith("//")]

@@ -92,14 +92,17 @@ class Flow:
 
     def folder_of(self, memory: str) -> str:
         """The folder of a memory: a wide word's high part stands with its low one."""
-        return next(placed.word.name for placed in self.collars() if memory in [one.name for one in placed.word.memories])
+        return next(
+            placed.word.name for placed in self.collars() if memory in [one.name for one in placed.word.memories]
+        )
 
     def vendor_of(self, placed: Placed) -> str | None:
         """The file of --model that has a macro."""
         return next((file for file, modules in self.vendors.items() if placed.macro.name in modules), None)
 
     def beside(self, path: str) -> str:
-        """A file of --model, whose whole name was looked at, as a recipe names it from the folder that the tool runs in."""
+        """A file of --model, whose whole name was looked at, as a recipe names it from the folder that the tool runs
+        in."""
         return plain(os.path.relpath(path, os.path.realpath(".")))
 
     def controllers(self, memories: list[Memory]) -> list[str]:
@@ -109,7 +112,11 @@ class Flow:
         made = []
         for part in self.bases():
             name, march, memory = part.memory.name, plain(part.unit.march), plain(part.unit.memory_file)
-            files = [*map(self.given, (march, memory, self.list_file)), f"{name}.report", *self.controllers([part.memory])]
+            files = [
+                *map(self.given, (march, memory, self.list_file)),
+                f"{name}.report",
+                *self.controllers([part.memory]),
+            ]
             values = {"march": march, "memory": memory, "list": plain(self.list_file), "files": " ".join(files)}
             made.append(COMPILE.substitute(name=name, folder=self.folder_of(name), **values))
         return made
@@ -122,7 +129,12 @@ class Flow:
             model = self.given(self.beside(vendor)) if vendor else f"{name}/{placed.macro.name}.v"
             own = [f"{name}/{file}" for file in (f"{name}_collar.v", f"{name}_collar_tb.sv", "files.f")]
             own += self.cell_of(placed, f"{name}/")
-            files = [*map(self.given, [*memories, placed.macro.path]), *own, model, *self.controllers(placed.word.memories)]
+            files = [
+                *map(self.given, [*memories, placed.macro.path]),
+                *own,
+                model,
+                *self.controllers(placed.word.memories),
+            ]
             values = {
                 "mux": self.mux(),
                 "memories": " ".join(memories),
@@ -146,10 +158,20 @@ class Flow:
     def gated(self, placed: Placed, files: list[str]) -> str:
         """The gates of a collar in its testbench."""
         vendor = self.vendor_of(placed)
-        model = os.path.relpath(vendor, os.path.realpath(self.folder / placed.word.name)) if vendor else f"{placed.macro.name}.v"
+        model = (
+            os.path.relpath(vendor, os.path.realpath(self.folder / placed.word.name))
+            if vendor
+            else f"{placed.macro.name}.v"
+        )
         modules = " ".join(f"{memory.name}_bist.v" for memory in placed.word.memories)
         model = " ".join([model, *self.cell_of(placed, "")])
-        values = {"files": " ".join(files), "modules": modules, "model": model, "whole": self.system.name, "define": GATES_DEFINE}
+        values = {
+            "files": " ".join(files),
+            "modules": modules,
+            "model": model,
+            "whole": self.system.name,
+            "define": GATES_DEFINE,
+        }
         return GATES.substitute(name=placed.word.name, **values)
 
     def inputs(self) -> list[str]:
@@ -161,10 +183,23 @@ class Flow:
         """The top, its test, and what other tools say of it."""
         system, vendors = self.system, [self.given(self.beside(file)) for file in self.vendors]
         known = {name for modules in self.vendors.values() for name in modules}
-        own = [f"{name}.v" for name in dict.fromkeys(placed.macro.name for placed in system.collars) if name not in known]
+        own = [
+            f"{name}.v" for name in dict.fromkeys(placed.macro.name for placed in system.collars) if name not in known
+        ]
         names = [system.name_of(number) for number in range(len(system.chips))]
-        modules = [f"{system.name}_system.v", *(f"{placed.word.name}_collar.v" for placed in self.collars()), *(f"{name}.v" for name in names)]
-        written = [*modules, f"{system.name}_boxes.v", *own, f"{system.name}_system_tb.sv", "files.f", *(f"{name}.chip" for name in names if system.is_list)]
+        modules = [
+            f"{system.name}_system.v",
+            *(f"{placed.word.name}_collar.v" for placed in self.collars()),
+            *(f"{name}.v" for name in names),
+        ]
+        written = [
+            *modules,
+            f"{system.name}_boxes.v",
+            *own,
+            f"{system.name}_system_tb.sv",
+            "files.f",
+            *(f"{name}.chip" for name in names if system.is_list),
+        ]
         return (TOP + ACCESS).format(
             name=system.name,
             words=" ".join([self.chip_file, *self.pins]),
@@ -176,8 +211,8 @@ class Flow:
         )
 
     def known(self) -> str:
-        """The pins of macros of which OpenSTA tells and has to: no path goes to one that is tied, and two clocks to one that the
-        test chooses."""
+        """The pins of macros of which OpenSTA tells and has to: no path goes to one that is tied, and two clocks to one
+        that the test chooses."""
         made, found = system_text.Text(self.system), []
         made.text()
         for number, placed in enumerate(self.system.collars):
@@ -214,7 +249,10 @@ class Flow:
         reports = " ".join(f"{part.memory.name}.report" for part in self.bases())
         testers = "".join(f" {page}" for page, _ in self.chips())
         gates = " ".join(f"{placed.word.name}/gates" for placed in self.collars())
-        steps = f"{reports} reports.html{testers} {passed} {gates} chip/made chip/passed chip/lint.txt chip/synthesis.txt chip/access chip/sta.txt"
+        steps = (
+            f"{reports} reports.html{testers} {passed} {gates} chip/made chip/passed chip/lint.txt chip/synthesis.txt"
+            " chip/access chip/sta.txt"
+        )
         head = HEAD.substitute(
             mark=MARK,
             name=self.system.name,

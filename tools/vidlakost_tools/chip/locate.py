@@ -18,7 +18,9 @@ def turn_at(system: System, cycle: int) -> Turn:
     found = [turn for turn in turns_of(system) if turn.first < cycle <= turn.first + turn.length]
     if not found:
         last = turns_of(system)[-1]
-        raise ToolError(f"cycle {cycle} is in no step of the test, which has the cycles 1 to {last.first + last.length}")
+        raise ToolError(
+            f"cycle {cycle} is in no step of the test, which has the cycles 1 to {last.first + last.length}"
+        )
     return found[0]
 
 

@@ -2,7 +2,9 @@
 from __future__ import annotations
 
 from vidlakost_tools.access.bench import most
-from vidlakost_tools.access.block import Port, Target, Unit, header, model, model_links
+from vidlakost_tools.access.block import model
+from vidlakost_tools.access.target import model_links
+from vidlakost_tools.access.target import Port, Target, Unit, header
 from vidlakost_tools.texts.memory import Memory
 from vidlakost_tools.verilog.bench_end import FINISH, over, planted
 from vidlakost_tools.verilog.syntax import ranged

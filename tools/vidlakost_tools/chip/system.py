@@ -1,5 +1,5 @@
-"""The memories of a whole chip: those of a chip file, or of a list above chip files, whose lines may stand for many equal
-memories; the chip files that test them, and the collars that they stand in."""
+"""The memories of a whole chip: those of a chip file, or of a list above chip files, whose lines may stand for many
+equal memories; the chip files that test them, and the collars that they stand in."""
 from __future__ import annotations
 
 import collections
@@ -9,7 +9,7 @@ import random
 import re
 from typing import Iterable
 
-from vidlakost_tools.access.block import is_chip_file
+from vidlakost_tools.access.target import is_chip_file
 from vidlakost_tools.collar.pin_lines import RESERVED, is_name, read_macro
 from vidlakost_tools.collar.pins import Macro, Word
 from vidlakost_tools.text import lines_of, read_described, shown, statements, words_in
@@ -26,8 +26,8 @@ HEADS = {"list": "list 1", "name": "name NAME", "budget": "budget N"}
 
 @dataclasses.dataclass
 class Part:
-    """A memory of the whole: its name, the description that it is an instance of, its number among equal ones, and its unit;
-    then the number of its chip file, and its place there."""
+    """A memory of the whole: its name, the description that it is an instance of, its number among equal ones, and its
+    unit; then the number of its chip file, and its place there."""
 
     name: str
     memory: Memory
@@ -106,7 +106,9 @@ def read_list(path: str) -> System:
         unit, count = unit_of(path, line, words[1:])
         base = unit.memory.name
         if bases.setdefault(base, line) != line:
-            raise ToolError(f"{path}:{line}: the memory {base} stands in line {bases[base]} too: make it more instances there")
+            raise ToolError(
+                f"{path}:{line}: the memory {base} stands in line {bases[base]} too: make it more instances there"
+            )
         for number in range(count or 1):
             name = base if count is None else f"{base}_{number}"
             parts.append(Part(name, unit.memory, None if count is None else number, dataclasses.replace(unit)))
@@ -188,7 +190,9 @@ def give_collars(system: System, files: list[str]) -> None:
         system.collars += [Placed(macro, word, list(parts)) for parts in zip(*of_each)]
     missing = [name for name in bases if name not in taken]
     if missing:
-        raise ToolError(f"no file of pins is of {', '.join(missing)}: each is named as its memory, as {missing[0]}.pins")
+        raise ToolError(
+            f"no file of pins is of {', '.join(missing)}: each is named as its memory, as {missing[0]}.pins"
+        )
     order = {part.name: number for number, part in enumerate(system.parts)}
     system.collars.sort(key=lambda placed: order[placed.name])
     for placed in system.collars:
@@ -231,7 +235,8 @@ def together(system: System, units: list[Placed]) -> list[Part] | None:
 
 
 def place_chip(system: System, path: str) -> None:
-    """Refuses a chip file in which the parts of a word are apart, with an order in which they are not, if there is one."""
+    """Refuses a chip file in which the parts of a word are apart, with an order in which they are not, if there is
+    one."""
     given = system.of_chip(0)
     if are_together(system, given):
         return
@@ -241,13 +246,15 @@ def place_chip(system: System, path: str) -> None:
     if found is None and sum(part.unit.weight for part in pair) > system.budget:
         raise ToolError(f"{path}: {apart}: the budget has no room for both")
     if found is None:
-        raise ToolError(f"{path}: {apart}, in each order that was tried: let some units stand in another chip file, or take a list")
+        raise ToolError(
+            f"{path}: {apart}, in each order that was tried: let some units stand in another chip file, or take a list"
+        )
     raise ToolError(f"{path}: {apart}: write the units in the order {', '.join(part.name for part in found)}")
 
 
 def groups_of(system: System, collars: list[Placed], most: int = OF_CHIP) -> list[list[Placed]]:
-    """These collars in groups of so many memories at most that the budget has room for: the long tests first, each in the first
-    group that has room."""
+    """These collars in groups of so many memories at most that the budget has room for: the long tests first, each in
+    the first group that has room."""
     found: list[list[Placed]] = []
 
     def length(placed: Placed) -> int:
@@ -267,8 +274,8 @@ def groups_of(system: System, collars: list[Placed], most: int = OF_CHIP) -> lis
 
 
 def place_list(system: System) -> list[list[Part]]:
-    """The memories in chips of at most sixteen, the parts of a word in one group: a chip ends where the next group has no room in
-    it. Those with a second port have chips of their own, since these run twice."""
+    """The memories in chips of at most sixteen, the parts of a word in one group: a chip ends where the next group has
+    no room in it. Those with a second port have chips of their own, since these run twice."""
     chips: list[list[Part]] = []
     for second in (False, True):
         batch: list[Placed] = []
@@ -279,7 +286,10 @@ def place_list(system: System) -> list[list[Part]]:
                 tried, order = group, together(system, group)
                 chips.append([])
             if order is None:
-                raise ToolError(f"{' and '.join(part.name for one in group for part in one.parts)} weigh more than the budget together")
+                raise ToolError(
+                    f"{' and '.join(part.name for one in group for part in one.parts)} weigh more than the budget"
+                    " together"
+                )
             batch, chips[-1:] = tried, [order]
     for number, parts in enumerate(chips):
         for at, part in enumerate(parts):

@@ -2,7 +2,7 @@
 from __future__ import annotations
 
 from vidlakost_tools.access import apb, tap
-from vidlakost_tools.access.block import Port, Target
+from vidlakost_tools.access.target import Port, Target
 
 KINDS = {"access": "access", "apb": "apb", "jtag": "tap"}
 

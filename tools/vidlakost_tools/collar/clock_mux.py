@@ -4,7 +4,7 @@ from __future__ import annotations
 
 import dataclasses
 
-from vidlakost_tools.access.block import BUILT_IN
+from vidlakost_tools.access.target import BUILT_IN
 from vidlakost_tools.collar.pin_lines import RESERVED, is_name
 from vidlakost_tools.collar.pins import Macro
 from vidlakost_tools.text import shown

@@ -1,5 +1,5 @@
-"""A self-test whose clock stands still in each pause of its march until it is resumed: the module, the table of the cycles in
-which it is held, and a testbench."""
+"""A self-test whose clock stands still in each pause of its march until it is resumed: the module, the table of the
+cycles in which it is held, and a testbench."""
 from __future__ import annotations
 
 import dataclasses
@@ -46,7 +46,9 @@ def table(elements: list[Element], memory: Memory, holds: list[Hold]) -> str:
     ]
     for number, hold in enumerate(holds):
         word = memory.digits(memory.backgrounds[hold.background])
-        lines.append(f"| {number} | {hold.background}, {word} | {hold.element} | {hold.first} to {hold.last} | {hold.last} |")
+        lines.append(
+            f"| {number} | {hold.background}, {word} | {hold.element} | {hold.first} to {hold.last} | {hold.last} |"
+        )
     return "\n".join([*lines, ""])
 
 
@@ -141,7 +143,9 @@ endmodule
 
 def is_read_behind(elements: list[Element]) -> bool:
     """Whether some pause is followed by a read of what it found."""
-    behind = [following for element, following in zip(elements, elements[1:]) if element.is_pause and not following.is_pause]
+    behind = [
+        following for element, following in zip(elements, elements[1:]) if element.is_pause and not following.is_pause
+    ]
     return any(element.operations[0][0] == "r" for element in behind)
 
 

@@ -1,5 +1,5 @@
-"""The short machine behind the march of a collar that tries the lanes of a word: it writes one lane at a time and reads the
-word, in the first word and in the last."""
+"""The short machine behind the march of a collar that tries the lanes of a word: it writes one lane at a time and reads
+the word, in the first word and in the last."""
 from __future__ import annotations
 
 from vidlakost_tools.collar.pins import Macro, Pin, Word

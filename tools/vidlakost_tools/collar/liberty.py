@@ -22,8 +22,8 @@ SAID_ONCE = {"type", "bus", "memory", "memory_read", "memory_write"}
 
 @dataclasses.dataclass
 class Group:
-    """A group: its kind, its words in parentheses, its attributes with the lines on which they stand, its own line, and the groups
-    in it."""
+    """A group: its kind, its words in parentheses, its attributes with the lines on which they stand, its own line, and
+    the groups in it."""
 
     kind: str
     words: list[str]
@@ -129,7 +129,9 @@ class Reader:
         """An attribute; what a group of those that are read says twice is not known."""
         value = self.value()
         if group.said.get(name, value) != value and group.kind in SAID_ONCE:
-            raise ToolError(f"{self.path}:{line}: {name} is {group.said[name]} by line {group.lines[name]}, and {value} here")
+            raise ToolError(
+                f"{self.path}:{line}: {name} is {group.said[name]} by line {group.lines[name]}, and {value} here"
+            )
         group.said[name], group.lines[name] = value, line
 
     def statement(self, group: Group, name: str, depth: int) -> None:
@@ -155,8 +157,8 @@ class Reader:
 
 @dataclasses.dataclass
 class Found:
-    """A pin as a library or a port list has it: its direction, its width (0: not known), whether it is a clock, which address
-    it goes with where it is a word to write or one that was read, and what else is told of it."""
+    """A pin as a library or a port list has it: its direction, its width (0: not known), whether it is a clock, which
+    address it goes with where it is a word to write or one that was read, and what else is told of it."""
 
     name: str
     way: str
@@ -234,13 +236,15 @@ def memory_of(path: str, text: str, cell: str) -> tuple[Group, Group, Group]:
     if not memories:
         raise ToolError(f"{path}: the cell {cell} has no group memory()")
     if len(memories) > 1:
-        raise ToolError(f"{path}:{memories[1].line}: a second group memory(); the first stands on line {memories[0].line}")
+        raise ToolError(
+            f"{path}:{memories[1].line}: a second group memory(); the first stands on line {memories[0].line}"
+        )
     return library, cells[0], memories[0]
 
 
 def refuse_memory(path: str, memory: Group, groups: list[Group], pins: list[Found]) -> None:
-    """Refuses what is no memory that is written, and what contradicts itself: the widths of the memory and of its buses, and
-    addresses that are no pins."""
+    """Refuses what is no memory that is written, and what contradicts itself: the widths of the memory and of its
+    buses, and addresses that are no pins."""
     if memory.said.get("type", "ram") != "ram":
         raise ToolError(f"{path}:{memory.lines['type']}: the memory is a {shown(memory.said['type'])}, and no ram")
     lines = {group.name: group.line for group in groups}
@@ -248,7 +252,9 @@ def refuse_memory(path: str, memory: Group, groups: list[Group], pins: list[Foun
     for pin in pins:
         for address in {pin.writes_at, pin.reads_at} - {""}:
             if address not in widths:
-                raise ToolError(f"{path}:{lines[pin.name]}: the address of {shown(pin.name)} is {shown(address)}, which is no pin")
+                raise ToolError(
+                    f"{path}:{lines[pin.name]}: the address of {shown(pin.name)} is {shown(address)}, which is no pin"
+                )
             refuse_width(path, memory, "address_width", address, widths[address], lines[address])
         if pin.writes_at or pin.reads_at:
             refuse_width(path, memory, "word_width", pin.name, pin.width, lines[pin.name])
@@ -257,7 +263,9 @@ def refuse_memory(path: str, memory: Group, groups: list[Group], pins: list[Foun
 def refuse_width(path: str, memory: Group, what: str, pin: str, width: int, line: int) -> None:
     """Refuses a bus of another width than the memory says. A bit of a bus that stands by itself is none."""
     if width and not re.search(r"\[.*\]", pin) and str(width) != memory.said.get(what, str(width)).lstrip("0"):
-        told = f"{what} is {memory.said[what]}, and {shown(pin)} on line {line} has {width} bit{'s' if width > 1 else ''}"
+        told = (
+            f"{what} is {memory.said[what]}, and {shown(pin)} on line {line} has {width} bit{'s' if width > 1 else ''}"
+        )
         raise ToolError(f"{path}:{memory.lines[what]}: {told}")
 
 

@@ -43,7 +43,11 @@ def place(macro: Macro, names: Names, word: Word, second: bool, kind: str) -> st
     if pin.at == list(range(pin.width)):
         return f"({'~' if pin.is_low else ''}{value})"
     bits = [value if pin.width == 1 else f"{value}[{bit}]" for bit in reversed(pin.at)]
-    return f"({'~' if pin.is_low else ''}{{{', '.join(bits)}}})" if width > 1 else f"({'~' if pin.is_low else ''}{bits[0]})"
+    return (
+        f"({'~' if pin.is_low else ''}{{{', '.join(bits)}}})"
+        if width > 1
+        else f"({'~' if pin.is_low else ''}{bits[0]})"
+    )
 
 
 def awake(macro: Macro, names: Names) -> list[str]:
@@ -140,8 +144,8 @@ def boxes(macros: list[Macro]) -> str:
 
 
 def model(macro: Macro, word: Word) -> str:
-    """A memory behind these pins: it writes and reads at the clock's edge, and a word stands on its port in the one cycle
-    of its latency, so that a wrong latency is seen."""
+    """A memory behind these pins: it writes and reads at the clock's edge, and a word stands on its port in the one
+    cycle of its latency, so that a wrong latency is seen."""
     names = Names({name for pin in macro.pins for name in pin.names()} | {name for name, _ in macro.parameters})
     bits, latency = word.bits, macro.latency(word)
     lines = [f"{HEAD} {macro.name} by the pins that its collar uses: for simulation beside the collar alone."]

@@ -1,7 +1,7 @@
 """The names inside a collar, which give way to those of the pins, and its own ports."""
 from __future__ import annotations
 
-from vidlakost_tools.access.block import Port, of_memory
+from vidlakost_tools.access.target import Port, Target
 from vidlakost_tools.collar import bus as collar_bus, lane_machine as collar_lanes, planted as collar_planted
 from vidlakost_tools.collar.pins import Macro, Word, literal
 from vidlakost_tools.texts.memory import Memory
@@ -52,11 +52,18 @@ def own_ports(macro: Macro, word: Word, kind: str) -> list[Port]:
     scan = [Port("input", "scan_mode")] if macro.bypass else []
     if kind in INSIDE:
         told = [Port("output", name, word.bits) for name in ("given", "taken")] if kind == "told" else []
-        return [Port("input", "clk"), Port("input", "test"), *scan, Port("output", "done"), Port("output", "fail"), *told]
+        return [
+            Port("input", "clk"),
+            Port("input", "test"),
+            *scan,
+            Port("output", "done"),
+            Port("output", "fail"),
+            *told,
+        ]
     if kind != "open":
         if len(word.memories) > 1 or macro.masks or macro.has_second:
             raise macro.refuse(0, "--through is of one memory, without masks and port")
-        return [Port("input", "clk"), *scan, *collar_bus.bus_of(of_memory(word.first, None), kind)]
+        return [Port("input", "clk"), *scan, *collar_bus.bus_of(Target.of_memory(word.first, None), kind)]
     found = [Port("input", "clk"), Port("input", "test"), *scan]
     found += [Port("input", "second")] if macro.has_second else []
     for half, memory in halves(word):
@@ -75,7 +82,9 @@ def refuse_names(macro: Macro, word: Word, own: list[Port]) -> None:
     for way, pin in macro.chip_pins():
         for name in pin.names():
             if name in taken:
-                raise macro.refuse(pin.line, f"'{name}' is a port of the collar itself, so the chip's pin can't have that name")
+                raise macro.refuse(
+                    pin.line, f"'{name}' is a port of the collar itself, so the chip's pin can't have that name"
+                )
             if name == f"{word.name}_collar":
                 raise macro.refuse(pin.line, f"'{name}' is the collar's own name, so the chip's pin can't have it")
             inputs |= {name} if way == "input" else set()

@@ -3,7 +3,7 @@ from __future__ import annotations
 
 import re
 
-from vidlakost_tools.access.block import BUILT_IN
+from vidlakost_tools.access.target import BUILT_IN
 from vidlakost_tools.collar.pins import ADDRESSES, DRIVEN, WIDEST, Macro, Pin, Word, literal
 from vidlakost_tools.refusals.otherwise import RESERVED as SYSTEM_WORDS
 from vidlakost_tools.text import BLANKS, lines_of, read_described, shown, words_in
@@ -70,7 +70,10 @@ class Lines:
         for line, text in enumerate(lines_of(read_described(self.macro.path)), 1):
             words = words_in(text)
             if text.lstrip(BLANKS).startswith("#?"):
-                why = "this stands on the name of a pin alone: take the mark #? away where it is right, or write the right line"
+                why = (
+                    "this stands on the name of a pin alone: take the mark #? away where it is right, or write the"
+                    " right line"
+                )
                 raise self.macro.refuse(line, why)
             if words:
                 self.take(line, words)
@@ -89,7 +92,9 @@ class Lines:
         told = f"{'port ' if second else ''}{kind}"
         if (kind in ONCE or kind == "registers") and self.once(told, rest) in self.seen:
             more = "; of a macro with an address for each way, raddr and waddr" if kind == "addr" else ""
-            raise self.macro.refuse(line, f"'{told}' stands once, and line {self.seen[self.once(told, rest)]} has it{more}")
+            raise self.macro.refuse(
+                line, f"'{told}' stands once, and line {self.seen[self.once(told, rest)]} has it{more}"
+            )
         self.seen[self.once(told, rest)] = line
         if not self.taken(line, kind, rest, second):
             raise self.macro.refuse(line, f"a line is {'port ' if second else ''}{FORMS[kind]}")
@@ -128,7 +133,9 @@ class Lines:
     def refuse_name(self, line: int, name: str) -> None:
         if not is_name(name):
             why = "has letters, digits and _ alone, no digit first, and at most 64 of them"
-            raise self.macro.refuse(line, f"the name of a pin is missing, or is none: a name {why}, and this is {shown(name)}")
+            raise self.macro.refuse(
+                line, f"the name of a pin is missing, or is none: a name {why}, and this is {shown(name)}"
+            )
         if name in RESERVED:
             raise self.macro.refuse(line, f"'{name}' is a reserved word of Verilog or SystemVerilog")
 
@@ -189,7 +196,9 @@ class Lines:
             if pin.name in self.buses:
                 line, pin.bits = self.buses.pop(pin.name)
                 if pin.kind in ("tie", "open", "clock2", "power", "clk", "read", "write"):
-                    raise self.macro.refuse(pin.line, f"{pin.name} is a bus by line {line}: tell each of its pins by itself")
+                    raise self.macro.refuse(
+                        pin.line, f"{pin.name} is a bus by line {line}: tell each of its pins by itself"
+                    )
         for name, (line, _) in self.buses.items():
             raise self.macro.refuse(line, f"no line tells what the bus {name} is")
 
@@ -205,7 +214,9 @@ def read_macro(path: str, word: Word) -> Macro:
     macro = Lines(path).read()
     odd = next((memory.name for memory in word.memories if "$" in memory.name), None)
     if odd:
-        raise macro.refuse(0, f"the memory {odd} has a $ in its name, which lists of files and makefiles read otherwise")
+        raise macro.refuse(
+            0, f"the memory {odd} has a $ in its name, which lists of files and makefiles read otherwise"
+        )
     refuse_missing(macro)
     refuse_halves(macro, word)
     give_widths(macro, word)
@@ -275,7 +286,9 @@ def refuse_halves(macro: Macro, word: Word) -> None:
     low, high = word.memories
     for what in ("words", "latency", "pause", "rows"):
         if getattr(low, what) != getattr(high, what):
-            raise macro.refuse(macro.halves["high"][1], f"{high.name} has other {what} than {low.name}, and both go in step")
+            raise macro.refuse(
+                macro.halves["high"][1], f"{high.name} has other {what} than {low.name}, and both go in step"
+            )
     if len(low.backgrounds) != len(high.backgrounds):
         raise macro.refuse(macro.halves["high"][1], f"{high.name} has another number of backgrounds than {low.name}")
 
@@ -295,7 +308,10 @@ def refuse_shapes(macro: Macro, word: Word) -> None:
     """The latency has room for the registers, and the widths fit."""
     memory, registers = word.first, macro.before + macro.after
     if macro.latency(word) < 1:
-        told = f"{memory.name} has latency {memory.latency}, and the macro and {registers} registers take {registers + 1} at least"
+        told = (
+            f"{memory.name} has latency {memory.latency}, and the macro and {registers} registers take"
+            f" {registers + 1} at least"
+        )
         raise macro.refuse(0, told)
     for pin in macro.pins:
         if pin.kind in ADDRESSES and len(pin.at) != memory.width:

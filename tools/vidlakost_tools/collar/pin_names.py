@@ -1,5 +1,5 @@
-"""Pins of a macro from what a library or a port list tells of them, and from their usual names; what is not recognised stands
-in a comment, and each line that stands on a name alone waits behind a mark until somebody confirms it."""
+"""Pins of a macro from what a library or a port list tells of them, and from their usual names; what is not recognised
+stands in a comment, and each line that stands on a name alone waits behind a mark until somebody confirms it."""
 from __future__ import annotations
 
 import dataclasses
@@ -79,7 +79,9 @@ def line_of(one: Guess, second: bool) -> str:
         width = f" {one.pin.power}" if one.pin.power else ""
     line = f"{'port ' if second else ''}{kind} {low}{one.pin.name}{width}"
     told = ["by its name" + (", active low" if low else "")] if one.by_name else []
-    told += [f"changes at the falling edge of {visible(one.pin.clock)}"] if one.pin.is_falling and kind == "rdata" else []
+    told += (
+        [f"changes at the falling edge of {visible(one.pin.clock)}"] if one.pin.is_falling and kind == "rdata" else []
+    )
     return (UNSURE if one.by_name else "") + line + (f"  # {'; '.join(told)}" if told else "")
 
 
@@ -131,7 +133,10 @@ def named_by_addresses(guesses: list[Guess]) -> None:
         if one.pin.name in clocks:
             one.port = clocks[one.pin.name]
         elif one.pin.name not in addresses and not (one.pin.writes_at or one.pin.reads_at):
-            mine = next((other.port for other in guesses if other.kind == "addr" and parts_of(other.pin.name)[1] == one.port), "")
+            mine = next(
+                (other.port for other in guesses if other.kind == "addr" and parts_of(other.pin.name)[1] == one.port),
+                "",
+            )
             one.port = mine if shared else clocks.get(one.pin.clock, mine)
 
 

@@ -1,5 +1,5 @@
-"""The pins of a memory macro, as a file tells them, a line each: what they are to its self-test and to the chip. The order of
-the lines never decides, and what no line says is refused with its place."""
+"""The pins of a memory macro, as a file tells them, a line each: what they are to its self-test and to the chip. The
+order of the lines never decides, and what no line says is refused with its place."""
 from __future__ import annotations
 
 import dataclasses
@@ -161,7 +161,9 @@ class Macro:
     def chip_pins(self) -> list[tuple[str, Pin]]:
         """The pins that the collar has for the chip too, each with its direction."""
         ways = {"rdata": "output", "out": "output", "tie": "", "open": "", "clk": "", "power": "inout"}
-        told = [("input" if pin.kind == "clk" and pin.is_second else ways.get(pin.kind, "input"), pin) for pin in self.pins]
+        told = [
+            ("input" if pin.kind == "clk" and pin.is_second else ways.get(pin.kind, "input"), pin) for pin in self.pins
+        ]
         return [(way, pin) for way, pin in told if way]
 
 
@@ -169,8 +171,8 @@ class Macro:
 
 
 def literal(text: str, width: int | None = None) -> tuple[int, int] | None:
-    """The width and the number of a literal with its size; None where it is none, or the number does not fit. Of a known
-    width a decimal number is one too."""
+    """The width and the number of a literal with its size; None where it is none, or the number does not fit. Of a
+    known width a decimal number is one too."""
     found = re.fullmatch(r"([1-9][0-9]{0,3})'([bodhBODH])([0-9a-fA-F][0-9a-fA-F_]*)", text)
     if found is None:
         plain = width is not None and re.fullmatch("[0-9]{1,9}", text) is not None
@@ -188,9 +190,11 @@ def literal(text: str, width: int | None = None) -> tuple[int, int] | None:
 
 
 def alike(word: Word) -> str:
-    """Which bits of a word hold the same whatever the background is, so that no read tells one from the other; empty where
-    there are none."""
-    rounds = [sum(memory.backgrounds[at] << low for low, memory in lows(word)) for at in range(len(word.first.backgrounds))]
+    """Which bits of a word hold the same whatever the background is, so that no read tells one from the other; empty
+    where there are none."""
+    rounds = [
+        sum(memory.backgrounds[at] << low for low, memory in lows(word)) for at in range(len(word.first.backgrounds))
+    ]
     groups: dict[tuple[int, ...], list[int]] = {}
     for bit in range(word.bits):
         groups.setdefault(tuple(background >> bit & 1 for background in rounds), []).append(bit)

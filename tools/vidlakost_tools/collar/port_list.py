@@ -1,4 +1,5 @@
-"""The ports of a module of Verilog, with their widths as far as its parameters tell them; for pins of a macro to begin with."""
+"""The ports of a module of Verilog, with their widths as far as its parameters tell them; for pins of a macro to begin
+with."""
 from __future__ import annotations
 
 import re
@@ -11,8 +12,9 @@ from vidlakost_tools.verilog.syntax import COMMENT, LEXEME
 
 KINDS = {"wire", "reg", "logic", "tri", "var", "signed", "supply0", "supply1", "bit"}
 WAYS = ("input", "output", "inout")
-# what the lexer has no token for: attributes, texts in quotes, directives with their word. What is begun and does not end
-# goes to the end of the text, so that no place is looked at twice; (*) is no attribute, but what a process waits for.
+# what the lexer has no token for: attributes, texts in quotes, directives with their word. What is begun and does not
+# end goes to the end of the text, so that no place is looked at twice; (*) is no attribute, but what a process waits
+# for.
 DIRECTIVE = r"`(?:ifdef|ifndef|elsif|define|include|timescale)[^\n]*|`\w+"
 ATTRIBUTE = r"\(\*(?!\s*\)).*?(?:\*\)|\Z)"
 OTHER = re.compile(rf'{COMMENT}|/\*.*|{ATTRIBUTE}|"(?:\\.|[^"\\\n])*"|{DIRECTIVE}', re.DOTALL)
@@ -34,7 +36,9 @@ class Ports:
         if len(starts) > 1:
             raise ToolError(f"{path}: the module {module} stands twice")
         self.here = starts[0] + 2
-        self.end = next((at for at in range(self.here, len(self.words)) if self.words[at] == "endmodule"), len(self.words))
+        self.end = next(
+            (at for at in range(self.here, len(self.words)) if self.words[at] == "endmodule"), len(self.words)
+        )
         self.numbers: dict[str, int] = {}
         self.found: dict[str, Found] = {}
         # the names of ports that no declaration has told yet

@@ -1,5 +1,5 @@
-"""Lists of pins for a collar as a generator of macros could make them, right ones of all kinds of lines, and wrong ones with the
-line that has to be refused."""
+"""Lists of pins for a collar as a generator of macros could make them, right ones of all kinds of lines, and wrong ones
+with the line that has to be refused."""
 from __future__ import annotations
 
 import dataclasses
@@ -80,7 +80,9 @@ class Maker:
 
     def data(self, kind: str) -> None:
         name = self.name()
-        self.lines.append(f"{kind} {self.low() if 'wdata' in kind else ''}{name}" + (f" {self.bits}" if self.maybe() else ""))
+        self.lines.append(
+            f"{kind} {self.low() if 'wdata' in kind else ''}{name}" + (f" {self.bits}" if self.maybe() else "")
+        )
         self.bus(name, self.bits)
 
     def enables(self, before: str) -> None:
@@ -92,7 +94,9 @@ class Maker:
             lanes = f" {self.lanes}" if self.lanes > 1 and self.maybe(0.4) else ""
             self.lines.append(f"{before}we {self.low()}{self.name()}{lanes}")
             if self.maybe(0.8):
-                self.lines.append(f"{before}en {self.low()}{self.name()}" + (f" {self.lanes}" if self.maybe(0.15) else ""))
+                self.lines.append(
+                    f"{before}en {self.low()}{self.name()}" + (f" {self.lanes}" if self.maybe(0.15) else "")
+                )
         if self.maybe():
             self.lines.append(f"{before}mask {self.low()}{self.name()} {self.lanes}")
 
@@ -138,7 +142,8 @@ class Maker:
         for _ in range(5):
             self.further()
         lanes = any(line.startswith("mask") for line in self.lines) or any(
-            line.startswith(("we ", "en ")) and len(line.split()) == 3 and not line.endswith(" 1") for line in self.lines
+            line.startswith(("we ", "en ")) and len(line.split()) == 3 and not line.endswith(" 1")
+            for line in self.lines
         )
         self.lines += ["masks"] if lanes and self.maybe(0.7) else []
         self.lines += ["bypass"] if self.maybe(0.3) else []

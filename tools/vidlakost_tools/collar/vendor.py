@@ -1,5 +1,5 @@
-"""Models of macros that somebody else wrote: their files, which modules are in them, and whether their ports have the widths of
-the pins."""
+"""Models of macros that somebody else wrote: their files, which modules are in them, and whether their ports have the
+widths of the pins."""
 from __future__ import annotations
 
 import pathlib
@@ -23,7 +23,9 @@ def named(path: str) -> str:
         raise ToolError(f"--model: {shown(path)} is no file")
     whole = str(pathlib.Path(path).resolve())
     if not re.fullmatch(r"/[A-Za-z0-9_./+@-]+", whole):
-        raise ToolError(f"--model: a name in a list of files has letters, digits and ./_+@- alone, and not {shown(whole)}")
+        raise ToolError(
+            f"--model: a name in a list of files has letters, digits and ./_+@- alone, and not {shown(whole)}"
+        )
     return whole
 
 
@@ -67,8 +69,8 @@ def undriven(macro: Macro, file: str) -> list[str]:
 
 
 def refuse_other_ports(macro: Macro, file: str) -> None:
-    """Refuses a model in which a pin is a port of another width or another direction. A width that no number tells is looked at by
-    the collar itself, in its testbench."""
+    """Refuses a model in which a pin is a port of another width or another direction. A width that no number tells is
+    looked at by the collar itself, in its testbench."""
     ports = {port.name: port for port in ports_of(macro, file)}
     for pin in macro.pins:
         for name, width in widths_of(pin):

@@ -93,7 +93,9 @@ class Watch:
         looks = []
         for name, port in (("given", "wdata"), ("taken", "rdata")):
             words = [self.source(half, port) for half in reversed(self.halves())]
-            looks += self.compared(f"{name} of the collar", name, words[0] if len(words) == 1 else "{" + ", ".join(words) + "}")
+            looks += self.compared(
+                f"{name} of the collar", name, words[0] if len(words) == 1 else "{" + ", ".join(words) + "}"
+            )
         return looks
 
     def clocks(self) -> list[str]:

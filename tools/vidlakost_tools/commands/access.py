@@ -54,7 +54,7 @@ from vidlakost_tools.access import (
     tap,
     wgl,
 )
-from vidlakost_tools.access.block import Target, is_chip_file, is_list
+from vidlakost_tools.access.target import IDENTITY, Target, is_chip_file, is_list
 from vidlakost_tools.chip import access as system_access, system as soc
 from vidlakost_tools.files import marked, write_own
 from vidlakost_tools.in_place.sequencer import PlaceTarget, of_places
@@ -69,9 +69,9 @@ def target_of(path: str, march: str | None) -> Target:
     if is_chip_file(path):
         if march:
             raise ToolError("--march is of one memory; a chip file has its marches")
-        return access_block.of_chip(read_chip(path))
+        return Target.of_chip(read_chip(path))
     memory = read_memory(path)
-    return access_block.of_memory(memory, memory.cycles(march_of(march)[1]) - 1 if march else None)
+    return Target.of_memory(memory, memory.cycles(march_of(march)[1]) - 1 if march else None)
 
 
 def megahertz(text: str) -> float:
@@ -83,7 +83,7 @@ def megahertz(text: str) -> float:
 
 def identity_of(options: dict[str, Any]) -> int:
     """The identity of the TAP: its lowest bit is 1, and no manufacturer has the number 127 of the first bank."""
-    text = options.get("--idcode", f"{access_block.IDENTITY:08x}")
+    text = options.get("--idcode", f"{IDENTITY:08x}")
     identity = int(text, 16) if re.fullmatch("(0[xX])?[0-9a-fA-F]{8}", text) else 0
     if not identity & 1 or identity >> 1 & 0x7FF == 0x7F:
         why = "whose lowest bit is 1, and whose bits 11 to 1 are not 0x7f"
@@ -178,7 +178,11 @@ def of_whole(path: str, pins: list[str], out: pathlib.Path, options: dict[str, A
     if {"--in-place", "--each"} <= set(options):
         raise ToolError(f"--in-place keeps the first failure of each memory without --each\n{usage_of(__doc__)}")
     if refused or not pins:
-        why = f"{refused[0]} is of a memory or a chip file alone" if refused else "of a list the files of pins are wanted, as for top"
+        why = (
+            f"{refused[0]} is of a memory or a chip file alone"
+            if refused
+            else "of a list the files of pins are wanted, as for top"
+        )
         raise ToolError(f"{why}\n{usage_of(__doc__)}")
     system = soc.read_system(path)
     soc.give_collars(system, pins)
@@ -191,14 +195,29 @@ def of_whole(path: str, pins: list[str], out: pathlib.Path, options: dict[str, A
     for kind in [kind for kind in ("access", "apb", "tap") if f"{target.name}_{kind}.v" in made]:
         between = [f"{target.name}_cross.v"] if kind != "access" else []
         between += [f"{target.name}_sib.v"] if kind == "tap" and "--sib" in options else []
-        own = [f"{target.name}_{kind}_tb.sv", f"{target.name}_{kind}.v", *between, *([f"{target.name}_access.v"] if between else [])]
+        own = [
+            f"{target.name}_{kind}_tb.sv",
+            f"{target.name}_{kind}.v",
+            *between,
+            *([f"{target.name}_access.v"] if between else []),
+        ]
         made[f"{target.name}_{kind}.f"] = "\n".join([*own, *beside, ""])
     inputs = [path, *pins, *(name for part in system.parts for name in (part.unit.march, part.unit.memory_file))]
     write_own(out, marked("access", made), inputs)
 
 
 def main(arguments: list[str]) -> int:
-    allowed = {"--apb": 0, "--jtag": 0, "--log": 1, "--march": 1, "--mhz": 1, "--sib": 0, "--idcode": 1, "--in-place": 0, "--each": 0}
+    allowed = {
+        "--apb": 0,
+        "--jtag": 0,
+        "--log": 1,
+        "--march": 1,
+        "--mhz": 1,
+        "--sib": 0,
+        "--idcode": 1,
+        "--in-place": 0,
+        "--each": 0,
+    }
     (path, *pins, folder), options = words_of(__doc__, arguments, allowed, 2, None)
     alone = [name for name in ("--sib", "--idcode") if name in options and "--jtag" not in options]
     if alone:

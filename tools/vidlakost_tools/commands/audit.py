@@ -37,297 +37,39 @@ sources otherwise, unless --simulate has asked one.
 
 The last line is `audit: ` and the verdict, as `audit: conforms, fail is exact`. It ends with 0 for that, also from some
 cycles later on, en, done and fail being 0 until then; with 1 for anything else that was found, and where the module is
-refused; with 2 for wrong words or files. In the cycle of the reset these three have to be 0 too; with --reset-open they may
-be anything there, as they are where they come from registers that the reset sets at the clock's edge.
+refused; with 2 for wrong words or files. In the cycle of the reset these three have to be 0 too; with --reset-open they
+may be anything there, as they are where they come from registers that the reset sets at the clock's edge.
 
-What each step rests on. The answer of `check` is the proved program's, of the module that it is given. That this module does
-what the sources do rests on Yosys (and GHDL, and a library's functions), which reads them, and on the plain Python that writes its cells as operators.
-A late start rests on plain Python up to the cycle that is named, and from there on `check` tells it. What is told of `fail`,
-of the cycles behind the end and of reasons rests on Yosys, which makes gates of the module, and on plain Python. Pulses
-shorter than a cycle are not seen, and an asynchronous reset acts in the cycle in which it comes."""
+What each step rests on. The answer of `check` is the proved program's, of the module that it is given. That this module
+does what the sources do rests on Yosys (and GHDL, and a library's functions), which reads them, and on the plain Python
+that writes its cells as operators. A late start rests on plain Python up to the cycle that is named, and from there on
+`check` tells it. What is told of `fail`, of the cycles behind the end and of reasons rests on Yosys, which makes gates
+of the module, and on plain Python. Pulses shorter than a cycle are not seen, and an asynchronous reset acts in the
+cycle in which it comes."""
 from __future__ import annotations
 
-import dataclasses
 import pathlib
 import random
-import re
-import shlex
-import subprocess
-import sys
-import tempfile
 from typing import Any
 
-from vidlakost_tools.audit import (
-    beside_icarus,
-    fail_lanes as lanes,
-    fail_search,
-    late_end,
-    late_start,
-    random_comparison as audit_random,
-    why_unknown,
+from vidlakost_tools.audit import random_comparison as audit_random
+from vidlakost_tools.audit.findings import (
+    Audit,
+    Verdict,
+    commands_found,
+    end_found,
+    fail_found,
+    place_told,
+    why_open,
 )
-from vidlakost_tools.audit.gates import Machine, gates_of
-from vidlakost_tools.audit.pins import Pin, Pins, ports_of, proposed, read_pins, told_ports
+from vidlakost_tools.audit.pins import read_pins
 from vidlakost_tools.audit.waveform import save_of, write_wave
-from vidlakost_tools.program import ROOT, run
-from vidlakost_tools.text import INPUT_BYTES, shown, visible
-from vidlakost_tools.texts.march import Element, march_of
-from vidlakost_tools.texts.memory import Memory, read_memory
-from vidlakost_tools.tool import Refused, ToolError, number_of, refuse_inputs, tell, telling, usage_of, words_of
-from vidlakost_tools.verilog import known_cells, open_run, source_texts
-from vidlakost_tools.verilog.front_end import ALL_GATES, Plain, plain_of
-
-
-FEWER_GATES = "a controller in words, before it is made gates of, is far shorter"
-
-
-@dataclasses.dataclass
-class Audit:
-    """What is asked: the sources, the test, and the commands of each cycle from the reset to the one of `done`."""
-
-    files: list[str]
-    options: dict[str, Any]
-    pins: Pins | None
-    march: str
-    memory_file: str
-    elements: list[Element]
-    memory: Memory
-
-    def commands(self) -> list[Any]:
-        return [None, *open_run.commands_of(self.elements, self.memory), *[None] * (self.memory.latency + 1)]
-
-    def full_pins(self, plain: Plain) -> Pins | None:
-        """The pins, with each port that has no line at the pin of its own name."""
-        if self.pins is None:
-            return None
-        named = {port for port, _ in self.pins.pins}
-        own = [(port, Pin(port, False)) for _, port, _ in plain.ports if port not in named]
-        return dataclasses.replace(self.pins, pins=[*self.pins.pins, *own])
-
-    def module(self, tries: tuple[str, ...] | None = None) -> Plain:
-        return plain_of(self.files, self.options, self.pins, *([tries] if tries else []))
-
-
-@dataclasses.dataclass
-class Verdict:
-    """What was found of the commands: the line of `check`, the module it holds of, the delay of its start."""
-
-    line: str
-    plain: Plain
-    delay: int = 0
-    in_reset: list[str] = dataclasses.field(default_factory=list)
-    # how many cycles later than it is due `done` comes
-    end_late: int = 0
-
-    @property
-    def conforms(self) -> bool:
-        return self.line.startswith("conforms ")
-
-    def told(self) -> str:
-        """The finding, as the last line begins."""
-        late = f" from {self.delay} cycle{'s' if self.delay > 1 else ''} later on" if self.delay else ""
-        if not self.conforms:
-            return (f"{late[1:]} " if late else "") + self.line
-        end = f" but for done, {cycles(self.end_late)} late" if self.end_late else ""
-        return "conforms" + late + end + (f" but for {', '.join(self.in_reset)} in the reset" if self.in_reset else "")
-
-
-def cycles(count: int) -> str:
-    return f"{count} cycle{'s' if count > 1 else ''}"
-
-
-# ---- the ports
-
-
-def refuse_ports(audit: Audit, plain: Plain) -> None:
-    """Refuses a module whose ports are not those of the memory's self-test, with the lines of a file of pins for it."""
-    memory = audit.memory
-    wanted, there = ports_of(memory), set(plain.ports)
-    if wanted == there:
-        return
-    missing = told_ports(wanted - there)
-    said = f"a self-test of {memory.name} has the ports {missing}" if missing else "further ports are there"
-    others = ", ".join(f"{way} {name} of {width}" for way, name, width in sorted(there - wanted))
-    if audit.pins:
-        raise ToolError(f"{audit.pins.file}: {said}" + (f"; the pins give {others}" if others else ""), 1)
-    pins = {name: plain.clock or name if name == "clk" else name for _, name, _ in plain.ports}
-    ports = {pins[name]: {"direction": way, "bits": [0] * width} for way, name, width in plain.ports}
-    guess = "\n".join(f"    {line}" for line in proposed(ports, memory, plain.clock))
-    raise ToolError(f"{said}; the module has {others or 'no others'}.\nA file for --pins may begin as this guess:\n{guess}", 1)
-
-
-# ---- the commands
-
-
-def checked(audit: Audit, plain: Plain) -> str:
-    """The line of `check` for a module."""
-    with tempfile.TemporaryDirectory() as name:
-        file = pathlib.Path(name) / "module.v"
-        file.write_text(plain.text(), encoding="utf-8")
-        words = ["check", str(file), audit.march, audit.memory_file]
-        with telling("`check` clocks the module", lambda: f"a test of {len(audit.commands()):,} cycles"):
-            status, said = run(*words)
-        if status == 6:
-            size = file.stat().st_size
-            why = f"the module that Yosys makes of the sources has {size:,} bytes, and `check` reads {INPUT_BYTES:,} at most"
-            raise ToolError(f"{why}; {FEWER_GATES}", 1)
-        if said.startswith("verilog "):
-            raise ToolError(f"`check` refuses the module that Yosys makes of the sources: {said}", 1)
-        if status not in (0, 1):
-            raise Refused(words, said, status)
-        return said
-
-
-def commands_found(audit: Audit) -> Verdict:
-    """What `check` says, of words, of gates where it is unknown of words, or from a late start on."""
-    if "--simulate" in audit.options:
-        beside_icarus.refuse_sources(audit.files, audit.options.get("--liberty", []))
-    plain = audit.module()
-    refuse_inputs(audit.options.get("--vcd"), [("what is read", file) for file in plain.opened])
-    source_texts.refuse_untold(audit.options.get("--vcd"), audit.files, "$")
-    for warning in plain.warnings:
-        tell(f"audit: {warning}")
-    refuse_ports(audit, plain)
-    if "--simulate" in audit.options:
-        cells = known_cells.cells_of(audit.options, [source for _, source in source_texts.with_included(audit.files)])
-        print(beside_icarus.beside(beside_icarus.Beside(audit.files, plain, audit.full_pins(plain), audit.memory, cells)))
-    found = Verdict(checked(audit, plain), plain)
-    print(f"check: {found.line}")
-    if found.line.startswith("unknown "):
-        gates = audit.module(ALL_GATES)
-        line = checked(audit, gates)
-        if line != found.line:
-            print(f"check, bit by bit: {line}")
-            found = Verdict(line, gates)
-    if found.conforms:
-        return found
-    return late_found(audit, found) or late_end_found(audit, found) or found
-
-
-def late_end_found(audit: Audit, found: Verdict) -> Verdict | None:
-    """What is found where `done` alone is late, as it is behind a comparison in a pipeline."""
-    end = len(audit.commands()) - 1
-    if found.line != f"differs cycle {end} port done expected 1 got 0":
-        return None
-    late = late_end.late(found.plain, end)
-    line = checked(audit, late_end.in_time(found.plain, end)) if late else ""
-    if not late or not line.startswith("conforms "):
-        return None
-    print(f"late end: the commands are right, and done comes {cycles(late)} late, as behind a comparison in a pipeline")
-    return Verdict(line, found.plain, end_late=late)
-
-
-def late_found(audit: Audit, found: Verdict) -> Verdict | None:
-    """What is found from a late start on, where the first command may come late."""
-    first = next((cycle for cycle, command in enumerate(audit.commands()) if command), None)
-    if first is None or not re.match(rf"(unknown|differs) cycle 0 |(unknown|differs) cycle {first} port en", found.line):
-        return None
-    late = late_start.late(found.plain, first)
-    if late is None:
-        print("no late start: within 8 cycles there is none up to which en and done are 0 and in which en is 1")
-        return None
-    line = checked(audit, late.module)
-    verdict = Verdict(line, found.plain, late.cycles, late.in_reset)
-    if not verdict.conforms:
-        print(f"late start: {verdict.told()}, where cycle 0 is cycle {late.cycles}")
-    elif late.cycles:
-        begin = "behind the reset" if late.in_reset else "in the reset and"
-        print(f"late start: {verdict.told()}, en and done being 0 {begin} until then")
-    else:
-        print(f"behind the reset: {line}")
-    return verdict
-
-
-def place_told(audit: Audit, line: str) -> None:
-    """What is due in the cycle of a line."""
-    words = [sys.executable, str(ROOT / "tools" / "locate"), audit.march, audit.memory_file, "--line", line]
-    done = subprocess.run(words, stdout=subprocess.PIPE, stderr=subprocess.DEVNULL, text=True, check=False)
-    if done.returncode == 0 and done.stdout:
-        print("due there: " + ", ".join(done.stdout.splitlines()))
-
-
-def why_open(audit: Audit, found: Verdict) -> None:
-    """Why a port is open."""
-    match = re.match(r"unknown cycle (\d+) port (\w+)", found.line)
-    if not match:
-        return
-    machine = Machine(gates_of(found.plain), (match[2],))
-    cycle = int(match[1]) + found.delay
-    values = why_unknown.values_of(machine, {}, cycle)
-    tell_reasons(why_unknown.Search(machine, values, found.plain), machine, match[2], cycle)
-
-
-def tell_reasons(search: why_unknown.Search, machine: Machine, port: str, cycle: int) -> None:
-    reasons: list[str] = []
-    for bit in machine.results:
-        if search.is_open(bit, cycle) and len(reasons) < 4:
-            reasons += search.reasons(port, bit, cycle)
-    for reason in list(dict.fromkeys(reasons))[:4]:
-        print(visible(f"  {port} {reason}"))
-
-
-# ---- behind the end, and `fail`
-
-
-def end_found(audit: Audit, found: Verdict) -> tuple[str, int]:
-    """Where `done` doesn't stay 1 and `en` 0 behind the end, or nothing; and the last cycle that was looked at, or -1 where
-    nothing changes any more."""
-    machine = Machine(gates_of(found.plain), ("done", "en"))
-    end = len(audit.commands()) - 1 + found.delay + found.end_late
-    state, cycle, opens = [(0, 0)] * len(machine.registers), 0, [(0, 0)] * len(machine.words)
-    while cycle <= end + lanes.BEHIND:
-        before = state
-        state, told = machine.step(state, [*opens, (1, 0) if cycle == 0 else (0, 1)], 1)
-        for port, (one, zero), wanted in zip(("done", "en"), told, ((1, 0), (0, 1))):
-            if cycle >= end and (one, zero) != wanted:
-                got = "1" if one else "0" if zero else "open"
-                return f"{port} is {got} in cycle {cycle}, behind the end", cycle
-        if cycle > end and state == before:
-            return "", -1
-        cycle += 1
-    return "", cycle - 1
-
-
-def fail_found(audit: Audit, found: Verdict, limit: int) -> lanes.Found:
-    commands, memory = audit.commands(), audit.memory
-    answers = {
-        cycle + memory.latency + found.delay: command[2]
-        for cycle, command in enumerate(commands)
-        if command and not command[0]
-    }
-    is_open = "--reset-open" in audit.options or "fail" in found.in_reset
-    machine, clock = Machine(gates_of(found.plain), ("fail",)), lanes.Clock(limit)
-    # where the end is late, fail may be so too, and not later than it
-    for late in range(found.end_late + 1):
-        plan = lanes.Plan(answers, len(commands) + found.delay + found.end_late, memory.bits, 1 if is_open else 0, late)
-        told = fail_search.look_at(machine, plan, found.plain, clock)
-        if told.found.kind == "exact":
-            break
-    if told.how:
-        print(told.how)
-    told_late = f", {cycles(late)} later than the rule" if late and told.found.kind == "exact" else ""
-    print(told.found.line() + told_late)
-    if told.history:
-        print(visible(told.history))
-    if told.found.got == "open":
-        why_fail_open(audit, found, machine, told)
-    return told.found
-
-
-def why_fail_open(audit: Audit, found: Verdict, machine: Machine, told: fail_search.Told) -> None:
-    """What `fail` hangs on where it is unknown, and who may know."""
-    words = lanes.words_of(told.plan, told.found)
-    values = why_unknown.values_of(machine, words, told.found.cycle)
-    tell_reasons(why_unknown.Search(machine, values, found.plain), machine, "fail", told.found.cycle)
-    if told.is_bounded and not found.delay and not found.end_late and "--liberty" not in audit.options:
-        print(f"with more time and memory the model checker may know: {formal_call(audit)}")
-
-
-def formal_call(audit: Audit) -> str:
-    """The call that asks Yosys' model checker of the same module."""
-    given = [word for name in ("--top", "--pins", "--cells") if name in audit.options for word in (name, audit.options[name])]
-    words = ["vidlakost", "formal", *audit.files, audit.march, audit.memory_file, *given]
-    return " ".join(map(shlex.quote, words))
+from vidlakost_tools.text import shown, visible
+from vidlakost_tools.texts.march import march_of
+from vidlakost_tools.texts.memory import read_memory
+from vidlakost_tools.tool import Refused, ToolError, number_of, refuse_inputs, tell, usage_of, words_of
+from vidlakost_tools.verilog import source_texts
+from vidlakost_tools.verilog.front_end import Plain
 
 
 def verdict_of(audit: Audit) -> tuple[str, int]:
@@ -357,7 +99,11 @@ def verdict_of(audit: Audit) -> tuple[str, int]:
     is_untried = "--strict" in audit.options and is_otherwise(audit, found.plain)
     if is_untried:
         print("a simulator may read the sources otherwise, as is warned; with --simulate Icarus tells")
-    return ", ".join(parts), 0 if not end and not is_bounded and not is_untried and not is_late and not in_reset and told.kind == "exact" else 1
+    return ", ".join(parts), (
+        0
+        if not end and not is_bounded and not is_untried and not is_late and not in_reset and told.kind == "exact"
+        else 1
+    )
 
 
 def is_otherwise(audit: Audit, plain: Plain) -> bool:
@@ -370,12 +116,27 @@ def wave(audit: Audit, found: Verdict, cycle: int) -> None:
         commands = [*[None] * found.delay, *audit.commands()]
         file = audit.options["--vcd"]
         is_new = write_wave(file, found.plain, commands, audit.memory, cycle)
-        save = "a save file for GTKWave beside it" if is_new else f"{save_of(file)}, which is none of audit's, stays as it is"
+        save = (
+            "a save file for GTKWave beside it"
+            if is_new
+            else f"{save_of(file)}, which is none of audit's, stays as it is"
+        )
         tell(f"audit: the run is in {file}, and {save}")
 
 
 def main(arguments: list[str]) -> int:
-    allowed: dict[str, Any] = {"--top": 1, "--pins": 1, "--liberty": [], "--cells": 1, "--vcd": 1, "--limit": 1, "--reset-open": 0, "--simulate": 0, "--fail-late": 1, "--strict": 0}
+    allowed: dict[str, Any] = {
+        "--top": 1,
+        "--pins": 1,
+        "--liberty": [],
+        "--cells": 1,
+        "--vcd": 1,
+        "--limit": 1,
+        "--reset-open": 0,
+        "--simulate": 0,
+        "--fail-late": 1,
+        "--strict": 0,
+    }
     words, options = words_of(__doc__, arguments, {**allowed, "--random": 1, "--seed": 1})
     if "--random" in options and not words:
         seed = number_of(options.get("--seed", "1"), "--seed")

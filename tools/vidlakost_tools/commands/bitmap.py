@@ -7,11 +7,11 @@ usage: vidlakost bitmap LOG MARCH MEMORY [--mux M] [--svg PICTURE] [--csv TABLE]
 LOG has a line `cycle C expected X returned W` for each wrong read, as the testbench NAME_log_tb.sv of `vidlakost access
 --log` prints, and a line `more` where others came that it had no room for; other lines are left. It has at most 64 MiB.
 Where another word was expected than this march expects of this memory, the log is of others, and is refused. The cycles
-count as for `vidlakost locate`; of a chip they are those of the chip. With M words in a row of the array the row of a word
-is its physical index by M, and its bit B lies in column B * M + index modulo M; M is 1 where nothing is said. It prints
-the shape (cell, pair, row, column, other), then of each wrong cell row, column, index, address and bit and how often it
-was wrong. With a list it prints what gives exactly this log, of its primitives and of lines, bits and addresses, as
-`vidlakost diagnosis` tells it."""
+count as for `vidlakost locate`; of a chip they are those of the chip. With M words in a row of the array the row of a
+word is its physical index by M, and its bit B lies in column B * M + index modulo M; M is 1 where nothing is said. It
+prints the shape (cell, pair, row, column, other), then of each wrong cell row, column, index, address and bit and how
+often it was wrong. With a list it prints what gives exactly this log, of its primitives and of lines, bits and
+addresses, as `vidlakost diagnosis` tells it."""
 from __future__ import annotations
 
 import pathlib

@@ -100,7 +100,9 @@ def texts_of(macro: Macro, word: Word, kind: str, vendor: str | None) -> dict[st
 
 
 def main(arguments: list[str]) -> int:
-    words, options = words_of(__doc__, arguments, {"--macro": 1, "--through": 1, "--model": 1, "--clock-mux": 1, "--open": 0}, 2, 3)
+    words, options = words_of(
+        __doc__, arguments, {"--macro": 1, "--through": 1, "--model": 1, "--clock-mux": 1, "--open": 0}, 2, 3
+    )
     *memory_files, folder = words
     if "--macro" not in options:
         raise ToolError(f"--macro names the file of the pins\n{usage_of(__doc__)}")
@@ -115,7 +117,11 @@ def main(arguments: list[str]) -> int:
     if vendor:
         refuse_other_ports(macro, vendor)
     texts, out = texts_of(macro, word, kind, vendor), pathlib.Path(folder)
-    if macro.clock_cell and (out / f"{macro.clock_cell.cell}.v").exists() and not is_own(out / f"{macro.clock_cell.cell}.v"):
+    if (
+        macro.clock_cell
+        and (out / f"{macro.clock_cell.cell}.v").exists()
+        and not is_own(out / f"{macro.clock_cell.cell}.v")
+    ):
         del texts[f"{macro.clock_cell.cell}.v"]
     refuse_twins(texts)
     path = out / f"{macro.name}.v"

@@ -5,11 +5,11 @@ usage: vidlakost compare LIST MARCH MARCH ..          a table, then a line for e
        vidlakost compare LIST MARCH MARCH .. --memory MEMORY [--json]    what they cover between two bits of a word of it, too
        vidlakost compare --help
 
-The column AF has the faults of the address decoder, and LF the linked faults, of which no list speaks. The object has `schema`
-(vidlakost-compare-1), `reports`, by the word of each march the report in the schema of `vidlakost report`, `decoder` and
-`linked`, by the word of each march its verdicts on these faults, and `differs`, by primitive or fault the words of the marches that
-cover it. With --memory it has `in_word`, an object with `reports` and `differs` of the verdicts inside a word of that memory, by
-the whole test with all its backgrounds."""
+The column AF has the faults of the address decoder, and LF the linked faults, of which no list speaks. The object has
+`schema` (vidlakost-compare-1), `reports`, by the word of each march the report in the schema of `vidlakost report`,
+`decoder` and `linked`, by the word of each march its verdicts on these faults, and `differs`, by primitive or fault the
+words of the marches that cover it. With --memory it has `in_word`, an object with `reports` and `differs` of the
+verdicts inside a word of that memory, by the whole test with all its backgrounds."""
 from __future__ import annotations
 
 import dataclasses
@@ -27,7 +27,8 @@ from vidlakost_tools.tool import words_of
 
 @dataclasses.dataclass
 class Judged:
-    """What is said of a march: of the list, and of the address decoder and linked faults, which play no part inside a word."""
+    """What is said of a march: of the list, and of the address decoder and linked faults, which play no part inside a
+    word."""
 
     report: Union[Report, InWordReport]
     decoder: Optional[DecoderReport] = None
@@ -58,7 +59,8 @@ def table(names: list[str], marches: list[Judged]) -> Iterator[str]:
 
 
 def differing(names: list[str], marches: list[Judged]) -> Iterator[tuple[str, str, list[str]]]:
-    """Of each primitive or fault that some cover and some don't its class, its text and the names of those that cover it."""
+    """Of each primitive or fault that some cover and some don't its class, its text and the names of those that cover
+    it."""
     seen = set()
     for verdicts in zip(*(march.verdicts for march in marches)):
         covering = [name for name, verdict in zip(names, verdicts) if verdict.covered]
@@ -96,7 +98,9 @@ def main(arguments: list[str]) -> int:
     inside = [judged_in_word(word, memory, faults) for word in words] if memory else []
     if "--json" in options:
         made: dict[str, object] = {"schema": "vidlakost-compare-1", **as_object(words, marches)}
-        print(json.dumps({**made, **({"in_word": as_object(words, [*map(Judged, inside)])} if inside else {})}, indent=1))
+        print(
+            json.dumps({**made, **({"in_word": as_object(words, [*map(Judged, inside)])} if inside else {})}, indent=1)
+        )
         return 0
     names = names_of(words)
     print("\n".join(told(names, marches)))

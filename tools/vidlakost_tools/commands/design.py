@@ -4,10 +4,11 @@ usage: vidlakost design LIST [OUT] [--behind MARCH] [--any] [--operations K] [--
                         [--inword MEMORY [--backgrounds K]] [--time MHZ MEMORY] [--width N] [--prove]
        vidlakost design --help
 
-LIST is a list as of `judge`. The march is printed, with its length and what the program says of it, and written to the file
-OUT. `shortest` stands behind the length where a search of all shorter marches finds none that covers the list; else
-`shortest found`, and how short one can be at best. The program alone decides what is covered: that no march is shorter is
-tested, and not proved. What the march doesn't cover is told with the reason. Status 1 says that there is such a thing.
+LIST is a list as of `judge`. The march is printed, with its length and what the program says of it, and written to the
+file OUT. `shortest` stands behind the length where a search of all shorter marches finds none that covers the list;
+else `shortest found`, and how short one can be at best. The program alone decides what is covered: that no march is
+shorter is tested, and not proved. What the march doesn't cover is told with the reason. Status 1 says that there is
+such a thing.
 
 --behind MARCH    the march begins with the elements of MARCH, and has as few operations more as are found
 --any             of the marches of the least length one with as many elements of order any as are found

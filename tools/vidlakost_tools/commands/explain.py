@@ -143,7 +143,14 @@ def sentences(word: str) -> Iterator[str]:
 
 
 def page(words: str) -> int:
-    found = [*refusals(words), *answers(words), *classes(words), *decoder_faults(words), *link_kinds(words), *statuses(words)]
+    found = [
+        *refusals(words),
+        *answers(words),
+        *classes(words),
+        *decoder_faults(words),
+        *link_kinds(words),
+        *statuses(words),
+    ]
     found += literature(words) if not found else []
     if words and not any(row.split("\n")[0].startswith(words) and " " not in words for row in found):
         # a line of the program begins with the word that its sentences show
@@ -183,8 +190,8 @@ def list_commands() -> None:
             print(f"  {status:>3}  {plain(forms):{22}}  {plain(when)}")
     print("  125  the launcher found no program to run, could not build one, or had no answer\n")
     print(
-        "`vidlakost NAME --help` tells one in full, `vidlakost --version` the commit and the kit's line; docs/GUIDE.md leads\n"
-        "through the tasks, and docs/FORMATS.md has the texts and every refusal."
+        "`vidlakost NAME --help` tells one in full, `vidlakost --version` the commit and the kit's line; docs/GUIDE.md"
+        " leads\nthrough the tasks, and docs/FORMATS.md has the texts and every refusal."
     )
 
 

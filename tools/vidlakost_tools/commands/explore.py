@@ -6,8 +6,8 @@ usage: vidlakost explore [MARCH] [LIST] [MEMORY]     serves the page on this mac
        vidlakost explore .. --port N                 at this port, and not at one that is free
        vidlakost explore --help
 
-The page begins with the texts of the files, or with short ones; it asks for no file and writes none: what is saved in it
-the browser saves. Each answer is the program's, and the page says where that is an unproved one. Ctrl-C ends it.
+The page begins with the texts of the files, or with short ones; it asks for no file and writes none: what is saved in
+it the browser saves. Each answer is the program's, and the page says where that is an unproved one. Ctrl-C ends it.
 Whoever has the address can ask; it has a part that can't be guessed, and is good for this run."""
 from __future__ import annotations
 

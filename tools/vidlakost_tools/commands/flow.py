@@ -69,10 +69,23 @@ def main(arguments: list[str]) -> int:
     if "--clock-mux" in options:
         clock_mux(options["--clock-mux"])
     out = pathlib.Path(folder)
-    flow = Flow(system, path, pins, options.get("--list", str(out / "faults.list")), out, vendors, options.get("--clock-mux", ""))
+    flow = Flow(
+        system,
+        path,
+        pins,
+        options.get("--list", str(out / "faults.list")),
+        out,
+        vendors,
+        options.get("--clock-mux", ""),
+    )
     texts = {"Makefile": flow.text(), "sta.known": flow.known()}
     if "--list" not in options:
         texts["faults.list"] = f"{MARK}\nall\nDRF\n"
-    inputs = [path, *pins, *vendors, *(name for part in system.parts for name in (part.unit.march, part.unit.memory_file))]
+    inputs = [
+        path,
+        *pins,
+        *vendors,
+        *(name for part in system.parts for name in (part.unit.march, part.unit.memory_file)),
+    ]
     write_own(out, texts, [*inputs, *([options["--list"]] if "--list" in options else [])])
     return 0

@@ -7,14 +7,15 @@ usage: vidlakost formal                                    a dozen marches and m
                                                        a module of one's own, in any Verilog that Yosys reads
        vidlakost formal --help
 
-Every register is open in cycle 0, the one of the reset, and so is every word on `rdata` in every cycle. In each cycle to
-the end of the test, and three behind it, all ports have to be as the list of `vectors` says, and `fail` as these words
-say. With --resets the reset may come again in any cycle, and each begins the test anew; that takes longer, and is for the
-smallest memories; the first of the dozen is judged so too. That list is all that is shared with the program. What nothing
-drives is open in every cycle, and initial values are left out. A signal with two drivers, a register that does not take at the
-rising edge of clk, a latch and a port of another width are refused, and what Yosys warns of is handed on. A case that the model
-checker finds is clocked once more by plain Python, from the module as a text of the subset that `check` reads; where no port is
-wrong in it the line says `not known`. It ends with 1 where a module differs, and tells the first cycle, or is not known."""
+Every register is open in cycle 0, the one of the reset, and so is every word on `rdata` in every cycle. In each cycle
+to the end of the test, and three behind it, all ports have to be as the list of `vectors` says, and `fail` as these
+words say. With --resets the reset may come again in any cycle, and each begins the test anew; that takes longer, and is
+for the smallest memories; the first of the dozen is judged so too. That list is all that is shared with the program.
+What nothing drives is open in every cycle, and initial values are left out. A signal with two drivers, a register that
+does not take at the rising edge of clk, a latch and a port of another width are refused, and what Yosys warns of is
+handed on. A case that the model checker finds is clocked once more by plain Python, from the module as a text of the
+subset that `check` reads; where no port is wrong in it the line says `not known`. It ends with 1 where a module
+differs, and tells the first cycle, or is not known."""
 from __future__ import annotations
 
 import dataclasses
@@ -49,7 +50,10 @@ CASES = [
     ("{any(w0);del;any(r0,w1);del;any(r1)}", "memory 2\nname g\nwords 2\nbits 2\npause 5\n"),
     (
         "{any(w0);up(r0,w1);del;down(r1,w0)}",
-        "memory 2\nname h\nwords 4\nbits 2\nlatency 2\npolarity 1\npause 3\nscramble a0 = p0 ^ p1\nscramble a1 = p1 ^ 1\n",
+        (
+            "memory 2\nname h\nwords 4\nbits 2\nlatency 2\npolarity 1\npause 3\nscramble a0 = p0 ^ p1\nscramble a1 = p1"
+            " ^ 1\n"
+        ),
     ),
     (
         "{any(w0);down(r0,w1);up(r1)}",
@@ -74,12 +78,12 @@ WRONG = [
     ("the last word is left out", r"\(pause \? 2'h1 : 2'h2\)", "(pause ? 2'h1 : 2'h1)"),
     ("a pause is a cycle short", r"\(pause \? 2'h1 : 2'h2\)", "(pause ? 2'h0 : 2'h2)"),
     ("a pause commands the memory", r"live = \(pause \? 1'h0 : run\)", "live = run"),
-    ("the written words have no polarity", r"wdata = .*", "wdata = (back ? (value ? 2'h1 : 2'h2) : (value ? 2'h3 : 2'h0));"),
     (
-        "the expected words are inverted",
-        r"want <= \(value1 \?",
-        "want <= ((!value1) ?",
+        "the written words have no polarity",
+        r"wdata = .*",
+        "wdata = (back ? (value ? 2'h1 : 2'h2) : (value ? 2'h3 : 2'h0));",
     ),
+    ("the expected words are inverted", r"want <= \(value1 \?", "want <= ((!value1) ?"),
     ("the reset does not start the run", r"run <= \(reset \? 1'h1 :", "run <= (reset ? run :"),
     ("the reset leaves the value", r"one <= \(reset \? 1'h0 :", "one <= (reset ? one :"),
     ("the last operation is told by the first", r": ends_more\)", ": ends_again)"),
@@ -107,7 +111,9 @@ REFUSED = [
 
 def refuse_ports(module: Mapping[str, Any], memory: Memory, pins: Pins | None) -> None:
     """Refuses a module without one of the ports; Yosys would make a port of another width fit."""
-    there: set[tuple[str, str, int]] = {(said["direction"], port, len(said["bits"])) for port, said in module["ports"].items()}
+    there: set[tuple[str, str, int]] = {
+        (said["direction"], port, len(said["bits"])) for port, said in module["ports"].items()
+    }
     if pins:
         there = set(pins.widths(dict(module["ports"])))
     missing = ports_of(memory) - there
@@ -142,11 +148,13 @@ class Asked:
 
 
 def is_replayed(asked: Asked, plain: Plain, cycle: int) -> bool:
-    """Whether a port of the module differs in a cycle where it is clocked by itself, in a case that the model checker has of the
-    module as a text of the subset."""
+    """Whether a port of the module differs in a cycle where it is clocked by itself, in a case that the model checker
+    has of the module as a text of the subset."""
     (asked.folder / "plain.v").write_text(plain.text(), encoding="utf-8")
     begin = f"read_verilog {yosys.quoted(asked.folder / 'plain.v')}\nproc -noopt -norom\n{yosys.OPEN}"
-    case = dataclasses.replace(asked, begin=begin, module=plain.name).differs(cycle + 1, more=replayed.signals_of(plain))
+    case = dataclasses.replace(asked, begin=begin, module=plain.name).differs(
+        cycle + 1, more=replayed.signals_of(plain)
+    )
     if case is None:
         return False
     resets = case.resets if asked.resets else {0}
@@ -190,7 +198,9 @@ def compiled(march: Path, memory_file: Path, folder: pathlib.Path) -> pathlib.Pa
     return folder / "module.v"
 
 
-def judge_case(march_text: str, memory_text: str, change: tuple[str, str, str] | None = None, resets: bool = False) -> str | None:
+def judge_case(
+    march_text: str, memory_text: str, change: tuple[str, str, str] | None = None, resets: bool = False
+) -> str | None:
     with tempfile.TemporaryDirectory() as name:
         folder = pathlib.Path(name)
         march, memory = folder / "march", folder / "memory"
@@ -208,7 +218,10 @@ def judge_case(march_text: str, memory_text: str, change: tuple[str, str, str] |
 def judge_cases(cases: list[tuple[str, str]], with_resets: int = 0) -> int:
     """Judges modules, and the first of them once more with resets at any time."""
     wrong = 0
-    for march, memory, resets in [*((*case, False) for case in cases), *((*case, True) for case in cases[:with_resets])]:
+    for march, memory, resets in [
+        *((*case, False) for case in cases),
+        *((*case, True) for case in cases[:with_resets]),
+    ]:
         difference = judge_case(march, memory, resets=resets)
         if difference:
             wrong += 1

@@ -37,7 +37,10 @@ def main(arguments: list[str]) -> int:
     }
     write_own(pathlib.Path(folder), texts, [march, path])
     if memory.pause <= memory.latency:
-        tell(f"hold: a pause of {memory.pause} cycles: words of reads before it may be on their way while the clock stands")
+        tell(
+            f"hold: a pause of {memory.pause} cycles: words of reads before it may be on their way while the clock"
+            " stands"
+        )
     if not hold_text.is_read_behind(elements):
         tell("hold: no pause is followed by a read, so +planted finds nothing")
     return 0

@@ -47,7 +47,9 @@ def description(name: str, address: int, bits: int, source: str) -> str:
     if 1 <= bits <= WIDEST_WORD:
         lines.append(f"bits {bits}")
     elif bits > WIDEST_WORD:
-        lines.append(f"# bits N       a word of {bits} bits is two descriptions, whose names stand as low and high in the pins")
+        lines.append(
+            f"# bits N       a word of {bits} bits is two descriptions, whose names stand as low and high in the pins"
+        )
     else:
         lines.append("# bits N        no word is recognised")
     return "\n".join([*lines, "latency 1       # look at the data sheet", "backgrounds log", ""])
@@ -60,7 +62,13 @@ def name_of(given: str | None, cell: str) -> str:
     return name
 
 
-KINDS = ("clk", "addr", "wdata", "rdata", *("~" * low + kind for kind in ("en", "we", "read", "write", "mask") for low in (0, 1)))
+KINDS = (
+    "clk",
+    "addr",
+    "wdata",
+    "rdata",
+    *("~" * low + kind for kind in ("en", "we", "read", "write", "mask") for low in (0, 1)),
+)
 
 
 def told_of(pin: Found, found: list[Found]) -> str:
@@ -80,7 +88,9 @@ def confirmed_in(given: list[str], found: list[Found]) -> dict[str, str]:
         if kind not in KINDS:
             raise ToolError(f"--pin names a pin and what it is, one of {', '.join(KINDS)}, and not {shown(text)}")
         if name not in [pin.name for pin in found] or name in confirmed:
-            raise ToolError(f"--pin {shown(text)}: {'the pin is named twice' if name in confirmed else 'there is no such pin'}")
+            raise ToolError(
+                f"--pin {shown(text)}: {'the pin is named twice' if name in confirmed else 'there is no such pin'}"
+            )
         pin = next(pin for pin in found if pin.name == name)
         if (pin.way == "output") != (kind == "rdata"):
             raise ToolError(f"--pin {shown(text)}: {name} is an {pin.way}")
@@ -102,7 +112,9 @@ def tell_left(found: list[Found], lines: list[str], left: int) -> None:
         tell(f"liberty: {', '.join(taken)} {told}")
     unsure = sum(line.startswith(pin_names.UNSURE) for line in lines)
     if unsure:
-        tell(f"liberty: {unsure} of {len(found)} pins are guessed by their names: confirm each line that begins with #?")
+        tell(
+            f"liberty: {unsure} of {len(found)} pins are guessed by their names: confirm each line that begins with #?"
+        )
     if left:
         tell(f"liberty: {left} of {len(found)} pins are not recognised, and stand in comments")
 
@@ -113,7 +125,9 @@ def main(arguments: list[str]) -> int:
     if not is_name(cell) or cell in RESERVED:
         raise ToolError(f"{shown(cell)} is no name of a macro")
     text = read_described(path, SOURCE_BYTES)
-    address, bits, found = (0, 0, Ports(path, text, cell).ports()) if "--verilog" in options else memory_cell(path, text, cell)
+    address, bits, found = (
+        (0, 0, Ports(path, text, cell).ports()) if "--verilog" in options else memory_cell(path, text, cell)
+    )
     confirmed = confirmed_in(options.get("--pin", []), found)
     if "--verilog" in options:
         address, bits = widths(found, confirmed)

@@ -1,4 +1,5 @@
-"""Which read a cycle of `bench`, `benchfault`, `benchfile` or of a waveform belongs to, and which command one of `check`.
+"""Which read a cycle of `bench`, `benchfault`, `benchfile` or of a waveform belongs to, and which command one of
+`check`.
 
 usage: vidlakost locate MARCH MEMORY CYCLE [EXPECTED RETURNED]
        vidlakost locate MARCH MEMORY --line LINE      the cycle and the words from the line of such a command
@@ -16,10 +17,10 @@ print them, the bits that differ, and as the memory stores them where its polari
 whose cycle is that of the command itself, it prints what has to be commanded there.
 
 HEX is what a scan of the register gave; with --sib it was one behind segment insertion bits, which stand above the
-register. With --whole the cycles are those of the whole that `vidlakost top` joins, PINS end in .pins, and a bit of FAILBITS is a
-memory. Of a chip the cycles are the chip's own, and FAILBITS are the bits of `fail`, that of unit 0 last. With `--at fail` CYCLE is the
-one in which `fail` rose. With `--mux M`, M words stand in a row of the array: bit B of an index is in column B * M + index
-modulo M."""
+register. With --whole the cycles are those of the whole that `vidlakost top` joins, PINS end in .pins, and a bit of
+FAILBITS is a memory. Of a chip the cycles are the chip's own, and FAILBITS are the bits of `fail`, that of unit 0 last.
+With `--at fail` CYCLE is the one in which `fail` rose. With `--mux M`, M words stand in a row of the array: bit B of an
+index is in column B * M + index modulo M."""
 from __future__ import annotations
 
 import re
@@ -69,10 +70,13 @@ def element_lines(elements: list[Element], memory: Memory) -> Iterator[str]:
 
 
 def of_check(text: str, elements: list[Element], memory: Memory) -> list[str]:
-    """What is due in the cycle of a line of `check`; the number that it expects is decimal, and that of a testbench is not."""
+    """What is due in the cycle of a line of `check`; the number that it expects is decimal, and that of a testbench is
+    not."""
     line = CHECKED.fullmatch(text.strip())
     if line is None or line[2] not in PORTS or text.startswith("differs") != bool(line[3]):
-        raise ToolError(f"{shown(text)} is no line of check: a port is one of {', '.join(PORTS)}, and what differs is expected")
+        raise ToolError(
+            f"{shown(text)} is no line of check: a port is one of {', '.join(PORTS)}, and what differs is expected"
+        )
     if line[3] and line[3] == line[4]:
         raise ToolError(f"the line got {line[4]} on {line[2]} as it expects, so nothing differs")
     lines = due_lines(elements, memory, int(line[1]))
@@ -90,7 +94,9 @@ def of_chip(words: list[str], options: dict[str, Any], mux: int) -> list[str]:
             raise ToolError(f"--tdr stands behind a chip file alone\n{usage_of(__doc__)}")
         return tester.chip_register(read_chip(words[0]), options["--tdr"], mux, "--sib" in options)
     if len(words) not in (3, 5):
-        raise ToolError(f"--chip takes a chip file, a cycle, the bits of fail, and two words or none\n{usage_of(__doc__)}")
+        raise ToolError(
+            f"--chip takes a chip file, a cycle, the bits of fail, and two words or none\n{usage_of(__doc__)}"
+        )
     chip = read_chip(words[0])
     units = tester.failing_units(words[2], len(chip.units))
     return list(tester.in_chip(chip, answered(words[1], options), units, words[3:], mux))

@@ -3,15 +3,15 @@
 usage: vidlakost plain OUT.v IN.v .. [--top NAME] [--pins FILE] [--liberty LIB] [--cells ice40]
        vidlakost plain --help
 
-Parameters, functions, `always @*`, hierarchies, asynchronous resets and the like are Yosys' to read, so what is then found
-of OUT.v holds of the sources as far as Yosys is right. Operators stay operators, and names of the sources stay. The ports
-keep their names and widths, or become those that --pins tells (`vidlakost audit --help` tells its lines); --liberty,
-which may come several times, reads the cells of a netlist, and --cells ice40 those of ice40 that are logic or registers alone,
-from Yosys' share folder. The clock is one input, of whatever name, and its rising edge the only one; a
-clock that a latch gates becomes an enable, and an asynchronous reset one that acts in the cycle in which it comes. Initial
-values of registers are left out: a self-test begins with a reset; a memory that is only read keeps its content. What nothing
-drives (a name that is mistyped, an input that is left open, an `x`) becomes a register that nothing sets, which is open in
-`check`; a signal with two drivers is refused. What Yosys warns of is handed on."""
+Parameters, functions, `always @*`, hierarchies, asynchronous resets and the like are Yosys' to read, so what is then
+found of OUT.v holds of the sources as far as Yosys is right. Operators stay operators, and names of the sources stay.
+The ports keep their names and widths, or become those that --pins tells (`vidlakost audit --help` tells its lines);
+--liberty, which may come several times, reads the cells of a netlist, and --cells ice40 those of ice40 that are logic
+or registers alone, from Yosys' share folder. The clock is one input, of whatever name, and its rising edge the only
+one; a clock that a latch gates becomes an enable, and an asynchronous reset one that acts in the cycle in which it
+comes. Initial values of registers are left out: a self-test begins with a reset; a memory that is only read keeps its
+content. What nothing drives (a name that is mistyped, an input that is left open, an `x`) becomes a register that
+nothing sets, which is open in `check`; a signal with two drivers is refused. What Yosys warns of is handed on."""
 from __future__ import annotations
 
 from vidlakost_tools.audit.pins import read_pins
@@ -23,7 +23,11 @@ from vidlakost_tools.verilog.front_end import plain_of
 def main(arguments: list[str]) -> int:
     (out, *files), options = words_of(__doc__, arguments, {"--top": 1, "--pins": 1, "--liberty": [], "--cells": 1}, 2)
     yosys.want()
-    read = [*source_texts.included(files), *options.get("--liberty", []), *([options["--pins"]] if "--pins" in options else [])]
+    read = [
+        *source_texts.included(files),
+        *options.get("--liberty", []),
+        *([options["--pins"]] if "--pins" in options else []),
+    ]
     refuse_inputs(out, [("what is read", file) for file in read])
     plain = plain_of(files, options, read_pins(options["--pins"]) if "--pins" in options else None)
     refuse_inputs(out, [("what is read", file) for file in plain.opened])

@@ -7,13 +7,14 @@ usage: vidlakost release                  writes dist/vidlakost-VERSION-x86_64-l
        vidlakost release --check          unpacks that archive into an empty folder and tries it there, without the kit
        vidlakost release --help
 
-The archive has the program as `.ci/run` or `./vidlakost --prove` left it, or the one that VIDLAKOST_PROGRAM names, where the
-file `kit` beside it says that it was proved of these sources; any other is packed by --unproved alone, and its archive says
-so in its name, in RELEASE, in README and with each answer. The file RELEASE tells the commit, the line of the kit that proved
-it, and what it needs of a machine; SHA256SUMS has each file's checksum. It unpacks anywhere, and also from there
---prefix installs. The same sources and the same program give the same bytes, on every machine and with every Python: files
-stand in the order of their names, with the time of the commit, without an owner and not compressed. --check also installs the
-Debian package, where one was written, into a system of its own, tries it, and takes it away again."""
+The archive has the program as `.ci/run` or `./vidlakost --prove` left it, or the one that VIDLAKOST_PROGRAM names,
+where the file `kit` beside it says that it was proved of these sources; any other is packed by --unproved alone, and
+its archive says so in its name, in RELEASE, in README and with each answer. The file RELEASE tells the commit, the line
+of the kit that proved it, and what it needs of a machine; SHA256SUMS has each file's checksum. It unpacks anywhere, and
+also from there --prefix installs. The same sources and the same program give the same bytes, on every machine and with
+every Python: files stand in the order of their names, with the time of the commit, without an owner and not compressed.
+--check also installs the Debian package, where one was written, into a system of its own, tries it, and takes it away
+again."""
 from __future__ import annotations
 
 import datetime
@@ -61,12 +62,15 @@ def git(*words: str) -> bytes:
 
 
 def proof(program: str, content: bytes, unproved: bool) -> str:
-    """What RELEASE says of the proof of a program. One that is not known to be proved is refused, unless that is asked for."""
+    """What RELEASE says of the proof of a program. One that is not known to be proved is refused, unless that is asked
+    for."""
     line = None if unproved else proof_of(program)
     if line is None and not unproved:
         raise ToolError(
-            f"nothing says that {shown(program)} was proved of these sources: ./vidlakost --prove makes one that was, and "
-            "--unproved packs this one, as unproved",
+            (
+                f"nothing says that {shown(program)} was proved of these sources: ./vidlakost --prove makes one that"
+                " was, and --unproved packs this one, as unproved"
+            ),
             125,
         )
     if content != pathlib.Path(program).read_bytes():
@@ -107,7 +111,8 @@ def below(parts: list[str]) -> list[str]:
 
 
 def packed() -> list[str]:
-    """The files of the release that this is, and none that somebody put beside them; an installation has some elsewhere."""
+    """The files of the release that this is, and none that somebody put beside them; an installation has some
+    elsewhere."""
     names = ["SHA256SUMS", *(line.partition("  ")[2] for line in lines_of(read_text(ROOT / "SHA256SUMS")))]
     return [name for name in sorted(names) if (ROOT / name).is_file()]
 
@@ -268,7 +273,9 @@ def without_kit(folder: pathlib.Path) -> dict[str, str]:
     if not own.exists():
         own.mkdir()
         (own / "python3").symlink_to(sys.executable)
-    kept = [place for place in os.environ["PATH"].split(os.pathsep) if not os.access(os.path.join(place, "rt"), os.X_OK)]
+    kept = [
+        place for place in os.environ["PATH"].split(os.pathsep) if not os.access(os.path.join(place, "rt"), os.X_OK)
+    ]
     return {"PATH": os.pathsep.join([str(own), *kept, "/usr/bin", "/bin"]), "LC_ALL": "C.UTF-8", "HOME": "/nonexistent"}
 
 
@@ -286,7 +293,13 @@ def tries(home: pathlib.Path, bin_folder: pathlib.Path) -> Iterator[tuple[list[o
         "report.txt",
     ], 1, "total 48 covered 32 escapes 16"
     yield [program, "bench", examples / "c.m", examples / "buffer.mem"], 0, "fail 0 done 162"
-    yield [program, "judge", examples / "c.m", "missing.list", "report"], 10, "missing.list: error: there is no such file"
+    yield [
+        program,
+        "judge",
+        examples / "c.m",
+        "missing.list",
+        "report",
+    ], 10, "missing.list: error: there is no such file"
     yield [program, "--version"], 0, "needs a C library (glibc) of version 2."
     yield [program, "--prove"], 125, "this is a release"
     yield [program, "help", "compile"], 0, "compile MARCH MEMORY FAULTS VERILOG REPORT"
@@ -296,7 +309,9 @@ def tries(home: pathlib.Path, bin_folder: pathlib.Path) -> Iterator[tuple[list[o
     yield ["timeout", "--signal=INT", "5", program, "explore"], 124, "http://127.0.0.1:"
 
 
-def try_calls(home: pathlib.Path, bin_folder: pathlib.Path, folder: pathlib.Path, environment: Mapping[str, str]) -> int:
+def try_calls(
+    home: pathlib.Path, bin_folder: pathlib.Path, folder: pathlib.Path, environment: Mapping[str, str]
+) -> int:
     wrong = 0
     folder.mkdir()
     for words, status, part in tries(home, bin_folder):

@@ -8,7 +8,8 @@ usage: vidlakost report REPORT --json             one object on standard output
        vidlakost report --tester MARCH MEMORY | CHIPFILE --html FILE [--mhz F]       what a tester has to know
        vidlakost report --help
 
-Of reports of `compile` each --memory tells cycles and milliseconds of the memory of that name, at F MHz (100 where nothing is said).
+Of reports of `compile` each --memory tells cycles and milliseconds of the memory of that name, at F MHz (100 where
+nothing is said).
 
 The object:
     schema      vidlakost-report-1
@@ -32,7 +33,7 @@ import re
 from typing import Any, Iterator, List, Sequence, Tuple
 
 from vidlakost_tools.pages import signoff
-from vidlakost_tools.text import shown
+from vidlakost_tools.text import beside, shown
 from vidlakost_tools.texts import reasons
 from vidlakost_tools.texts.chip import read_chip
 from vidlakost_tools.texts.in_word import InWordReport, is_in_word, read_in_word
@@ -74,8 +75,8 @@ def squares(report: Report | InWordReport, kind: str) -> list[str]:
         return [cell(""), cell("")]
     count, covered = report.classes[kind]
     each = "".join(
-        f'<span class="square {"covered" if verdict.covered else "escape"}" title="{"covered" if verdict.covered else "escapes"}">'
-        f"{html.escape(verdict.primitive)}</span>"
+        f'<span class="square {"covered" if verdict.covered else "escape"}"'
+        f' title="{"covered" if verdict.covered else "escapes"}">{html.escape(verdict.primitive)}</span>'
         for verdict in report.verdicts
         if verdict.kind == kind
     )
@@ -101,14 +102,15 @@ def escape_rows(report: Report) -> Iterator[str]:
 def in_word_rows(report: InWordReport) -> Iterator[str]:
     """A row for each escape inside a word: its two bits, and what they hold."""
     for verdict in report.escapes:
-        bits = f"aggressor at bit {verdict.aggressor}, victim at bit {verdict.victim}, which hold {verdict.content[0]} and {verdict.content[1]}"
+        bits = (
+            f"aggressor at bit {verdict.aggressor}, victim at bit {verdict.victim}, which hold {verdict.content[0]} and"
+            f" {verdict.content[1]}"
+        )
         yield "<tr>" + marked(code(verdict.primitive)) + cell(verdict.kind) + cell(bits) + "</tr>"
 
 
-BETWEEN = """A filled square is a primitive that is covered: in arrays of every size, from every content, at every place and in every choice of
-directions. An empty one escapes."""
-INSIDE = """Inside a word it is covered where the test of this memory, with all its backgrounds, finds it at every two bits of every word, from
-every content. Only static primitives of two cells are judged there."""
+BETWEEN = beside(__file__, "report_between.txt")
+INSIDE = beside(__file__, "report_inside.txt")
 
 # a title, how many, what stands above the table, its head and its rows
 Escapes = Tuple[str, int, str, List[str], Iterator[str]]
@@ -154,7 +156,13 @@ def page(reports: Sequence[Report | InWordReport]) -> str:
     for what, count, note, columns, rows in escapes_of(reports):
         if count:
             head = "".join(f"<th>{column}</th>" for column in columns)
-            parts += [f"<h2>{count} {what}</h2>", f'<p class="small">{note}</p>', f"<table><tr>{head}</tr>", *rows, "</table>"]
+            parts += [
+                f"<h2>{count} {what}</h2>",
+                f'<p class="small">{note}</p>',
+                f"<table><tr>{head}</tr>",
+                *rows,
+                "</table>",
+            ]
     body = "\n".join(parts)
     top = f'<meta charset="utf-8">\n<title>{title}</title>\n<style>{STYLE}</style>'
     return f'<!DOCTYPE html>\n<html lang="en">\n<head>\n{top}\n</head>\n<body>\n{body}\n</body>\n</html>\n'
@@ -167,7 +175,10 @@ def both(name: str, inside: str | None) -> list[Report | InWordReport]:
         return [report]
     other = read_in_word(inside)
     if isinstance(report, InWordReport) or report.march != other.march or report.memory not in (None, other.memory):
-        raise ToolError(f"{inside} has to be a report of `inword`, and {name} one of `judge` or `compile` on the same march and memory")
+        raise ToolError(
+            f"{inside} has to be a report of `inword`, and {name} one of `judge` or `compile` on the same march and"
+            " memory"
+        )
     return [report, other]
 
 
@@ -209,17 +220,32 @@ def tester(words: list[str], options: dict[str, Any]) -> int:
 
 
 def main(arguments: list[str]) -> int:
-    allowed: dict[str, int | list[str]] = {"--json": 0, "--html": 1, "--all": 0, "--csv": 0, "--memory": [], "--mhz": 1, "--tester": 0, "--inword": 1}
+    allowed: dict[str, int | list[str]] = {
+        "--json": 0,
+        "--html": 1,
+        "--all": 0,
+        "--csv": 0,
+        "--memory": [],
+        "--mhz": 1,
+        "--tester": 0,
+        "--inword": 1,
+    }
     words, options = words_of(__doc__, arguments, allowed, 1)
     if "--all" in options or "--tester" in options:
         return all_reports(words, options) if "--all" in options else tester(words, options)
-    if len(words) != 1 or ("--json" in options) == ("--html" in options) or set(options) - {"--json", "--html", "--inword"}:
+    if (
+        len(words) != 1
+        or ("--json" in options) == ("--html" in options)
+        or set(options) - {"--json", "--html", "--inword"}
+    ):
         raise ToolError(f"one of --json and --html FILE\n{usage_of(__doc__)}")
     name, inside = words[0], options.get("--inword")
     reports = both(name, inside)
     if "--json" in options:
         print(json.dumps(as_object(reports), indent=1))
         return 0
-    refuse_inputs(options["--html"], [("the report itself", name), *([("the report of --inword", inside)] if inside else [])])
+    refuse_inputs(
+        options["--html"], [("the report itself", name), *([("the report of --inword", inside)] if inside else [])]
+    )
     write_whole(options["--html"], page(reports))
     return 0

@@ -5,14 +5,14 @@ usage: vidlakost schedule CHIPFILE                 the group, the start and the 
        vidlakost schedule LIST|CHIPFILE PINS..     of the whole that `vidlakost top` joins also its steps
        vidlakost schedule --help
 
-A unit begins in the cycle of its group's start, which is that of its reset, and is done in its last; the cycles count from
-the chip's own reset. Units of one group run side by side, and each group begins in the last cycle but one of the group before
-it."""
+A unit begins in the cycle of its group's start, which is that of its reset, and is done in its last; the cycles count
+from the chip's own reset. Units of one group run side by side, and each group begins in the last cycle but one of the
+group before it."""
 from __future__ import annotations
 
 from typing import Iterator
 
-from vidlakost_tools.access.block import is_chip_file
+from vidlakost_tools.access.target import is_chip_file
 from vidlakost_tools.chip import steps as system_steps, system as soc
 from vidlakost_tools.pages import chip_picture
 from vidlakost_tools.texts.chip import Chip, read_chip

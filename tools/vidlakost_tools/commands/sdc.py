@@ -20,8 +20,7 @@ import pathlib
 import re
 from typing import Any
 
-from vidlakost_tools.access import block as access_block
-from vidlakost_tools.access.block import Target, is_chip_file, is_list
+from vidlakost_tools.access.target import Target, is_chip_file, is_list
 from vidlakost_tools.access.constraints import Timing, constraints
 from vidlakost_tools.chip import access as system_access, system as soc
 from vidlakost_tools.files import marked, write_own
@@ -50,8 +49,8 @@ def target_of(path: str, pins: list[str]) -> Target:
         soc.planned(system, path)
         return system_access.of_system(system)
     if is_chip_file(path):
-        return access_block.of_chip(read_chip(path))
-    return access_block.of_memory(read_memory(path), None)
+        return Target.of_chip(read_chip(path))
+    return Target.of_memory(read_memory(path), None)
 
 
 def main(arguments: list[str]) -> int:

@@ -5,7 +5,8 @@ usage: vidlakost summary MARCH MEMORY .. [--mhz F] [--csv] [--cells]
 
 A line for each description: words, bits, backgrounds, the cycles of the whole test, and its milliseconds at F MHz (100
 where nothing is said); below, the cycles of all one after another and of the longest, which is what all at once take.
---cells has Yosys make gates of each module: cells, and flip-flops among them. --csv writes columns separated by commas."""
+--cells has Yosys make gates of each module: cells, and flip-flops among them. --csv writes columns separated by
+commas."""
 from __future__ import annotations
 
 import csv

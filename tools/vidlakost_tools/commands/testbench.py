@@ -5,9 +5,9 @@ usage: vidlakost testbench MARCH MEMORY FOLDER [--sv] [--stream] [--fault PRIM -
        vidlakost testbench CHIPFILE FOLDER --chip [--sv] [--stream] [--unit U --fault PRIM --victim W.B [--aggressor W.B]]
        vidlakost testbench --help
 
-Writes to FOLDER the testbench NAME_tb.v and the commands that it compares, NAME_commands.hex, below a comment one a line (a
-bit for a write, the address, the word), and a line of ones behind them; where they can't be read it ends by $fatal. Put a
-module NAME_bist beside it, for instance the one that `compile` writes:
+Writes to FOLDER the testbench NAME_tb.v and the commands that it compares, NAME_commands.hex, below a comment one a
+line (a bit for a write, the address, the word), and a line of ones behind them; where they can't be read it ends by
+$fatal. Put a module NAME_bist beside it, for instance the one that `compile` writes:
 
     vidlakost compile MARCH MEMORY LIST FOLDER/NAME_bist.v FOLDER/report
     cd FOLDER && iverilog -g2005 -o tb NAME_tb.v NAME_bist.v && vvp tb
@@ -23,9 +23,9 @@ With +dump in the call of the simulator it writes a waveform, NAME_tb.vcd.
 With --stream the testbench works the commands out by itself, and there is no NAME_commands.hex: for tests of more than
 2,000,000 cycles, of which `vectors` lists no commands.
 
-The line `fail F done C` is the last one; without it the run was ended before, as a module may, and nothing passed. With --sv it
-is NAME_tb.sv, of SystemVerilog, and the simulator ends with 1 where a port differs or the run is ended before its end, by
-$fatal; the last line of a run that passes is `NAME_tb: passed`.
+The line `fail F done C` is the last one; without it the run was ended before, as a module may, and nothing passed. With
+--sv it is NAME_tb.sv, of SystemVerilog, and the simulator ends with 1 where a port differs or the run is ended before
+its end, by $fatal; the last line of a run that passes is `NAME_tb: passed`.
 
 With --chip it writes the testbench CHIP_tb.v of a chip file, with the memory of each unit, beside which the file that the
 command `chip` writes has to stand; the fault is planted in the memory of unit U. The lines of a unit begin with `unit U`, and
@@ -34,8 +34,8 @@ its cycles count from its start, which `vidlakost schedule` tells; the others ar
     fail BITS done C                            at the end, the bit of unit 0 last
 
 With --assert it writes NAME_rule.sv in place of a testbench: assertions of the rule of the ports, each cycle from the
-first reset on, which are bound to the module NAME_bist, or to the one that the macro CONTROLLER names. It is a controller
-of its own, written from the description, and shares nothing with the module that `compile` writes."""
+first reset on, which are bound to the module NAME_bist, or to the one that the macro CONTROLLER names. It is a
+controller of its own, written from the description, and shares nothing with the module that `compile` writes."""
 from __future__ import annotations
 
 import pathlib
@@ -43,15 +43,15 @@ import re
 from typing import Any, Iterator, Mapping
 
 from vidlakost_tools.files import look_first, marked, refuse_no_folder, write_own
-from vidlakost_tools.program import run, vectors_of
+from vidlakost_tools.program import vectors_of
 from vidlakost_tools.text import template
 from vidlakost_tools.texts.chip import Chip, read_chip
-from vidlakost_tools.texts.faults import Primitive, Sense, place_of, read_primitive
 from vidlakost_tools.texts.march import Element, march_of
 from vidlakost_tools.texts.memory import Memory, read_memory
-from vidlakost_tools.tool import Refused, ToolError, number_of, usage_of, words_of
+from vidlakost_tools.tool import ToolError, number_of, usage_of, words_of
 from vidlakost_tools.verilog import rule_of_ports, stream
 from vidlakost_tools.verilog.bench_end import FINISH, over
+from vidlakost_tools.verilog.planted_fault import Fault, fault_of
 
 # what one memory needs: its port, itself, its commands, and their comparison; `cycle` is 0 in the cycle of its reset
 PART = template(__file__, "testbench_part.sv")
@@ -88,104 +88,6 @@ def gaps(memory: Memory, elements: list[Element], each_run: int) -> str:
     return "\n".join(lines)
 
 
-def act_condition(memory: Memory, sense: Sense, where: tuple[int, int]) -> str:
-    """Whether the command is the operation of this sense on its bit."""
-    word, bit = where
-    operation = sense.operations[0]
-    here = f"index == {memory.width}'d{word}"
-    if operation[0] == "r":
-        return f"{here} && !we"
-    return f"{here} && we && stored[{bit}] == 1'b{operation[1]}"
-
-
-class Fault:
-    """The planted fault as statements of the testbench."""
-
-    def __init__(
-        self, memory: Memory, primitive: Primitive, victim: tuple[int, int], aggressor: tuple[int, int] | None
-    ):
-        self.memory, self.primitive, self.victim, self.aggressor = memory, primitive, victim, aggressor
-
-    def set_victim(self) -> str:
-        return f"words[{self.victim[0]}][{self.victim[1]}] = 1'b{self.primitive.after};"
-
-    def acts(self) -> tuple[str, Sense, tuple[int, int]] | None:
-        for sense, where in ((self.primitive.victim, self.victim), (self.primitive.aggressor, self.aggressor)):
-            if sense and where and sense.operations:
-                return sense.operations[0], sense, where
-        return None
-
-    def declarations(self) -> str:
-        holds = [f"words[{self.victim[0]}][{self.victim[1]}] == 1'b{self.primitive.victim.state}"]
-        if self.primitive.aggressor and self.aggressor:
-            holds.append(f"words[{self.aggressor[0]}][{self.aggressor[1]}] == 1'b{self.primitive.aggressor.state}")
-        text = f"""
-  // the planted fault: whether its states hold, and whether the command is its operation
-  reg acts;
-  reg {self.memory_range()}stored;
-  function holds(input unused);
-    holds = {' && '.join(holds)};
-  endfunction
-"""
-        return text
-
-    def memory_range(self) -> str:
-        return f"[{self.memory.bits - 1}:0] "
-
-    def access(self) -> str:
-        acts = self.acts()
-        lines = [f"          stored = wdata ^ {self.memory.bits}'h{self.memory.polarity:x};"]
-        by_command = acts is not None and acts[0] != "t"
-        when = f"holds(1'b0) && {act_condition(self.memory, acts[1], acts[2])}" if acts and by_command else "1'b0"
-        lines.append(f"          acts = {when};")
-        lines.append("          if (we) words[index] = stored;")
-        lines.append(f"          else own = words[index] ^ {self.memory.bits}'h{self.memory.polarity:x};")
-        if by_command:
-            lines.append("          if (acts) begin")
-            lines.append(f"            {self.set_victim()}")
-            if self.primitive.answer is not None:
-                shown = self.primitive.answer ^ (self.memory.polarity >> self.victim[1] & 1)
-                lines.append(f"            own[{self.victim[1]}] = 1'b{shown};")
-            lines.append("          end")
-        return "\n".join(lines + self.closing("          "))
-
-    def closing(self, margin: str) -> list[str]:
-        return [] if self.acts() else [f"{margin}if (holds(1'b0)) {self.set_victim()}"]
-
-    def rest(self) -> str:
-        acts = self.acts()
-        if not acts or acts[0] != "t":
-            return ""
-        return f"\n        if (idle == 32'd{self.memory.pause} && holds(1'b0)) {self.set_victim()}"
-
-    def closed(self) -> str:
-        lines = self.closing("    ")
-        return "\n" + lines[0] if lines else ""
-
-
-def fault_of(options: Mapping[str, Any], march: str, memory_file: str, memory: Memory) -> Fault | None:
-    """The fault to plant. `benchfault` is asked for it first, so that what is no fault, or lies outside the memory, is
-    refused here as it is there."""
-    if "--fault" not in options:
-        if "--victim" in options or "--aggressor" in options:
-            raise ToolError("--victim and --aggressor are the cells of a --fault, and there is none")
-        return None
-    if "--victim" not in options:
-        raise ToolError("--fault needs the cell of its victim: --victim W.B")
-    aggressor = options.get("--aggressor", "none")
-    words = ["benchfault", march, memory_file, options["--fault"], aggressor, options["--victim"]]
-    status, said = run(*words)
-    # a test may be too long to be run by the program; the cells are then looked at here
-    if status > 1 and not (status == 12 and "--stream" in options):
-        raise Refused(words, said, status)
-    primitive = read_primitive(options["--fault"])
-    cells = [place_of(text) for text in (options["--victim"], aggressor) if text != "none"]
-    is_within = all(word < memory.words and bit < memory.bits for word, bit in cells)
-    if not is_within or len({word for word, _ in cells}) < len(cells):
-        raise ToolError("a cell of the fault lies outside the memory, or both are in one word", 11)
-    return Fault(memory, primitive, cells[0], cells[1] if cells[1:] else None)
-
-
 def content_of(options: Mapping[str, Any], memory: Memory) -> int:
     """The word that all words hold at first."""
     text = options.get("--content", "0")
@@ -200,7 +102,8 @@ def plain_access(memory: Memory) -> str:
 
 
 def numbers_of(lines: list[str], memory: Memory) -> Iterator[int]:
-    """The commands of `vectors`, each as a number: a bit for a write, the address, the word; and the mark behind them."""
+    """The commands of `vectors`, each as a number: a bit for a write, the address, the word; and the mark behind
+    them."""
     bits, both = memory.bits, memory.width + memory.bits
     for line in lines:
         kind, address, word = line.split()
@@ -213,7 +116,9 @@ def commands_of(options: Mapping[str, Any], tests: list[tuple[str, str, Memory]]
     if "--stream" in options:
         return {}
     return {
-        f"{memory.name}_commands.hex": "".join(f"{number:x}\n" for number in numbers_of(vectors_of(march, file), memory))
+        f"{memory.name}_commands.hex": "".join(
+            f"{number:x}\n" for number in numbers_of(vectors_of(march, file), memory)
+        )
         for march, file, memory in tests
     }
 
@@ -222,10 +127,10 @@ HEAD = "// A testbench of "
 CHIP = template(__file__, "testbench_chip.sv")
 # the names of a part that each unit has for itself; those of ports are then the ports of the chip
 OWN = set(
-    "rdata en we fail addr wdata words pending idle own index found commands command expected compares cycle j gap i port_differs "
-    "read_differs is_command want COUNT CYCLES index_of gap_before prepare compare_ports differs compare_read memory_cycle acts "
-    "stored holds work_out step_on at_background at_element at_visit at_operation at_index at_value element_behind operations_of "
-    "goes_down does background_word address_of".split()
+    "rdata en we fail addr wdata words pending idle own index found commands command expected compares cycle j gap i"
+    " port_differs read_differs is_command want COUNT CYCLES index_of gap_before prepare compare_ports differs"
+    " compare_read memory_cycle acts stored holds work_out step_on at_background at_element at_visit at_operation"
+    " at_index at_value element_behind operations_of goes_down does background_word address_of".split()
 )
 
 
@@ -240,7 +145,9 @@ def owned(text: str, number: int) -> str:
     return re.sub(r'"[^"]*"|//[^\n]*|(?P<call>\$)?(?P<name>\b[A-Za-z_]\w*)', renamed, text)
 
 
-def chip_testbench(chip: Chip, unit: int | None, fault: tuple[str, Fault | None] | None, options: Mapping[str, Any]) -> str:
+def chip_testbench(
+    chip: Chip, unit: int | None, fault: tuple[str, Fault | None] | None, options: Mapping[str, Any]
+) -> str:
     """The testbench of a chip; the fault is planted in the memory of a unit."""
     parts, numbers = [], range(len(chip.units))
     for number, it in enumerate(chip.units):
@@ -248,7 +155,9 @@ def chip_testbench(chip: Chip, unit: int | None, fault: tuple[str, Fault | None]
         text = owned(part(it.memory, it.elements, planted, 0, "", "--stream" in options), number)
         declared = f"fail_{number};\n"
         parts.append(text.replace(declared, f"{declared}  assign fail_{number} = fail[{number}];\n", 1))
-    ports = [f".{port}_{number}({port}_{number})" for number in numbers for port in ("rdata", "en", "we", "addr", "wdata")]
+    ports = [
+        f".{port}_{number}({port}_{number})" for number in numbers for port in ("rdata", "en", "we", "addr", "wdata")
+    ]
     differs = " || ".join(f"port_differs_{number} != 6'b0" for number in numbers)
     return CHIP.substitute(
         name=chip.name,
@@ -263,7 +172,11 @@ def chip_testbench(chip: Chip, unit: int | None, fault: tuple[str, Fault | None]
         starts="\n".join(f"      cycle_{number} = now - {it.start};" for number, it in enumerate(chip.units)),
         weights=" + ".join(f"(en_{number} ? {it.weight} : 0)" for number, it in enumerate(chip.units)),
         budget=chip.budget,
-        turns="\n".join(f"      {turn}_{number};" for number in numbers for turn in ("compare_ports", "compare_read", "memory_cycle")),
+        turns="\n".join(
+            f"      {turn}_{number};"
+            for number in numbers
+            for turn in ("compare_ports", "compare_read", "memory_cycle")
+        ),
         answers="\n".join(f"      rdata_{number} = pending_{number}[0];" for number in numbers),
         **ending_of(chip.name, f"{differs} || is_heavy || done_cycle != {chip.done}", "marches'", options),
     )
@@ -277,7 +190,9 @@ def ending_of(name: str, wrong: str, whose: str, options: Mapping[str, Any]) -> 
     return {"over": over(f"{name}_tb"), "ending": f"{fatal}    {FINISH}\n"}
 
 
-def part(memory: Memory, elements: list[Element], fault: Fault | None, content: int, done: str, is_streamed: bool) -> str:
+def part(
+    memory: Memory, elements: list[Element], fault: Fault | None, content: int, done: str, is_streamed: bool
+) -> str:
     """The declarations and tasks of one memory."""
     count = stream.number_of_commands(memory, elements)
     each_run = count // len(memory.backgrounds)
@@ -313,7 +228,11 @@ def part(memory: Memory, elements: list[Element], fault: Fault | None, content: 
 
 
 def testbench(
-    memory: Memory, elements: list[Element], fault: tuple[str, Fault | None] | None, content: int, options: Mapping[str, Any]
+    memory: Memory,
+    elements: list[Element],
+    fault: tuple[str, Fault | None] | None,
+    content: int,
+    options: Mapping[str, Any],
 ) -> str:
     return TOP.substitute(
         name=memory.name,
@@ -360,7 +279,17 @@ def write_chip(words: list[str], options: Mapping[str, Any]) -> None:
 
 
 def main(arguments: list[str]) -> None:
-    allowed = {"--fault": 1, "--victim": 1, "--aggressor": 1, "--content": 1, "--sv": 0, "--assert": 0, "--chip": 0, "--unit": 1, "--stream": 0}
+    allowed = {
+        "--fault": 1,
+        "--victim": 1,
+        "--aggressor": 1,
+        "--content": 1,
+        "--sv": 0,
+        "--assert": 0,
+        "--chip": 0,
+        "--unit": 1,
+        "--stream": 0,
+    }
     words, options = words_of(__doc__, arguments, allowed, 2, 3)
     if "--chip" in options:
         return write_chip(words, options)

@@ -46,7 +46,7 @@ import pathlib
 import tempfile
 from typing import Any, Mapping
 
-from vidlakost_tools.chip import system as soc, text as system_text
+from vidlakost_tools.chip import bench as system_bench, system as soc, text as system_text
 from vidlakost_tools.chip.steps import plan
 from vidlakost_tools.chip.system import System
 from vidlakost_tools.collar.clock_mux import chosen_clocks, clock_mux
@@ -91,7 +91,9 @@ def models(system: System, given: Mapping[str, str], folder: pathlib.Path) -> di
     for name in kept:
         tell(f"top: {folder / name}.v is there and was not written by this tool, so it stays")
     texts = {f"{name}.v": text for name, (text, _) in found.items() if name not in kept}
-    for cell in {placed.macro.clock_cell.cell: placed.macro.clock_cell for placed in system.collars if placed.macro.clock_cell}.values():
+    for cell in {
+        placed.macro.clock_cell.cell: placed.macro.clock_cell for placed in system.collars if placed.macro.clock_cell
+    }.values():
         if cell.cell not in given and (not (folder / f"{cell.cell}.v").exists() or is_own(folder / f"{cell.cell}.v")):
             texts[f"{cell.cell}.v"] = cell.model(MARK)
     return texts
@@ -143,14 +145,22 @@ def texts_of(system: System, path: str, folder: pathlib.Path, vendors: list[str]
     words = {placed.word.name: placed for placed in system.collars}
     collars = {f"{name}_collar.v": collar(placed.macro, placed.word, "open") for name, placed in words.items()}
     modules = models(system, dict(given), folder)
-    whole = {f"{system.name}_system_tb.sv": system_text.bench(system)}
+    whole = {f"{system.name}_system_tb.sv": system_bench.bench(system)}
     whole[f"{system.name}_system.v"] = system_text.Text(system).text()
     whole[f"{system.name}_boxes.v"] = boxes([placed.macro for placed in system.collars])
-    macros = list(dict.fromkeys(f"{placed.macro.name}.v" for placed in system.collars if placed.macro.name not in dict(given)))
+    macros = list(
+        dict.fromkeys(f"{placed.macro.name}.v" for placed in system.collars if placed.macro.name not in dict(given))
+    )
     cells = {f"{placed.macro.clock_cell.cell}.v" for placed in system.collars if placed.macro.clock_cell}
     macros += sorted(name for name in cells if name[:-2] not in dict(given))
     own = [name for name in macros if name in modules or (folder / name).exists()]
-    listed = [*(name for name in whole if not name.endswith("_boxes.v")), *collars, *(name for name in made if name.endswith(".v")), *own, *vendors]
+    listed = [
+        *(name for name in whole if not name.endswith("_boxes.v")),
+        *collars,
+        *(name for name in made if name.endswith(".v")),
+        *own,
+        *vendors,
+    ]
     return {**whole, **collars, **made, **modules, "files.f": "\n".join([f"{MARK} top", *listed, ""])}
 
 
@@ -164,7 +174,9 @@ def texts_in_place(system: System, folder: pathlib.Path, vendors: list[str]) -> 
 
 def give_clocks(system: System, options: dict[str, Any]) -> None:
     """Gives the collars the cell that chooses their clocks, or says that none is named."""
-    choices = {placed.word.name: chosen_clocks(placed.macro) for placed in system.collars if chosen_clocks(placed.macro)}
+    choices = {
+        placed.word.name: chosen_clocks(placed.macro) for placed in system.collars if chosen_clocks(placed.macro)
+    }
     if "--clock-mux" in options:
         for placed in [placed for placed in system.collars if placed.word.name in choices]:
             placed.macro.clock_cell = clock_mux(options["--clock-mux"])
@@ -176,19 +188,30 @@ def give_clocks(system: System, options: dict[str, Any]) -> None:
 def tell_untested(system: System) -> None:
     """Says what of the macros is not tested."""
     words = {placed.word.name: placed for placed in system.collars}
-    left = [Untested(f"{name}.{one.pin}", one.why) for name, placed in words.items() for one in untested(placed.macro, placed.word)]
+    left = [
+        Untested(f"{name}.{one.pin}", one.why)
+        for name, placed in words.items()
+        for one in untested(placed.macro, placed.word)
+    ]
     if left:
         tell(f"top: not tested: {told_pins(left)}")
     same = [name for name, placed in words.items() if alike(placed.word)]
     if same:
-        told = "two bits of a word hold the same in every background, and the test does not see where one hangs on the other"
+        told = (
+            "two bits of a word hold the same in every background, and the test does not see where one hangs on the"
+            " other"
+        )
         tell(f"top: of {', '.join(same)}: {told}")
 
 
 def main(arguments: list[str]) -> int:
-    words, options = words_of(__doc__, arguments, {"--model": [], "--access": 0, "--in-place": 0, "--clock-mux": 1, "--plan": 0}, 2)
+    words, options = words_of(
+        __doc__, arguments, {"--model": [], "--access": 0, "--in-place": 0, "--clock-mux": 1, "--plan": 0}, 2
+    )
     if {"--access", "--in-place"} <= set(options):
-        raise ToolError(f"--access is of a module that joins the memories, and --in-place writes none\n{usage_of(__doc__)}")
+        raise ToolError(
+            f"--access is of a module that joins the memories, and --in-place writes none\n{usage_of(__doc__)}"
+        )
     path, *files = words
     system = soc.read_system(path)
     system.has_access = "--access" in options

@@ -8,13 +8,14 @@ usage: vidlakost trace REPORT                    a line for each escape: the rea
        vidlakost trace --help
 
 An escape never acts; or it acts and is written over before a read of the victim; or it acts and is not read again; or,
-inside a word, the write in which it acts sets the victim as the fault does. In a table of steps `*` marks where it acts, and
-behind the cells stands what a read answers. Of a report of `decoder` a PRIM is the name of a fault, as 'both and', and the
-steps tell which of its two addresses is visited. Of a report of `linked` it is a link, as 'LF1 <0w1/0/-> <0w0/1/->', and the
-number of the primitive that acts stands for the `*`. Inside a word the cells are two bits, the aggressor's first, and an operation
-is the march's: in a background it writes or expects the two digits behind it. The calls name a file with the march, REPORT.m,
-which is written beside the report; a dynamic escape has none, and --run replays it in a plain model of the definition. It ends
-with 1 where a read differs at an escape, which no report of the program has. `vidlakost replay REPORT` is --calls."""
+inside a word, the write in which it acts sets the victim as the fault does. In a table of steps `*` marks where it
+acts, and behind the cells stands what a read answers. Of a report of `decoder` a PRIM is the name of a fault, as 'both
+and', and the steps tell which of its two addresses is visited. Of a report of `linked` it is a link, as 'LF1 <0w1/0/->
+<0w0/1/->', and the number of the primitive that acts stands for the `*`. Inside a word the cells are two bits, the
+aggressor's first, and an operation is the march's: in a background it writes or expects the two digits behind it. The
+calls name a file with the march, REPORT.m, which is written beside the report; a dynamic escape has none, and --run
+replays it in a plain model of the definition. It ends with 1 where a read differs at an escape, which no report of the
+program has. `vidlakost replay REPORT` is --calls."""
 from __future__ import annotations
 
 import os
@@ -81,7 +82,9 @@ def inside_word(report: InWordReport, memory: Memory) -> Told:
 def links(report: LinkedReport) -> Told:
     for verdict in report.escapes:
         why, steps = linked.reason(verdict, report.elements)
-        yield verdict.primitive, f"{verdict.primitive}: {why}", steps[-1].differs, [shown(verdict, step) for step in steps]
+        yield verdict.primitive, f"{verdict.primitive}: {why}", steps[-1].differs, [
+            shown(verdict, step) for step in steps
+        ]
 
 
 def between_words(report: Report | DecoderReport) -> Told:
@@ -90,7 +93,9 @@ def between_words(report: Report | DecoderReport) -> Told:
             why, steps = decoder.reason(verdict, report.elements)
         else:
             why, steps = reasons.reason(verdict, report.elements)
-        yield verdict.primitive, f"{verdict.primitive} {verdict.kind}: {why}", steps[-1].differs, [shown(verdict, step) for step in steps]
+        yield verdict.primitive, f"{verdict.primitive} {verdict.kind}: {why}", steps[-1].differs, [
+            shown(verdict, step) for step in steps
+        ]
 
 
 def march_file(report: Report, path: pathlib.Path) -> pathlib.Path:

@@ -90,7 +90,9 @@ def said_of(command: str, march: object, words: Words) -> Said:
 def said_inside(march: str, memory: str, faults: str, backgrounds: str = "") -> Said:
     """What `inword` says of the march in a file."""
     verdicts = judged_in_word(march, memory, faults).verdicts
-    return Said("inword", len(verdicts), [f"{it.primitive} {it.kind}" for it in verdicts if not it.covered], backgrounds)
+    return Said(
+        "inword", len(verdicts), [f"{it.primitive} {it.kind}" for it in verdicts if not it.covered], backgrounds
+    )
 
 
 def with_found(march: object, elements: List[Element], words: Words) -> Said:

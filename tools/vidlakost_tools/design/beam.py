@@ -16,7 +16,8 @@ Watch = Callable[[int, int], None]
 
 
 class Node(NamedTuple):
-    """A march whose last element may grow: what is left behind it, and before its last element (None: that is the first)."""
+    """A march whose last element may grow: what is left behind it, and before its last element (None: that is the
+    first)."""
 
     state: State
     due: int
@@ -47,7 +48,8 @@ def weight(state: State) -> int:
 
 
 class Beam:
-    """The search. `width` marches of each length are kept; behind a march that is given it adds elements to that one."""
+    """The search. `width` marches of each length are kept; behind a march that is given it adds elements to that
+    one."""
 
     def __init__(self, survivors: Survivors, limits: Limits, width: int, behind: Sequence[Part] = (), seed: int = 1):
         self.survivors, self.limits, self.width = survivors, limits, width
@@ -83,7 +85,8 @@ class Beam:
             yield from self.next_elements(node, True)
 
     def starts(self) -> list[Node]:
-        """The first operations, or the march that is given. Where the primitives are their own complement, so are the marches."""
+        """The first operations, or the march that is given. Where the primitives are their own complement, so are the
+        marches."""
         if self.behind:
             state, due = self.survivors.run(elements_from(self.behind))
             done: Chain = ()
@@ -110,8 +113,8 @@ class Beam:
         return complete, [it[3] for it in ranked[len(complete) : len(complete) + self.width]]
 
     def run(self, most: int, watch: Watch) -> Iterator[list[Parts]]:
-        """The complete marches that it finds, those of a length together, the shortest first, of at most `most` operations more
-        than are given."""
+        """The complete marches that it finds, those of a length together, the shortest first, of at most `most`
+        operations more than are given."""
         nodes, stale = self.starts(), 0
         if not any(nodes[0].state):
             yield [nodes[0].parts()]

@@ -1,7 +1,9 @@
-"""A search for marches of a regular form: behind a first write blocks of elements, each the complement of the one before.
+"""A search for marches of a regular form: behind a first write blocks of elements, each the complement of the one
+before.
 
-A block is an element S that turns 0 into 1 and its complement, in directions of their own, and perhaps both once more in the
-opposite ones. Many of the marches of the literature have this form; few enough have it that a search of it goes far."""
+A block is an element S that turns 0 into 1 and its complement, in directions of their own, and perhaps both once more
+in the opposite ones. Many of the marches of the literature have this form; few enough have it that a search of it goes
+far."""
 from __future__ import annotations
 
 import random
@@ -16,8 +18,8 @@ COMPLEMENT = {"w0": "w1", "w1": "w0", READ: READ}
 
 
 class Block(NamedTuple):
-    """A march of blocks whose last one may grow: what is left before that, its elements, S, and the directions of S and of
-    its complement."""
+    """A march of blocks whose last one may grow: what is left before that, its elements, S, and the directions of S and
+    of its complement."""
 
     before: State
     done: Tuple[Part, ...]

@@ -1,10 +1,10 @@
-"""That no shorter march covers a list: an exhaustive search, length by length, of static primitives, losses over a pause and a
-wrong decoder.
+"""That no shorter march covers a list: an exhaustive search, length by length, of static primitives, losses over a
+pause and a wrong decoder.
 
 Three things make it short. An element is left out where another of at most the same operations leaves no more, whatever
-follows. Of all states behind elements each is visited once. And a march is given up where what is left of a few instances
-asks for more operations of a kind (reads, writes of the bit that is held, writes of the other) than it may still have, which
-tables tell of each kind by itself: these numbers add up, since an operation is of one kind."""
+follows. Of all states behind elements each is visited once. And a march is given up where what is left of a few
+instances asks for more operations of a kind (reads, writes of the bit that is held, writes of the other) than it may
+still have, which tables tell of each kind by itself: these numbers add up, since an operation is of one kind."""
 from __future__ import annotations
 
 import collections
@@ -64,7 +64,8 @@ class Start:
 
 
 class Kind(NamedTuple):
-    """A table of a kind of operations: the instances that it looks at, and how many operations what is left of them asks for."""
+    """A table of a kind of operations: the instances that it looks at, and how many operations what is left of them
+    asks for."""
 
     mask: int
     least: Dict[Left, int]
@@ -87,8 +88,8 @@ LOOKED_AT = 8
 
 
 class Bound:
-    """The elements that a shortest march can have, or what is added to a march that is given; and the tables of the kinds.
-    `watch` hears how far it is."""
+    """The elements that a shortest march can have, or what is added to a march that is given; and the tables of the
+    kinds. `watch` hears how far it is."""
 
     def __init__(self, survivors: Survivors, limits: Limits, behind: Sequence[Part], watch: Callable[[str], None]):
         self.survivors, self.limits, self.watch = survivors, limits, watch
@@ -119,7 +120,8 @@ class Bound:
         return made
 
     def sequences_from(self, due: int) -> List[Visit]:
-        """The operations on cells that hold `due` that no others of at most their costs stand for, however they go on."""
+        """The operations on cells that hold `due` that no others of at most their costs stand for, however they go
+        on."""
         nothing = self.effect((), due)
         found: List[Visit] = []
         layer: List[Operations] = [()]
@@ -130,9 +132,16 @@ class Bound:
                     operations = (*before, operation)
                     if len(operations) > self.limits.operations:
                         continue
-                    made = Visit(operations, left_by(operations, due), self.effect(operations, due), costs_of(operations, due))
-                    if made.due == due and not nothing & ~made.effect or any(
-                        it.due == made.due and not it.effect & ~made.effect and is_within(it.costs, made.costs) for it in found
+                    made = Visit(
+                        operations, left_by(operations, due), self.effect(operations, due), costs_of(operations, due)
+                    )
+                    if (
+                        made.due == due
+                        and not nothing & ~made.effect
+                        or any(
+                            it.due == made.due and not it.effect & ~made.effect and is_within(it.costs, made.costs)
+                            for it in found
+                        )
                     ):
                         continue
                     found.append(made)
@@ -178,7 +187,8 @@ class Bound:
     # ---- tables of the kinds
 
     def chosen(self, number: int, most: int) -> int:
-        """The instances that a table looks at: those of primitives that such an operation sensitises, the hard ones first."""
+        """The instances that a table looks at: those of primitives that such an operation sensitises, the hard ones
+        first."""
         ranked = []
         for place, it in enumerate(self.survivors.instances):
             rank = difficulty(it, number)
@@ -227,8 +237,8 @@ class Bound:
     # ---- the search
 
     def search(self, most: int, steps: Optional[int] = None) -> Parts | None:
-        """A shortest march, if one of at most `most` operations is there; None where none is. `TimeoutError` where it has
-        tried `steps` elements."""
+        """A shortest march, if one of at most `most` operations is there; None where none is. `TimeoutError` where it
+        has tried `steps` elements."""
         best: Dict[Left, int] = {}
         layers: List[List[Tuple[Left, Chain]]] = [[] for _ in range(most + 1)]
         for start in self.starts:
@@ -251,7 +261,11 @@ class Bound:
                     tried += 1
                     pauses = (due >> 1) + paused
                     made = (good & gg | wrong & wg, good & gw | wrong & ww, behind + 2 * pauses)
-                    if pauses > self.survivors.pauses or best.get(made, most + 1) <= longer or longer + self.asked(made) > most:
+                    if (
+                        pauses > self.survivors.pauses
+                        or best.get(made, most + 1) <= longer
+                        or longer + self.asked(made) > most
+                    ):
                         continue
                     best[made] = longer
                     layers[longer].append((made, (Part(way(down), operations), (PAUSE, done) if paused else done)))

@@ -1,4 +1,5 @@
-"""The shortest march that is found for a list, and whether a search of all shorter ones shows that it is the shortest."""
+"""The shortest march that is found for a list, and whether a search of all shorter ones shows that it is the
+shortest."""
 from __future__ import annotations
 
 import contextlib
@@ -17,14 +18,15 @@ from vidlakost_tools.design.survivors import Survivors
 LONGEST, MOST = 160, 256
 # how many elements the search of all shorter marches tries, unless it is to go on to its end
 TRIED = 8_000_000
-# how many marches of a length are looked at where one is chosen, and by how many operations they may be longer than the first
+# how many marches of a length are looked at where one is chosen, and by how many operations they may be longer than the
+# first
 CHOSEN_OF, LONGER_BY = 24, 4
 
 
 @dataclasses.dataclass
 class Wish:
-    """What a march has to cover, and what it may have. `behind` is the march that it extends; `fits` says whether a march
-    that covers all this does what else is asked for (None: nothing is)."""
+    """What a march has to cover, and what it may have. `behind` is the march that it extends; `fits` says whether a
+    march that covers all this does what else is asked for (None: nothing is)."""
 
     instances: Sequence[Instance]
     decoder: Sequence[DecoderInstance]
@@ -124,7 +126,8 @@ class Finder:
             self.nearest = self.nearest or beam.nearest[1]
 
     def exhaust(self, tried: Optional[int]) -> None:
-        """Has the bound grow for the primitives of which it can be shown: the static ones, and then with those of pauses."""
+        """Has the bound grow for the primitives of which it can be shown: the static ones, and then with those of
+        pauses."""
         self.grow([it for it in self.wish.instances if is_static(it)], tried)
         if self.survivors.pauses and not self.is_shortest:
             self.grow([it for it in self.wish.instances if is_static(it) or it.links[0].acts == ["t"]], tried)

@@ -54,14 +54,15 @@ class Instance:
 
 @dataclasses.dataclass
 class DecoderInstance:
-    """A fault of the address decoder; of two cells that answer together whether the address of both is the lower one."""
+    """A fault of the address decoder; of two cells that answer together whether the address of both is the lower
+    one."""
 
     name: str
     is_lower: bool = True
 
     def is_caught(self, operations: Sequence[str], down: bool, due: int, reads: Iterable[int]) -> bool:
-        """Whether an element on cells that hold `due` catches it; `reads` are the bits that it expects. What is needed of
-        single elements is what `decoder` decides by."""
+        """Whether an element on cells that hold `due` catches it; `reads` are the bits that it expects. What is needed
+        of single elements is what `decoder` decides by."""
         if self.name.startswith("none"):
             return 1 - int(self.name[-1]) in reads
         turns = operations[:1] == (READ,) and left_by(operations, due) != due
@@ -78,8 +79,8 @@ def left_by(operations: Sequence[str], due: int) -> int:
 
 
 def instances_of(text: str) -> list[Instance]:
-    """The instances of a primitive that decide: of one with two operations in sequence also those between other cells, which
-    part the two."""
+    """The instances of a primitive that decide: of one with two operations in sequence also those between other cells,
+    which part the two."""
     primitive = read_primitive(text)
     around = [(False, False)]
     if len(primitive.operations) == 2:
@@ -102,7 +103,10 @@ def linked_instances(name: str, first: str, second: str) -> list[Instance]:
     made = []
     for order in itertools.permutations(range(len(roles))):
         place = dict(zip(roles, order))
-        at = [place["a" if name.startswith("LF2aa") else "ab"[count]] if it.aggressor else None for count, it in enumerate(both)]
+        at = [
+            place["a" if name.startswith("LF2aa") else "ab"[count]] if it.aggressor else None
+            for count, it in enumerate(both)
+        ]
         made.append(Instance(name, [Link(it, cell) for it, cell in zip(both, at)], place["v"]))
     return made
 

@@ -1,4 +1,5 @@
-"""Whether elements of at most so many operations can cover a primitive at all: what can be left of it alone, exhaustively."""
+"""Whether elements of at most so many operations can cover a primitive at all: what can be left of it alone,
+exhaustively."""
 from __future__ import annotations
 
 import itertools
@@ -16,8 +17,8 @@ def sequences(most: int) -> List[Operations]:
 
 
 def can_cover(name: str, operations: int) -> bool:
-    """Whether some march of such elements covers a primitive. What is left of it and what good cells hold are few different
-    things, and each is looked at once."""
+    """Whether some march of such elements covers a primitive. What is left of it and what good cells hold are few
+    different things, and each is looked at once."""
     survivors = Survivors(instances_of(name))
     elements = sequences(min(operations, ENOUGH))
     todo = [(survivors.begun(it, down), left_by(it, 0)) for it in elements if it[0] != READ for down in (False, True)]
@@ -27,7 +28,9 @@ def can_cover(name: str, operations: int) -> bool:
         if not any(state):
             return True
         behinds = [
-            (applied(state, survivors.table(it, down, due)), left_by(it, due)) for it in elements for down in (False, True)
+            (applied(state, survivors.table(it, down, due)), left_by(it, due))
+            for it in elements
+            for down in (False, True)
         ]
         if survivors.pauses:
             behinds.append((survivors.paused(state, due), due))

@@ -14,7 +14,8 @@ CLEAR = "\r\033[K"
 
 
 class Shown(Progress):
-    """The best march so far, how short one can be at best, and the time: on a terminal in a line that is written over."""
+    """The best march so far, how short one can be at best, and the time: on a terminal in a line that is written
+    over."""
 
     def __init__(self, out: Optional[TextIO], clock: Optional[Clock]):
         self.out, self.clock = out, clock
@@ -78,7 +79,11 @@ def why(answers: Answers, said: Said, name: str) -> str:
         return f"no list of at most {most} background{'s' if most > 1 else ''} was found with which it is covered"
     if said.command == "inword":
         is_found = answers.finder.best is not None
-        return "March SS does not cover it inside such a word" if is_found else "no march was found that covers it there too"
+        return (
+            "March SS does not cover it inside such a word"
+            if is_found
+            else "no march was found that covers it there too"
+        )
     if name.split(" ")[0] in answers.beyond:
         most = answers.words.limits.operations
         return f"no march whose elements have at most {most} operation{'s' if most > 1 else ''} covers it"

@@ -1,7 +1,8 @@
 """What survives a march: all instances at once, a bit of an integer for each.
 
 The victim alone can be wrong, so an instance is in one of two states, or of four where it waits for the second of two
-operations. Since a march may begin with any content, an instance can be in several of them; it is covered where none is left."""
+operations. Since a march may begin with any content, an instance can be in several of them; it is covered where none is
+left."""
 from __future__ import annotations
 
 import dataclasses
@@ -12,7 +13,8 @@ from vidlakost_tools.design.instances import READ, DecoderInstance, Instance, le
 from vidlakost_tools.texts.march import Element
 
 Operations = Tuple[str, ...]
-# the instances whose victim may hold what it has to, those whose may hold the other bit, and the same of those that wait
+# the instances whose victim may hold what it has to, those whose may hold the other bit, and the same of those that
+# wait
 State = Tuple[int, int, int, int]
 # of each of these states what is left in which state
 Table = Tuple[State, State, State, State]
@@ -41,7 +43,10 @@ class LinkMasks:
         self.alone = mask(lambda it: it.links[number].aggressor is None)
         self.at = [mask(lambda it: it.links[number].aggressor == cell) for cell in range(cells)]
         self.acts, self.first, self.second = (
-            [{operation: acting(cell, operation, place, count) for operation in ("w0", "w1", READ)} for cell in range(cells)]
+            [
+                {operation: acting(cell, operation, place, count) for operation in ("w0", "w1", READ)}
+                for cell in range(cells)
+            ]
             for place, count in ((0, 1), (0, 2), (1, 2))
         )
         self.leaves = [mask(lambda it: it.links[number].primitive.after == bit) for bit in BITS]
@@ -69,8 +74,8 @@ class LinkMasks:
         return made
 
     def fits(self, cell: int, down: bool, before: int, current: int, end: int) -> int:
-        """The instances whose aggressor holds what is asked for, while a cell is visited that holds `current`: the cells
-        behind it hold `end`, and those before it what they held."""
+        """The instances whose aggressor holds what is asked for, while a cell is visited that holds `current`: the
+        cells behind it hold `end`, and those before it what they held."""
         key = (cell, down, before, current, end)
         if key not in self.known:
             visited = self.visited[cell][down]
@@ -107,7 +112,9 @@ class Survivors:
         self.waits = any(self.links[0].plainly)
         self.pauses = sum(1 for mask in self.links[0].pausing if mask)
         self.victim_at = [self.mask(lambda it: it.victim == cell) for cell in self.cells]
-        self.touched = [LinkMasks.union([at, *(link.at[cell] for link in self.links)]) for cell, at in enumerate(self.victim_at)]
+        self.touched = [
+            LinkMasks.union([at, *(link.at[cell] for link in self.links)]) for cell, at in enumerate(self.victim_at)
+        ]
         # those whose aggressors, if there are two, may hold different bits
         self.apart = self.mask(lambda it: len({link.aggressor for link in it.links} | {None}) != 2)
         self.below, self.above = self.mask(lambda it: it.below), self.mask(lambda it: it.above)
@@ -158,8 +165,11 @@ class Survivors:
                 behind[after] |= some & ~waiting
         return behind
 
-    def visited(self, held: Held, cell: int, down: bool, operations: Operations, before: Sequence[int], end: int) -> Held:
-        """What is left behind the operations on a cell; `before` is what the aggressors hold that no visit has reached."""
+    def visited(
+        self, held: Held, cell: int, down: bool, operations: Operations, before: Sequence[int], end: int
+    ) -> Held:
+        """What is left behind the operations on a cell; `before` is what the aggressors hold that no visit has
+        reached."""
         current = before
         for operation in operations:
             fits = [link.fits(cell, down, was, now, end) for link, was, now in zip(self.links, before, current)]
@@ -184,7 +194,9 @@ class Survivors:
             return 0
         reads = {left_by(operations[:place], due) for place, operation in enumerate(operations) if operation == READ}
         count = len(self.instances)
-        return sum(1 << count + place for place, it in enumerate(self.decoder) if it.is_caught(operations, down, due, reads))
+        return sum(
+            1 << count + place for place, it in enumerate(self.decoder) if it.is_caught(operations, down, due, reads)
+        )
 
     def begun(self, operations: Operations, down: bool = False) -> State:
         """What is left of all contents behind a first element, which begins with a write."""
@@ -222,7 +234,8 @@ class Survivors:
     # ---- marches
 
     def run(self, elements: Sequence[Element]) -> tuple[State, int]:
-        """What is left behind a march, in whatever direction the elements of order any go, and what good cells then hold."""
+        """What is left behind a march, in whatever direction the elements of order any go, and what good cells then
+        hold."""
         state: State = (0, 0, 0, 0)
         due = 0
         for place, element in enumerate(elements):

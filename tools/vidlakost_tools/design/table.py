@@ -7,7 +7,7 @@ import pathlib
 from typing import Iterator, List, Sequence, Set
 
 from vidlakost_tools.program import ROOT, with_text
-from vidlakost_tools.text import lines_of, read_text
+from vidlakost_tools.text import beside, lines_of, read_text
 from vidlakost_tools.texts.decoder import decoded
 from vidlakost_tools.texts.linked import linked
 from vidlakost_tools.texts.march import elements_of, length_of
@@ -21,26 +21,14 @@ LIST = "all\nDRF\ndyn1\ndyn2\n"
 # what a march covers beside a list, and the column that the tables have for it
 BESIDE = {"-": "", "decoder": "AF", "linked": "LF"}
 TITLE = "## Shortest marches"
-INTRODUCTION = f"""
-{TITLE}
-
-How short a march of a list can be, as `vidlakost design` finds it. `examples/shortest` has the marches; the program says of each that it covers its list. Where the length is the least one, the search tried all shorter marches, and none covers the static primitives of the list and what it loses over pauses. That is a test of the search, and not a proof. Elsewhere the table has the shortest march that was found, and how long one is at least. AF has the faults of the address decoder, LF the linked faults. The last column has the shortest march of the literature here that covers the same.
-
-| List | Length | At least | March | Of the literature |
-|---|---|---|---|---|
-"""
-SAME = """
-The next table has, for each march of the literature, the shortest one that was found to cover the same unlinked faults: static, over a pause, of two operations, and of the address decoder where all five are. Several of these marches were made for linked faults or stuck-open cells, which no list has. A shorter one then loses what they were made for.
-
-| March | Length | Shortest | At least | March of the same |
-|---|---|---|---|---|
-"""
+INTRODUCTION = beside(__file__, "table_introduction.md")
+SAME = beside(__file__, "table_same.md")
 
 
 @dataclasses.dataclass
 class Entry:
-    """A march: the words of its list (or `as` and the file of a march that covers the same), what it covers beside that, how
-    many operations a search of all shorter ones shows to be needed, and its text."""
+    """A march: the words of its list (or `as` and the file of a march that covers the same), what it covers beside
+    that, how many operations a search of all shorter ones shows to be needed, and its text."""
 
     words: List[str]
     beside: str
@@ -104,7 +92,11 @@ class Published:
     has_links: bool
 
     def covers(self, names: Set[str], beside: str) -> bool:
-        return names <= self.covered and (beside != "decoder" or self.has_decoder) and (beside != "linked" or self.has_links)
+        return (
+            names <= self.covered
+            and (beside != "decoder" or self.has_decoder)
+            and (beside != "linked" or self.has_links)
+        )
 
 
 def entries() -> List[Entry]:
@@ -114,7 +106,9 @@ def entries() -> List[Entry]:
         if line and not line.startswith("#"):
             parts = [part.strip() for part in line.split("|")]
             if len(parts) != 4 or parts[1] not in BESIDE or not parts[2].isdecimal():
-                raise ToolError(f"{FILE}:{number}: the line has not a list, `-`, `decoder` or `linked`, a number and a march")
+                raise ToolError(
+                    f"{FILE}:{number}: the line has not a list, `-`, `decoder` or `linked`, a number and a march"
+                )
             made.append(Entry(parts[0].split(), parts[1], int(parts[2]), parts[3]))
     return made
 

@@ -71,7 +71,11 @@ class Words:
     @property
     def inputs(self) -> List[Tuple[str, str]]:
         """The files that are read."""
-        named = [("the list itself", self.faults), ("the march itself", self.behind), ("the memory itself", self.in_word)]
+        named = [
+            ("the list itself", self.faults),
+            ("the march itself", self.behind),
+            ("the memory itself", self.in_word),
+        ]
         return [(what, name) for what, name in [*named, ("the memory itself", self.timed)] if name is not None]
 
 

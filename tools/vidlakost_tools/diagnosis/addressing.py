@@ -1,5 +1,5 @@
-"""Words and rows that reach others than their own: bits of the address that are open, stuck or bridged, and faults of the
-decoder at one word or one row."""
+"""Words and rows that reach others than their own: bits of the address that are open, stuck or bridged, and faults of
+the decoder at one word or one row."""
 from __future__ import annotations
 
 import dataclasses
@@ -17,8 +17,9 @@ Way = Callable[[Bits], List[Bits]]
 
 
 class Groups:
-    """What a test finds in a group of words that reach one another, each kind of group once: only the order of the words in the
-    array counts. Two words that are read at once give their and or their or; where none is, the answer is a constant."""
+    """What a test finds in a group of words that reach one another, each kind of group once: only the order of the
+    words in the array counts. Two words that are read at once give their and or their or; where none is, the answer is
+    a constant."""
 
     def __init__(self, test: Test):
         self.test = test
@@ -74,8 +75,8 @@ def silent_rules(test: Test) -> list[str]:
 
 @dataclasses.dataclass(frozen=True)
 class AddressLine:
-    """A bit of the address or of the physical index: of which bits of an index it is the exclusive or, with a constant, and which
-    bits of the index turn with it."""
+    """A bit of the address or of the physical index: of which bits of an index it is the exclusive or, with a constant,
+    and which bits of the index turn with it."""
 
     name: str
     mask: int
@@ -96,7 +97,9 @@ def address_lines(test: Test) -> list[list[AddressLine]]:
         turns = sum(1 << place for place, (bits, _) in enumerate(back) if bit in bits)
         found.append(AddressLine(f"address bit {bit}", sum(1 << term for term in terms), constant, turns))
     inner = [AddressLine(f"index bit {bit}", 1 << bit, 0, 1 << bit) for bit in range(memory.width)]
-    same = {(line.mask, line.constant, line.turns) for line in found} == {(line.mask, line.constant, line.turns) for line in inner}
+    same = {(line.mask, line.constant, line.turns) for line in found} == {
+        (line.mask, line.constant, line.turns) for line in inner
+    }
     return [found] if same else [found, inner]
 
 
@@ -158,7 +161,9 @@ def address_faults(test: Test) -> Iterator[AddressFault]:
                 for rule in silent:
                     yield AddressFault((line,), f"selects nothing at {value}, which reads {rule}", lost(value), rule)
             for rule in ("and", "or"):
-                yield AddressFault((line,), f"selects for both values, read as their {rule}", lambda bits: [(0,), (1,)], rule)
+                yield AddressFault(
+                    (line,), f"selects for both values, read as their {rule}", lambda bits: [(0,), (1,)], rule
+                )
         for pair in itertools.combinations(lines, 2):
             for name, way in bridges:
                 for rule in outside:
@@ -243,8 +248,8 @@ class Misled:
 
 
 def partners(evidence: Evidence, unit: Unit, x: int, seen: Sequence[int]) -> Iterator[range]:
-    """The units that may belong to one that is wrong: the other wrong one, or all on one side, of which only the side counts
-    unless the log was full."""
+    """The units that may belong to one that is wrong: the other wrong one, or all on one side, of which only the side
+    counts unless the log was full."""
     if len(seen) == 2:
         other = seen[0] + seen[1] - x
         yield range(other, other + 1)
@@ -257,7 +262,8 @@ def partners(evidence: Evidence, unit: Unit, x: int, seen: Sequence[int]) -> Ite
 
 
 def of_units(evidence: Evidence, groups: Groups, unit: Unit) -> Iterator[Candidate]:
-    """The faults of the decoder at a word or a row that give the log; one that the log doesn't show may be any on its side."""
+    """The faults of the decoder at a word or a row that give the log; one that the log doesn't show may be any on its
+    side."""
     seen, words = sorted({index // unit.size for index in evidence.wrong}), evidence.test.memory.words
     if len(seen) > 2:
         return

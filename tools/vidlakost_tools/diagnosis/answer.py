@@ -1,5 +1,5 @@
-"""All candidates of a log in their order, what each wrong cell tells by itself where no single defect gives the log, and which
-further march tells candidates apart."""
+"""All candidates of a log in their order, what each wrong cell tells by itself where no single defect gives the log,
+and which further march tells candidates apart."""
 from __future__ import annotations
 
 import dataclasses
@@ -18,7 +18,8 @@ ALONE, APART = 8, 200
 
 @dataclasses.dataclass
 class Answer:
-    """The candidates of a log; or of each wrong cell those that it has by itself, where no single defect gives the log."""
+    """The candidates of a log; or of each wrong cell those that it has by itself, where no single defect gives the
+    log."""
 
     candidates: List[Candidate]
     alone: List[Tuple[Tuple[int, int], List[Candidate]]]
@@ -34,10 +35,16 @@ class Answer:
 
 def answer_of(evidence: Evidence, faults: Sequence[Fault], mux: int) -> Answer:
     """Every defect that is known here and gives exactly this log."""
-    found = [*lines.candidates(evidence, mux), *addressing.candidates(evidence, mux), *cells.candidates(evidence, faults)]
+    found = [
+        *lines.candidates(evidence, mux),
+        *addressing.candidates(evidence, mux),
+        *cells.candidates(evidence, faults),
+    ]
     found.sort(key=lambda one: one.rank)
     wrong = evidence.cells() if not found else []
-    alone = [(cell, list(cells.candidates(evidence.alone(cell), faults))) for cell in wrong] if len(wrong) <= ALONE else []
+    alone = (
+        [(cell, list(cells.candidates(evidence.alone(cell), faults))) for cell in wrong] if len(wrong) <= ALONE else []
+    )
     for _, some in alone:
         some.sort(key=lambda one: one.rank)
     return Answer(found, alone)
@@ -67,7 +74,9 @@ class Further:
     largest: int
 
 
-def further(candidates: Sequence[Candidate], marches: Sequence[Tuple[str, List[Element]]], memory: Memory) -> Iterator[Further]:
+def further(
+    candidates: Sequence[Candidate], marches: Sequence[Tuple[str, List[Element]]], memory: Memory
+) -> Iterator[Further]:
     """What each march tells apart."""
     few = candidates[:APART]
     for name, elements in marches:

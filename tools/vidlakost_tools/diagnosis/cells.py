@@ -67,8 +67,8 @@ class Instance:
         return self.answers_in_word(test, content) if self.is_in_word else self.answers_apart(test, content)
 
     def answers_apart(self, test: Test, content: str) -> Iterator[Tuple[int, bool]]:
-        """The same of one cell, or of two cells in two words. Between two visits of one word there are others, but where an
-        element ends with the word with which the next one begins."""
+        """The same of one cell, or of two cells in two words. Between two visits of one word there are others, but
+        where an element ends with the word with which the next one begins."""
         places = {self.index: (len(content) - 1, test.pattern(self.bit))}
         if self.aggressors:
             places[self.aggressors.index] = (0, test.pattern(self.aggressors.bit))
@@ -117,7 +117,9 @@ class Instance:
     def logs(self, test: Test) -> FrozenSet[Log]:
         """What it may leave in a test, over all contents."""
         return frozenset(
-            frozenset((self.index, number, 1 << self.bit) for number, is_wrong in self.answers(test, content) if is_wrong)
+            frozenset(
+                (self.index, number, 1 << self.bit) for number, is_wrong in self.answers(test, content) if is_wrong
+            )
             for content in self.contents()
         )
 

@@ -16,7 +16,8 @@ Wrong = Dict[int, int]
 
 @dataclasses.dataclass(frozen=True)
 class Operation:
-    """An operation on a word in a pass: whether it writes, its value, and the number of a read among those of the word."""
+    """An operation on a word in a pass: whether it writes, its value, and the number of a read among those of the
+    word."""
 
     is_write: bool
     value: int
@@ -40,8 +41,8 @@ class Pass:
 
 
 class Test:
-    """The passes of a test on a memory. All words have the same operations, so that a read is known by its word and its number.
-    An element of any order goes up, as that of the controller does."""
+    """The passes of a test on a memory. All words have the same operations, so that a read is known by its word and its
+    number. An element of any order goes up, as that of the controller does."""
 
     def __init__(self, elements: list[Element], memory: Memory, begin: int = 0):
         self.elements, self.memory, self.begin = elements, memory, begin
@@ -95,7 +96,8 @@ class Test:
 
 @dataclasses.dataclass
 class Evidence:
-    """The wrong reads of a log by word and number; `last` is the last cycle whose read is known, where the log was full."""
+    """The wrong reads of a log by word and number; `last` is the last cycle whose read is known, where the log was
+    full."""
 
     test: Test
     wrong: Dict[int, Wrong]
@@ -117,7 +119,12 @@ class Evidence:
     def cells(self) -> list[Tuple[int, int]]:
         """The wrong cells, as index and bit."""
         return sorted(
-            {(index, bit) for index, reads in self.wrong.items() for word in set(reads.values()) for bit in bits_of(word)}
+            {
+                (index, bit)
+                for index, reads in self.wrong.items()
+                for word in set(reads.values())
+                for bit in bits_of(word)
+            }
         )
 
     def alone(self, cell: Tuple[int, int]) -> Evidence:

@@ -89,7 +89,9 @@ def fits(evidence: Evidence, line: Line, reading: Reading) -> bool:
 def told_line(line: Line, reading: Reading) -> Candidate:
     def logs(test: Test) -> FrozenSet[Log]:
         few = list(line.indices[:8])
-        found = ((index, number, bits) for index in few for number, bits in wrong_of(test, line.mask(index), reading).items())
+        found = (
+            (index, number, bits) for index in few for number, bits in wrong_of(test, line.mask(index), reading).items()
+        )
         return frozenset([frozenset(found)])
 
     return Candidate(line.shape, f"{line.name} {reading.name}", 1, 1.0, logs, line)

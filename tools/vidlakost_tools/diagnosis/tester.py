@@ -5,8 +5,7 @@ import dataclasses
 import re
 from typing import Iterator
 
-from vidlakost_tools.access import block as access_block
-from vidlakost_tools.access.block import Target
+from vidlakost_tools.access.target import Target
 from vidlakost_tools.access.tap import length, parts
 from vidlakost_tools.text import shown
 from vidlakost_tools.texts.chip import Chip
@@ -43,8 +42,8 @@ def bits_told(read: Read, memory: Memory, returned: int, mux: int) -> Iterator[s
 def check_expected(read: Read, memory: Memory, expected: int, where: str = "") -> None:
     if expected != read.expected:
         raise ToolError(
-            f"{where}the expected word is {memory.digits(expected)}, and this march expects {memory.digits(read.expected)} "
-            "there: another march, memory or cycle?"
+            f"{where}the expected word is {memory.digits(expected)}, and this march expects"
+            f" {memory.digits(read.expected)} there: another march, memory or cycle?"
         )
 
 
@@ -101,14 +100,17 @@ def of_read(read: Read, elements: list[Element], memory: Memory, words: list[str
 
 
 def register_of(target: Target, text: str) -> dict[str, int]:
-    """The parts of the register; behind a segment insertion bit a scan has this bit above it, and perhaps that of a log."""
+    """The parts of the register; behind a segment insertion bit a scan has this bit above it, and perhaps that of a
+    log."""
     size = length(target)
     value = word_of(text, size + 2 if target.has_sib else size, "the register")
     sizes = (size + 1, size + 2) if target.has_sib else (size,)
     digits, wanted = len(re.sub("^0[xX]", "", text)), sorted({-(-bits // 4) for bits in sizes})
     if digits not in wanted:
         told = " or ".join(map(str, wanted))
-        raise ToolError(f"the register is hexadecimal and has {told} digits, and {shown(text)} has {digits}: is it whole?")
+        raise ToolError(
+            f"the register is hexadecimal and has {told} digits, and {shown(text)} has {digits}: is it whole?"
+        )
     if target.has_sib and value >> size != 1:
         why = "while the register is in the path, and all above it are 0: is it another scan?"
         raise ToolError(f"bit {size} of the scan is 1 {why}")
@@ -153,10 +155,10 @@ def of_register(target: Target, marches: list[list[Element]], text: str, mux: in
 
 
 def chip_register(chip: Chip, text: str, mux: int, has_sib: bool = False) -> list[str]:
-    target = dataclasses.replace(access_block.of_chip(chip), has_sib=has_sib)
+    target = dataclasses.replace(Target.of_chip(chip), has_sib=has_sib)
     return of_register(target, [unit.elements for unit in chip.units], text, mux)
 
 
 def memory_register(elements: list[Element], memory: Memory, text: str, mux: int, has_sib: bool = False) -> list[str]:
-    target = dataclasses.replace(access_block.of_memory(memory, None), has_sib=has_sib)
+    target = dataclasses.replace(Target.of_memory(memory, None), has_sib=has_sib)
     return of_register(target, [elements], text, mux)

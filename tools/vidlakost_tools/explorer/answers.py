@@ -143,7 +143,9 @@ def judge(folder: Folder, question: Object) -> Object:
     return {**made, "inWord": covered_inside(inside_report(folder, march, faults, question))}
 
 
-def inside_report(folder: Folder, march: pathlib.Path, faults: pathlib.Path, question: Object) -> in_word.InWordReport | None:
+def inside_report(
+    folder: Folder, march: pathlib.Path, faults: pathlib.Path, question: Object
+) -> in_word.InWordReport | None:
     """What `inword` reports; nothing where a question has no memory, or one that is refused."""
     if "memory" not in question:
         return None
@@ -181,8 +183,8 @@ def complete(question: Object) -> Object:
 
 
 def shown_steps(steps: Sequence[Step], of: DecoderVerdict | None = None) -> list[Object]:
-    """The steps of a run; `place` is that of the operation in its element, `reaches` are the cells that an address of a wrong
-    decoder reaches, and `acting` is which of two linked primitives acts."""
+    """The steps of a run; `place` is that of the operation in its element, `reaches` are the cells that an address of a
+    wrong decoder reaches, and `acting` is which of two linked primitives acts."""
     made: list[Object] = []
     for before, step in zip([None, *steps], steps):
         visit = None if before is None or before.cell is None else (before.element, before.cell)

@@ -22,7 +22,15 @@ from vidlakost_tools.tool import Refused
 
 PAGE = pathlib.Path(__file__).resolve().parent / "page"
 # the files of the page, in the order in which it names them
-STYLES, SCRIPTS = ["page.css"], ["dom.js", "coverage.js", "player.js", "memory.js", "finder.js", "address.js", "page.js"]
+STYLES, SCRIPTS = ["page.css"], [
+    "dom.js",
+    "coverage.js",
+    "player.js",
+    "memory.js",
+    "finder.js",
+    "address.js",
+    "page.js",
+]
 MOST_MARCHES = 4
 # how many steps are kept in all: what escapes beyond them is kept without its steps
 MOST_STEPS = 60000
@@ -58,8 +66,8 @@ def whole(kept: Object) -> str:
 def traces(
     report: Report, of_decoder: DecoderReport, links: LinkedReport, march: pathlib.Path, left: int
 ) -> tuple[Object, int]:
-    """What the reports say of primitives, and the escapes of faults and links, by their names; and how many steps may still be
-    kept."""
+    """What the reports say of primitives, and the escapes of faults and links, by their names; and how many steps may
+    still be kept."""
     traced = {it.name: answers.replayed_decoder(it, report.elements) for it in of_decoder.escapes}
     for verdict in report.verdicts:
         if verdict.covered:

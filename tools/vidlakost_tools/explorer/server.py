@@ -3,8 +3,8 @@
 Who asks has to know the token, which is a part of the address; has to say by `Host` that he means this very address,
 which a page of a name that was bound to it anew can't; and, where he asks something, by `Origin` that it is this page
 that asks. No path is looked up in the file system: the answers are those of a table. Each connection has one request,
-whose head and body are bounded in bytes and in time. Who has named the token has one of the places in which requests are
-answered; all others wait before these, without a thread, for a short time, and where many wait the oldest goes."""
+whose head and body are bounded in bytes and in time. Who has named the token has one of the places in which requests
+are answered; all others wait before these, without a thread, for a short time, and where many wait the oldest goes."""
 from __future__ import annotations
 
 import hmac
@@ -94,7 +94,8 @@ class Explorer(socketserver.ThreadingMixIn, socketserver.TCPServer):
         self.pages, self.questions = pages, questions
         self.token = secrets.token_urlsafe(32)
         self.slots = threading.BoundedSemaphore(CONNECTIONS)
-        # of each connection that has not named the token the moment at which it goes, the oldest first, and what it sent
+        # of each connection that has not named the token the moment at which it goes, the oldest first, and what it
+        # sent
         self.waiting: Dict[socket.socket, Tuple[float, bytes]] = {}
         # what those sent that have
         self.begun: Dict[socket.socket, bytes] = {}
@@ -158,8 +159,8 @@ class Explorer(socketserver.ThreadingMixIn, socketserver.TCPServer):
             self.answer(request, begun)
 
     def knows(self, begun: bytes) -> bool | None:
-        """Whether a request names the token; None where that is not to be seen yet. Nothing is said of a part of it: who guesses
-        would find it letter by letter."""
+        """Whether a request names the token; None where that is not to be seen yet. Nothing is said of a part of it:
+        who guesses would find it letter by letter."""
         wanted = f"/{self.token}/".encode()
         method, blank, rest = begun.partition(b" ")
         if len(method) > METHOD_BYTES or b"\n" in begun[: METHOD_BYTES + len(wanted)] and len(rest) < len(wanted):
@@ -176,7 +177,10 @@ class Explorer(socketserver.ThreadingMixIn, socketserver.TCPServer):
 
     def refuse(self, request: socket.socket, status: int) -> None:
         """Says a status, if that can be said at once, and ends a connection."""
-        lines = [f"HTTP/1.0 {status} {http.HTTPStatus(status).phrase}", *(f"{name}: {value}" for name, value in HEADERS.items())]
+        lines = [
+            f"HTTP/1.0 {status} {http.HTTPStatus(status).phrase}",
+            *(f"{name}: {value}" for name, value in HEADERS.items()),
+        ]
         try:
             request.setblocking(False)
             request.send("\r\n".join([*lines, "Content-Length: 0", "", ""]).encode())

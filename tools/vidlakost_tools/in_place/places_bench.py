@@ -5,7 +5,7 @@ from __future__ import annotations
 from typing import Callable
 
 from vidlakost_tools.access import tap
-from vidlakost_tools.access.block import zero
+from vidlakost_tools.access.target import zero
 from vidlakost_tools.collar.liberty import Found
 from vidlakost_tools.collar.names import MARK
 from vidlakost_tools.collar.text import PLANTED

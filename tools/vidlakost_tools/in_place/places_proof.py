@@ -9,7 +9,7 @@ import re
 import tempfile
 from typing import Any, Mapping
 
-from vidlakost_tools.access.block import Port
+from vidlakost_tools.access.target import Port
 from vidlakost_tools.chip.system import Placed
 from vidlakost_tools.collar.model import boxes
 from vidlakost_tools.collar.pins import Pin, literal

@@ -4,7 +4,7 @@ from __future__ import annotations
 
 import dataclasses
 
-from vidlakost_tools.access.block import Port, Target, Unit, header, zero
+from vidlakost_tools.access.target import Port, Target, Unit, header, zero
 from vidlakost_tools.chip.steps import lanes_length
 from vidlakost_tools.chip.system import Placed, System, groups_of
 from vidlakost_tools.collar.names import last_phase

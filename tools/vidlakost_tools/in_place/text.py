@@ -4,7 +4,7 @@ from __future__ import annotations
 
 import dataclasses
 
-from vidlakost_tools.access.block import Port
+from vidlakost_tools.access.target import Port
 from vidlakost_tools.collar import planted as collar_planted
 from vidlakost_tools.collar.names import MARK, Names, planted_names
 from vidlakost_tools.collar.pins import Macro, Word

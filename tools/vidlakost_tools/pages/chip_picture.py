@@ -1,4 +1,5 @@
-"""A picture of the groups of a chip in time: `vidlakost schedule` draws it for any chip file, `dev/pictures` for the guide."""
+"""A picture of the groups of a chip in time: `vidlakost schedule` draws it for any chip file, `dev/pictures` for the
+guide."""
 from __future__ import annotations
 
 from vidlakost_tools.pages.drawing import INK, SOFT, document, line, text
@@ -14,7 +15,9 @@ def block(chip: Chip, number: int, below: int) -> list[str]:
     across, up = WIDE / chip.done, HIGH / chip.budget
     x, y = LEFT + unit.start * across, TOP + HIGH - (below + unit.weight) * up
     wide, high = unit.length * across, unit.weight * up
-    box = f'<rect x="{x:g}" y="{y:g}" width="{wide:g}" height="{high:g}" fill="{FILLS[unit.group % 4]}" stroke="{INK}"/>'
+    box = (
+        f'<rect x="{x:g}" y="{y:g}" width="{wide:g}" height="{high:g}" fill="{FILLS[unit.group % 4]}" stroke="{INK}"/>'
+    )
     label = f"{number} {unit.memory.name}"
     # the name stands in the box or, where that is too narrow, behind it
     inside = wide > 7 * len(label) + 8
@@ -23,7 +26,11 @@ def block(chip: Chip, number: int, below: int) -> list[str]:
 
 def picture(chip: Chip) -> str:
     """Time to the right, weights upward; the dashed line is the budget."""
-    made = [text(LEFT, 20, f"{chip.name}: {len(chip.units)} memories in {chip.groups} groups", 12, more=' font-weight="bold"')]
+    made = [
+        text(
+            LEFT, 20, f"{chip.name}: {len(chip.units)} memories in {chip.groups} groups", 12, more=' font-weight="bold"'
+        )
+    ]
     for group in range(chip.groups):
         below = 0
         members = [(number, unit) for number, unit in enumerate(chip.units) if unit.group == group]

@@ -7,24 +7,15 @@ import pathlib
 from typing import Iterator, List, Sequence
 
 from vidlakost_tools.program import ROOT, with_text
-from vidlakost_tools.text import read_text
+from vidlakost_tools.text import beside, read_text
 from vidlakost_tools.texts.linked import LinkVerdict, linked
 from vidlakost_tools.texts.report import Verdict, judged
 
 MARCHES = ROOT / "examples" / "marches"
 # the list that stands for the links
 LINKS = "LF"
-TITLE = """
-## What papers say
-
-What the authors of some marches say that these cover, beside the verdicts. Where the two differ, the last column has the least array in which the march passes, as in the report. The texts of March RAW, March RAW1, March SL, March ABL and IFA-13n are written from memory, and may not be those of their authors.
-
-| March | Said to cover | Covered | Escape |
-|---|---|---|---|
-"""
-NOTE = """
-March RAW misses a primitive at the border of two elements. If its first element goes down, it ends with a write of 0 at address 0, and the next element begins there with a read of 0. The two act together: the cell goes to 1, and the read still answers 0. The next write of 0 repairs it. In the element that ends there later, the aggressor above holds 1. With `up(w0)` as its first element March RAW covers all 24.
-"""
+TITLE = beside(__file__, "claims_title.md")
+NOTE = beside(__file__, "claims_note.md")
 
 
 def write_read(states: Sequence[str]) -> List[str]:
@@ -39,7 +30,8 @@ def write_read(states: Sequence[str]) -> List[str]:
 
 @dataclasses.dataclass
 class Claim:
-    """A march, as a file of the gallery or with another first element, what it is said to cover, and the list of that."""
+    """A march, as a file of the gallery or with another first element, what it is said to cover, and the list of
+    that."""
 
     name: str
     file: str
@@ -58,7 +50,12 @@ CLAIMS = [
     Claim("March RAW", "march_raw.m", "the same of a victim beside an aggressor", write_read(["0;", "1;"])),
     Claim("March RAW with `up(w0)`", "march_raw.m", "the same", write_read(["0;", "1;"]), "up(w0)"),
     Claim("March SS", "march_ss.m", "all simple static faults", ["all"]),
-    Claim("March AB", "march_ab.m", "static faults, and a read right behind a write", ["all", *write_read(["", "0;", "1;"])]),
+    Claim(
+        "March AB",
+        "march_ab.m",
+        "static faults, and a read right behind a write",
+        ["all", *write_read(["", "0;", "1;"])],
+    ),
     Claim(
         "IFA-13n",
         "ifa_13n.m",
@@ -83,7 +80,8 @@ def shown_link(it: LinkVerdict) -> str:
 
 
 def looked(claim: Claim, march: pathlib.Path) -> str:
-    """The cells of the table that the program fills: how many are covered, and the first escape as its report has it."""
+    """The cells of the table that the program fills: how many are covered, and the first escape as its report has
+    it."""
     if claim.items == [LINKS]:
         report = linked(march)
         count, total = report.covered, len(report.verdicts)

@@ -1,5 +1,5 @@
-"""A Debian package of a release: the same files below /usr/lib/vidlakost, and the one command, its man page and its completion
-where they are looked for."""
+"""A Debian package of a release: the same files below /usr/lib/vidlakost, and the one command, its man page and its
+completion where they are looked for."""
 from __future__ import annotations
 
 import gzip
@@ -80,7 +80,9 @@ def control(version: str, needs: str, program: bytes, size: int, unproved: bool)
     wants = f"libc6 (>= {library[1]})" if library else "libc6"
     wants += ", libgcc-s1" if b"libgcc_s.so.1" in program else ""
     proof = "The program is unproved." if unproved else "The program is proved; the\n tools round it are not."
-    return CONTROL.format(version=version, maintainer=MAINTAINER, size=size, library=wants, processor=processor, proof=proof)
+    return CONTROL.format(
+        version=version, maintainer=MAINTAINER, size=size, library=wants, processor=processor, proof=proof
+    )
 
 
 def lay_out(root: pathlib.Path, files: Mapping[str, tuple[bytes, bool]]) -> None:
@@ -150,7 +152,9 @@ def install(target: pathlib.Path, root: pathlib.Path) -> str:
 def left_behind(root: pathlib.Path) -> list[str]:
     """Takes the package away again; what of it is left."""
     said = dpkg(root, "--purge", "vidlakost")
-    there = [str(path.relative_to(root)) for path in sorted(root.rglob("*")) if path.relative_to(root).parts[0] != "var"]
+    there = [
+        str(path.relative_to(root)) for path in sorted(root.rglob("*")) if path.relative_to(root).parts[0] != "var"
+    ]
     return [*([said] if said else []), *there]
 
 
@@ -158,5 +162,7 @@ def complaints(target: pathlib.Path) -> list[str]:
     """What lintian says of a package, where it is installed."""
     if shutil.which("lintian") is None:
         return []
-    done = subprocess.run(["lintian", str(target)], stdout=subprocess.PIPE, stderr=subprocess.STDOUT, text=True, check=False)
+    done = subprocess.run(
+        ["lintian", str(target)], stdout=subprocess.PIPE, stderr=subprocess.STDOUT, text=True, check=False
+    )
     return [line for line in done.stdout.splitlines() if line.startswith(("E:", "W:"))]

@@ -25,5 +25,7 @@ def line(points: list[tuple[float, float]], stroke: str = INK, width: float = 1.
 def document(width: float, height: float, made: list[str]) -> str:
     """A picture of some parts on white; `marker-end="url(#tip)"` makes an arrow of a line."""
     size = f'width="{width:g}" height="{height:g}"'
-    head = f'<svg xmlns="http://www.w3.org/2000/svg" {size} viewBox="0 0 {width:g} {height:g}" font-family="sans-serif">'
+    head = (
+        f'<svg xmlns="http://www.w3.org/2000/svg" {size} viewBox="0 0 {width:g} {height:g}" font-family="sans-serif">'
+    )
     return "\n".join([head, TIP, f'<rect {size} fill="#ffffff"/>', *made, "</svg>", ""])

@@ -8,8 +8,8 @@ import io
 import shlex
 from typing import Iterator
 
-from vidlakost_tools.access import apb, block as access_block, tap
-from vidlakost_tools.access.block import Target
+from vidlakost_tools.access import apb, tap
+from vidlakost_tools.access.target import Target
 from vidlakost_tools.texts.chip import read_chip
 from vidlakost_tools.texts.march import Element, length_of, march_of
 from vidlakost_tools.texts.memory import Memory, read_memory
@@ -62,7 +62,9 @@ def rows_of(reports: list[str], memories: list[str]) -> list[Row]:
         if report.memory is None:
             raise ToolError(f"{name}: this report is of `judge` and tells no memory; --all wants reports of `compile`")
         memory = known.get(str(report.memory["name"]))
-        if memory and told_of(memory, report) != tuple(report.memory[key] for key in ("words", "bits", "backgrounds", "commands")):
+        if memory and told_of(memory, report) != tuple(
+            report.memory[key] for key in ("words", "bits", "backgrounds", "commands")
+        ):
             raise ToolError(f"{name}: {memory.name} has another size or another test in its description")
         rows.append(Row(report, memory))
     unused = set(known) - {str(row.report.memory["name"]) for row in rows if row.report.memory}
@@ -135,9 +137,9 @@ def tested(words: list[str]) -> tuple[Target, list[tuple[str, list[Element], Mem
     """What is tested: a march and a memory, or a chip file; and of each unit the march, the memory and the start."""
     if len(words) == 1:
         chip = read_chip(words[0])
-        return access_block.of_chip(chip), [(unit.march, unit.elements, unit.memory, unit.start) for unit in chip.units]
+        return Target.of_chip(chip), [(unit.march, unit.elements, unit.memory, unit.start) for unit in chip.units]
     elements, memory = march_of(words[0])[1], read_memory(words[1])
-    return access_block.of_memory(memory, memory.cycles(elements) - 1), [(words[0], elements, memory, 0)]
+    return Target.of_memory(memory, memory.cycles(elements) - 1), [(words[0], elements, memory, 0)]
 
 
 def holds(elements: list[Element], memory: Memory, start: int) -> Iterator[str]:
@@ -149,7 +151,8 @@ def holds(elements: list[Element], memory: Memory, start: int) -> Iterator[str]:
 
 
 def locating(words: list[str], is_chip: bool) -> str:
-    """The call that decodes the register, as a shell takes it: who has the page has not chosen the names of the files."""
+    """The call that decodes the register, as a shell takes it: who has the page has not chosen the names of the
+    files."""
     return shlex.join(["vidlakost", "locate", *words, *(["--chip"] if is_chip else []), "--tdr", "HEX"])
 
 
@@ -168,20 +171,27 @@ def tester_page(words: list[str], mhz: float) -> str:
     sound = "3 in the lowest digit of the register, 0x3 in STATUS"
     body = [
         "<h2>Start and wait</h2>",
-        f"<p>Write 1 to start. The test takes {done:,} cycles of clk, {done / mhz / 1000:.3f} ms at {mhz:g} MHz, "
-        "and some more for the start to arrive. Read until done is 1; where it does not come in that time the test does "
-        "not end, which is a failure. Keep start at 1 in each scan that reads: what was found is gone when it falls.</p>",
+        (
+            f"<p>Write 1 to start. The test takes {done:,} cycles of clk, {done / mhz / 1000:.3f} ms at {mhz:g} MHz,"
+            " and some more for the start to arrive. Read until done is 1; where it does not come in that time the"
+            " test does not end, which is a failure. Keep start at 1 in each scan that reads: what was found is gone"
+            " when it falls.</p>"
+        ),
         "<h2>Pass</h2>",
         f"<p>{sound}. Anything else is a failure.</p>",
         "<h2>What is tested, and where the clock may be stopped</h2>",
         table(["unit", "memory", "words", "bits", "march", "start", "cycles of pauses"], rows),
         "<h2>The instructions of the TAP</h2>",
-        f"<p>The instruction register has {tap.IR_BITS} bits, and the identity is {target.identity:08X} unless `--idcode` named another. Test-Logic-Reset ends a "
-        "test.</p>",
+        (
+            f"<p>The instruction register has {tap.IR_BITS} bits, and the identity is {target.identity:08X} unless"
+            " `--idcode` named another. Test-Logic-Reset ends a test.</p>"
+        ),
         table(["opcode", "instruction", ""], [list(row) for row in tap.OPCODES]),
         "<h2>The register of the TAP, instruction BIST, lowest bit first</h2>",
-        "<p>Each scan writes what is marked as written, start and of a chip ignore too: shift the bits of ignore in again in "
-        "each scan, or those that were set are gone.</p>",
+        (
+            "<p>Each scan writes what is marked as written, start and of a chip ignore too: shift the bits of ignore in"
+            " again in each scan, or those that were set are gone.</p>"
+        ),
         table(["bits", "part", ""], parts),
         "<h2>The registers of the APB block</h2>",
         table(["address", "register", "field", "meaning"], registers),

@@ -1,8 +1,8 @@
-"""What the definitions of the repository are, and which stands on which: a reading of `specs/`, of the types that the sources
-declare, and of the clauses of public calls.
+"""What the definitions of the repository are, and which stands on which: a reading of `specs/`, of the types that the
+sources declare, and of the clauses of public calls.
 
-A definition is known by its crate, its file and its name. Names are followed as they are imported; what a definition binds
-itself (arguments, fields, names behind λ) refers to nothing. The definitions of the kit are not followed."""
+A definition is known by its crate, its file and its name. Names are followed as they are imported; what a definition
+binds itself (arguments, fields, names behind λ) refers to nothing. The definitions of the kit are not followed."""
 from __future__ import annotations
 
 import dataclasses
@@ -134,7 +134,9 @@ class Graph:
             place = further
         return self.by_name.get(place)
 
-    def meant(self, word: str, imports: dict[str, tuple[str, str, str]], otherwise: tuple[str, str, str]) -> Definition | None:
+    def meant(
+        self, word: str, imports: dict[str, tuple[str, str, str]], otherwise: tuple[str, str, str]
+    ) -> Definition | None:
         """What a word means under these imports; behind the name of a file stands a name of that file."""
         parts = word.split(".")
         crate, file, name = imports.get(parts[0], otherwise)
@@ -159,7 +161,8 @@ class Graph:
             self.clauses.append(Clause(f"{crate}::{call}", name, clause, uses))
 
     def follow_types(self) -> None:
-        """A declared type stands on the types of its parts: on what each is seen as, where it is a model, else on itself."""
+        """A declared type stands on the types of its parts: on what each is seen as, where it is a model, else on
+        itself."""
         seen_as = {one.call: one.uses for one in self.clauses if one.name == "Value"}
         types: dict[tuple[str, str], list[Definition]] = {}
         for definition in self.by_key.values():
@@ -218,8 +221,8 @@ def exports(library: pathlib.Path) -> set[str]:
 
 
 def clauses_of(lines: list[str], of_all: bool) -> Iterator[tuple[str, str, str]]:
-    """Of each public call, or of all in a program: its name, and the names and texts of its clauses; and the ghost parts of
-    models and traits."""
+    """Of each public call, or of all in a program: its name, and the names and texts of its clauses; and the ghost
+    parts of models and traits."""
     owner, call, index = "", "", 0
     while index < len(lines):
         line = lines[index]
@@ -233,7 +236,9 @@ def clauses_of(lines: list[str], of_all: bool) -> Iterator[tuple[str, str, str]]
         if found:
             is_public = of_all or found[1] == "pub " or block_is_trait(lines, index)
             call = (f"{owner}::" if owner and line.startswith(" ") else "") + found[2] if is_public else ""
-        starts = re.match(r"(?:(ensures|requires|returns)\b\*? ?(\w*)|ghost (Value|view|invariant|\w+)\s*[:=]) ?\{", stripped)
+        starts = re.match(
+            r"(?:(ensures|requires|returns)\b\*? ?(\w*)|ghost (Value|view|invariant|\w+)\s*[:=]) ?\{", stripped
+        )
         if starts and (call or starts[3]):
             text = stripped
             while text.count("{") > text.count("}") and index + 1 < len(lines):

@@ -26,7 +26,8 @@ class Key:
 
 @dataclasses.dataclass
 class Definition:
-    """A definition of a spec file, or a type that a source file declares: `lines` are its own, `comment` those above."""
+    """A definition of a spec file, or a type that a source file declares: `lines` are its own, `comment` those
+    above."""
 
     key: Key
     kind: str
@@ -103,7 +104,11 @@ def joined_uses(lines: list[str]) -> list[str]:
 
 
 def read_spec(path: pathlib.Path, crate: str) -> SpecFile:
-    spec = SpecFile(path, crate, ".".join(path.relative_to(path.parents[len(path.parts) - path.parts.index("specs") - 2]).with_suffix("").parts))
+    spec = SpecFile(
+        path,
+        crate,
+        ".".join(path.relative_to(path.parents[len(path.parts) - path.parts.index("specs") - 2]).with_suffix("").parts),
+    )
     reader = SpecReader(spec)
     for number, line in enumerate(path.read_text().splitlines(), 1):
         reader.take(number, line)
@@ -175,7 +180,14 @@ class SpecReader:
         kind = "block" if is_block(line) else found[1] or "definition"
         name = found[2]
         self.current = Definition(
-            Key(self.spec.crate, self.spec.name, name), kind, self.heading, self.comment, [line], [name], path=self.spec.path, line=number
+            Key(self.spec.crate, self.spec.name, name),
+            kind,
+            self.heading,
+            self.comment,
+            [line],
+            [name],
+            path=self.spec.path,
+            line=number,
         )
         self.comment = []
         self.spec.definitions.append(self.current)
@@ -226,7 +238,8 @@ FIELD_HEAD = re.compile(r"\s+(?:pub )?([^\W\d][\w']*) : ")
 
 
 def bound_in(lines: Iterable[str], own: Iterable[str]) -> set[str]:
-    """The names that are bound within these lines, but for the fields of a record, which are bound one after another."""
+    """The names that are bound within these lines, but for the fields of a record, which are bound one after
+    another."""
     bound: set[str] = set()
     own = set(own)
     for line in lines:
@@ -247,7 +260,8 @@ def bound_in(lines: Iterable[str], own: Iterable[str]) -> set[str]:
 
 
 def references(definition: Definition) -> Iterator[str]:
-    """The words of a definition that it doesn't bind itself. A field's type may use a name that the field then takes."""
+    """The words of a definition that it doesn't bind itself. A field's type may use a name that the field then
+    takes."""
     bound = bound_in(definition.lines, definition.names)
     field = ""
     for line in definition.lines:

@@ -1,5 +1,5 @@
-"""The pages of the definitions that have to be trusted: those of the headline, those of the other clauses of the top call, and
-the index of both, which is committed."""
+"""The pages of the definitions that have to be trusted: those of the headline, those of the other clauses of the top
+call, and the index of both, which is committed."""
 from __future__ import annotations
 
 import hashlib
@@ -159,8 +159,8 @@ CLAIM = re.compile(r"`(\w+(?:::\w+)+)`(?: \((`\w+`(?:, `\w+`)*)\))?")
 
 
 def wrong_claims(graph: Graph, page: str) -> list[str]:
-    """The lines of a page's list of calls that name a call or a clause that does not exist, and what of it. A name alone is
-    that of a call of a crate that its line names."""
+    """The lines of a page's list of calls that name a call or a clause that does not exist, and what of it. A name
+    alone is that of a call of a crate that its line names."""
     calls: dict[str, set[str]] = {}
     for clause in graph.clauses:
         calls.setdefault(clause.call, set()).add(clause.name)
@@ -179,5 +179,7 @@ def wrong_claims(graph: Graph, page: str) -> list[str]:
         crates = {one[1].split("::")[0] for one in found}
         beside = {call.rsplit("::", 1)[-1] for call in calls if call.split("::")[0] in crates}
         alone = re.findall(r"`(\w+)`", CLAIM.sub("", begun)) if found else []
-        wrong += [f"{number}: there is no public call {name} beside {found[0][1]}" for name in alone if name not in beside]
+        wrong += [
+            f"{number}: there is no public call {name} beside {found[0][1]}" for name in alone if name not in beside
+        ]
     return wrong

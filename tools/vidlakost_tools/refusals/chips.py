@@ -50,7 +50,11 @@ def out_of_range(description: Description, line: int) -> Finding:
     first, *files = rest.split()
     if word == "name":
         long = len(rest) > LONGEST_NAME
-        why = f"it has {len(rest)} bytes, and a name at most {LONGEST_NAME}" if long else "it is a reserved word of Verilog"
+        why = (
+            f"it has {len(rest)} bytes, and a name at most {LONGEST_NAME}"
+            if long
+            else "it is a reserved word of Verilog"
+        )
         return description.found(description.at(line, rest), f"'{rest}' can't name a chip: {why}")
     long_file = next((file for file in files if len(file) > LONGEST_FILE), None)
     if 1 <= int(first) <= MOST and long_file is not None:

@@ -1,15 +1,15 @@
-"""What a refusal of the program means in this very call, as a compiler says it: FILE:LINE:COLUMN, the line with a caret,
-what is wrong there, and what could stand there instead."""
+"""What a refusal of the program means in this very call, as a compiler says it: FILE:LINE:COLUMN, the line with a
+caret, what is wrong there, and what could stand there instead."""
 from __future__ import annotations
 
 import os
 import re
 from typing import Iterator, Mapping
 
-from vidlakost_tools.program import FORMATS, commands, form_of
+from vidlakost_tools.program import FORMATS
 from vidlakost_tools.refusals import chips as diagnose_chips, texts as diagnose_texts, verilog as diagnose_verilog
-from vidlakost_tools.refusals.finding import Trier, close_to, listed, thousands
-from vidlakost_tools.tasks import tools
+from vidlakost_tools.refusals.call import CONSOLE, usage, words_by_name
+from vidlakost_tools.refusals.finding import Trier, close_to, thousands
 from vidlakost_tools.text import lines_of, read_bytes, read_described, read_text, visible
 from vidlakost_tools.texts.faults import place_of, read_primitive
 from vidlakost_tools.texts.march import elements_of
@@ -33,7 +33,6 @@ FIELDS = [
     (r"rows (.+)", ("rows",)),
     (r"unit (\d+)", ("unit",)),
 ]
-CONSOLE = "vidlakost"
 
 
 def values_of(code: str, rest: str) -> dict[str, str]:
@@ -49,22 +48,9 @@ def values_of(code: str, rest: str) -> dict[str, str]:
     return {"name": rest} if rest else {}
 
 
-# what the file of `show` is called in the forms of the other commands
-SHOWN_AS = {"march": "MARCH", "memory": "MEMORY", "list": "FAULTS", "chip": "CHIPFILE", "module": "VERILOG"}
-
-
-def words_by_name(words: list[str]) -> dict[str, str]:
-    """The words of a call by their names in the command's form; the file of `show` by what it is read as."""
-    named = dict(zip(form_of(words[0])[1:], words[1:])) if words else {}
-    kind = named.get("KIND")
-    if kind in SHOWN_AS and "FILE" in named:
-        named[SHOWN_AS[kind]] = named.pop("FILE")
-    return named
-
-
 def is_there_still(word: str) -> bool:
-    """Whether a text can be read a second time: what came by a pipe or a device is gone, and to open it again may wait for
-    ever."""
+    """Whether a text can be read a second time: what came by a pipe or a device is gone, and to open it again may wait
+    for ever."""
     return os.path.isfile(word)
 
 
@@ -78,7 +64,11 @@ def meanings() -> Iterator[tuple[str, str]]:
     """The pattern of each refusal of the tables of FORMATS, and when it comes."""
     for line in lines_of(read_text(FORMATS)):
         cells = [cell.strip() for cell in re.split(r"(?<!\\)\|", line)[1:-1]]
-        form = re.fullmatch(r"`((?:march|memory|fault|verilog|chip) [A-Z][0-9]+)\b.*`", cells[0]) if len(cells) >= 2 else None
+        form = (
+            re.fullmatch(r"`((?:march|memory|fault|verilog|chip) [A-Z][0-9]+)\b.*`", cells[0])
+            if len(cells) >= 2
+            else None
+        )
         if form:
             yield f"{form[1]}\\b.*", cells[1].replace("`", "").replace("\\|", "|")
 
@@ -109,8 +99,13 @@ def refused_text(words: list[str], said: str) -> list[str]:
 
 
 def other_reader(command: str) -> list[str]:
-    """The tool that takes what the subset has not; it asks `check` of modules of its own making, whose refusal it tells."""
-    return ["`vidlakost audit` takes a controller in any Verilog, and with other names of its ports"] if command == "check" else []
+    """The tool that takes what the subset has not; it asks `check` of modules of its own making, whose refusal it
+    tells."""
+    return (
+        ["`vidlakost audit` takes a controller in any Verilog, and with other names of its ports"]
+        if command == "check"
+        else []
+    )
 
 
 # how a text of each kind begins; a comment ends at its first end alone, or many of them are tried in each division
@@ -138,89 +133,6 @@ def another_kind(subject: str, kind: str, text: bytes) -> Iterator[str]:
         other = next((what for what, begin in BEGINS.items() if re.match(begin, text, re.DOTALL)), None)
         if other:
             yield f"the file looks like {other}, and {subject} is to be {KINDS[kind]}: have two words changed places?"
-
-
-# ---- the words of a call
-
-
-def wrong_word(name: str, word: str, named: Mapping[str, str]) -> str | None:
-    """What is wrong with one word of a command, by itself."""
-    if name == "KIND":
-        return None if word in SHOWN_AS else f"KIND is {listed([*SHOWN_AS], 'or')}, and not '{word}'"
-    if not word:
-        return f"{name} is empty"
-    if word.startswith("-"):
-        return f"{name} is '{word}', and no word begins with '-'"
-    size = int(named["SIZE"]) if re.fullmatch(r"\d{1,9}", named.get("SIZE", "")) else None
-    if name in ("SIZE", "NUMBER"):
-        least, most = (2, 4096) if name == "SIZE" else (0, 65534)
-        if not re.fullmatch(r"0|[1-9]\d{0,8}", word):
-            return f"{name} is a decimal number without a leading zero, and not '{word}'"
-        if not least <= int(word) <= most:
-            return f"{name} is {thousands(least)} to {thousands(most)}, and not {word}"
-    if name == "CONTENT" and not re.fullmatch("[01]+", word):
-        return f"CONTENT has the digits 0 and 1, one for each cell, and not '{word}'"
-    if name == "CONTENT" and size is not None and len(word) != size:
-        return f"CONTENT has {len(word)} digits, and SIZE is {size}"
-    if name == "DIRS" and not re.fullmatch("[ud]{1,64}", word):
-        return f"DIRS is a letter u or d for each element, 1 to 64 of them, and not '{word}'"
-    if name in ("AGG", "VIC"):
-        return wrong_cell(name, word, named, size)
-    return None
-
-
-def wrong_cell(name: str, word: str, named: Mapping[str, str], size: int | None) -> str | None:
-    if word == "none" and name == "AGG":
-        return None
-    number = r"(?:0|[1-9]\d{0,8})"
-    if size is None and "SIZE" not in named:
-        return (
-            None
-            if re.fullmatch(rf"{number}\.{number}", word)
-            else f"{name} is a cell as two numbers with a full stop between, its word's index and its bit, as 6.3, "
-            f"and not '{word}'"
-        )
-    if not re.fullmatch(number, word):
-        return f"{name} is the number of a cell{' or none' if name == 'AGG' else ''}, and not '{word}'"
-    if size is not None and int(word) >= size:
-        return f"{name} is cell {word}, and there are the cells 0 to {size - 1}"
-    return f"AGG and VIC are both cell {word}" if name == "VIC" and word == named.get("AGG") else None
-
-
-def usage(words: list[str]) -> list[str]:
-    """What is wrong with the words of a call."""
-    names = [command.name for command in commands()]
-    if not words or words[0] not in names:
-        meant = close_to(words[0], [*names, *tools()]) if words else None
-        what = f"'{words[0]}' is no command" if words else "there is no command"
-        return [
-            f"{CONSOLE}: error: {what}" + (f"; did you mean '{meant}'?" if meant else ""),
-            f"  the commands are {listed(names, 'and')}",
-        ]
-    form = form_of(words[0])
-    line = [f"  usage: {CONSOLE} {' '.join(form)}"]
-    if len(words) != len(form):
-        few = len(words) < len(form)
-        what = (
-            f"{listed(form[len(words):], 'and')} {'is' if len(form) - len(words) == 1 else 'are'} missing"
-            if few
-            else f"'{words[len(form)]}' is one word too many"
-        )
-        return [f"{CONSOLE}: error: {words[0]} takes {len(form) - 1} words, and there are {len(words) - 1}: {what}", *line]
-    named = words_by_name(words)
-    for name, word in named.items():
-        wrong = wrong_word(name, word, named)
-        if wrong:
-            return [f"{CONSOLE}: error: {wrong}", *line]
-    files = [name for name in named if name not in ("PRIM", "SIZE", "CONTENT", "AGG", "VIC", "DIRS", "NUMBER", "KIND")]
-    for place, name in enumerate(files):
-        same = next((other for other in files[:place] if named[other] == named[name]), None)
-        if same:
-            return [
-                f"{CONSOLE}: error: {same} and {name} are both '{named[name]}', and no two files of a call have one name",
-                *line,
-            ]
-    return [f"{CONSOLE}: error: the words are not those of {words[0]}", *line]
 
 
 # ---- files
@@ -299,8 +211,14 @@ def device(words: list[str], said: str) -> list[str]:
                 f"its words are 0 to {thousands(memory.words - 1)}, by physical index"
             ]
         if bit >= memory.bits:
-            return [f"{name}: error: {named[name]} is outside {memory.name}: the bits of its words are 0 to {memory.bits - 1}"]
-    return [f"VIC: error: aggressor {named['AGG']} and victim {named['VIC']} are in one word; the cells have to stand in two"]
+            return [
+                f"{name}: error: {named[name]} is outside {memory.name}: the bits of its words are 0 to"
+                f" {memory.bits - 1}"
+            ]
+    return [
+        f"VIC: error: aggressor {named['AGG']} and victim {named['VIC']} are in one word; the cells have to stand"
+        " in two"
+    ]
 
 
 def misfit(words: list[str], said: str) -> list[str]:
@@ -313,7 +231,9 @@ def misfit(words: list[str], said: str) -> list[str]:
         return []
     elements = elements_of(read_text(named["MARCH"]))
     directions = named["DIRS"]
-    lines = [f"DIRS: error: '{directions}' has {len(directions)} letters, and {named['MARCH']} has {len(elements)} elements"]
+    lines = [
+        f"DIRS: error: '{directions}' has {len(directions)} letters, and {named['MARCH']} has {len(elements)} elements"
+    ]
     shown = [
         f"  {element.text:24} {directions[place] if place < len(directions) else '(no letter)'}"
         for place, element in enumerate(elements)
@@ -333,7 +253,10 @@ def misfit(words: list[str], said: str) -> list[str]:
 def too_long(words: list[str], said: str) -> list[str]:
     named = words_by_name(words)
     if not is_there_still(named["MEMORY"]) or not is_there_still(named["MARCH"]):
-        return [f"{named['MEMORY']}: error: the test takes {thousands(said.split(' ')[2])} cycles, and at most 2,000,000 are run"]
+        return [
+            f"{named['MEMORY']}: error: the test takes {thousands(said.split(' ')[2])} cycles, and at most 2,000,000"
+            " are run"
+        ]
     memory, elements = memory_file(named), elements_of(read_text(named["MARCH"]))
     one = sum(map(memory.cycles_of, elements))
     most = (2000000 - memory.latency - 2) // one if one <= 2000000 else 0
@@ -343,7 +266,10 @@ def too_long(words: list[str], said: str) -> list[str]:
         else "a shorter march, or fewer words, would do"
     )
     return [
-        f"{named['MEMORY']}: error: the test takes {thousands(said.split(' ')[2])} cycles, and at most 2,000,000 are run",
+        (
+            f"{named['MEMORY']}: error: the test takes {thousands(said.split(' ')[2])} cycles, and at most 2,000,000"
+            " are run"
+        ),
         f"  the march takes {thousands(one)} cycles in each of {len(memory.backgrounds)} backgrounds; {cure}",
         "  (compile has no such limit)",
     ]
@@ -359,7 +285,9 @@ def not_text(words: list[str]) -> list[str]:
 
 
 def no_primitives(words: list[str]) -> list[str]:
-    return [f"{words_by_name(words).get('FAULTS', 'the list')}: warning: the list holds no primitive, so nothing was judged"]
+    return [
+        f"{words_by_name(words).get('FAULTS', 'the list')}: warning: the list holds no primitive, so nothing was judged"
+    ]
 
 
 def lines(words: list[str], said: str, status: int) -> list[str]:

@@ -1,5 +1,5 @@
-"""What is said of a refusal: a place in a text, shown as a compiler shows it, and what could stand there, found by asking
-the program of the text cut at that place with each word of the grammar behind it."""
+"""What is said of a refusal: a place in a text, shown as a compiler shows it, and what could stand there, found by
+asking the program of the text cut at that place with each word of the grammar behind it."""
 from __future__ import annotations
 
 import dataclasses
@@ -137,15 +137,21 @@ TOKENS = {
 }
 # how a token of many is told
 SHOWN = {
-    "memory": {"\n": "the end of the line", "1": "a number", "a0": "a row as a0", "p0": "an index bit as p0", "x": "a name"},
+    "memory": {
+        "\n": "the end of the line",
+        "1": "a number",
+        "a0": "a row as a0",
+        "p0": "an index bit as p0",
+        "x": "a name",
+    },
     "chip": {"\n": "the end of the line", "#": "a comment (#)", "1": "a number", "x": "a name"},
     "list": {"\n": "the end of the line", "#": "a comment (#)", "<": "a primitive (<)"},
     "verilog": {"x": "a name", "1'h0": "a literal with its size as 1'h0", "0": "a number"},
 }
 
 
-# the longest text that is tried, in bytes: of a longer one what could stand somewhere is not told. Not a time: what is told
-# of a text is then the same on every machine, however busy it is.
+# the longest text that is tried, in bytes: of a longer one what could stand somewhere is not told. Not a time: what is
+# told of a text is then the same on every machine, however busy it is.
 LONGEST = 65536
 
 
@@ -160,7 +166,8 @@ class Trier:
         self.program = quick_program()
 
     def refusal(self, folder: pathlib.Path, text: bytes) -> str:
-        """The program's line for a text; of one that is accepted its printed form, or `absent`, since the next one is missing."""
+        """The program's line for a text; of one that is accepted its printed form, or `absent`, since the next one is
+        missing."""
         file, march, missing = folder / "text", folder / "march", folder / "missing"
         file.write_bytes(text)
         march.write_text("any(w0)")

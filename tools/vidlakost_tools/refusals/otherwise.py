@@ -1,6 +1,6 @@
 """What other tools may read otherwise than the program does, though the standard is on its side: bytes in a module's
-comments that some obey or end a line at, a `?` that some take for a digit, shifts so far that some take another value, and
-names of a chip that SystemVerilog reserves."""
+comments that some obey or end a line at, a `?` that some take for a digit, shifts so far that some take another value,
+and names of a chip that SystemVerilog reserves."""
 from __future__ import annotations
 
 import re
@@ -34,15 +34,16 @@ BEHIND_DECIMAL = (
 FAR = 1 << 31
 FAR_SHIFT = "a shift whose amount can be 2147483648 or more: Yosys takes another value"
 RESERVED = set(
-    """accept_on alias always_comb always_ff always_latch assert assume before bind bins binsof bit break byte chandle checker
-    class clocking const constraint context continue cover covergroup coverpoint cross dist do endchecker endclass endclocking
-    endgroup endinterface endpackage endprogram endproperty endsequence enum eventually expect export extends extern final
-    first_match foreach forkjoin global iff ignore_bins illegal_bins implements implies import inside int interconnect
-    interface intersect join_any join_none let local logic longint matches modport nettype new nexttime null package packed
-    priority program property protected pure rand randc randcase randsequence ref reject_on restrict return s_always
-    s_eventually s_nexttime s_until s_until_with sequence shortint shortreal soft solve static string strong struct super
-    sync_accept_on sync_reject_on tagged this throughout timeprecision timeunit type typedef union unique unique0 until
-    until_with untyped var virtual void wait_order weak wildcard with within""".split()
+    """accept_on alias always_comb always_ff always_latch assert assume before bind bins binsof bit break byte chandle
+    checker class clocking const constraint context continue cover covergroup coverpoint cross dist do endchecker
+    endclass endclocking endgroup endinterface endpackage endprogram endproperty endsequence enum eventually expect
+    export extends extern final first_match foreach forkjoin global iff ignore_bins illegal_bins implements implies
+    import inside int interconnect interface intersect join_any join_none let local logic longint matches modport
+    nettype new nexttime null package packed priority program property protected pure rand randc randcase randsequence
+    ref reject_on restrict return s_always s_eventually s_nexttime s_until s_until_with sequence shortint shortreal
+    soft solve static string strong struct super sync_accept_on sync_reject_on tagged this throughout timeprecision
+    timeunit type typedef union unique unique0 until until_with untyped var virtual void wait_order weak wildcard with
+    within""".split()
 )
 
 
@@ -104,7 +105,9 @@ def places_in(text: bytes) -> Iterator[tuple[int, str]]:
     found_comments = re.finditer(COMMENT.encode(), text, re.DOTALL)
     comments = [(match.start(), match[0] + text[match.end() : match.end() + 1]) for match in found_comments]
     for pattern, why in IN_COMMENT:
-        hits = (begin + found.start() for begin, comment in comments for found in [re.search(pattern, comment)] if found)
+        hits = (
+            begin + found.start() for begin, comment in comments for found in [re.search(pattern, comment)] if found
+        )
         first = next(hits, None)
         if first is not None:
             yield first, why
@@ -128,7 +131,10 @@ def of_chip(name: str, text: str) -> list[str]:
     }
     for line, chip in said:
         if chip in RESERVED:
-            return [f"{name}:{line}: warning: SystemVerilog reserves '{chip}': a tool that reads it refuses the chip's module"]
+            return [
+                f"{name}:{line}: warning: SystemVerilog reserves '{chip}': a tool that reads it refuses the chip's"
+                " module"
+            ]
         if chip in ports:
             return [f"{name}:{line}: warning: '{chip}' is also a port of the chip's module, which some tools refuse"]
     return []

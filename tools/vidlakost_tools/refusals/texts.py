@@ -44,13 +44,21 @@ def march(name: str, text: bytes, code: str, values: Mapping[str, str]) -> Findi
     operations = [(number, at, word) for number, (_, inside) in enumerate(elements) for at, word in inside]
     if code == "M3":
         return Finding(
-            name, text, None, "the march has pauses alone, and visits no cell" if elements else "the march has no element"
+            name,
+            text,
+            None,
+            "the march has pauses alone, and visits no cell" if elements else "the march has no element",
         )
     if code == "M4":
-        return Finding(name, text, elements[64][0], f"this is the 65th of {len(elements)} elements; a march has at most 64")
+        return Finding(
+            name, text, elements[64][0], f"this is the 65th of {len(elements)} elements; a march has at most 64"
+        )
     if code == "M6":
         return Finding(
-            name, text, operations[256][1], f"this is the 257th of {len(operations)} operations; a march has at most 256"
+            name,
+            text,
+            operations[256][1],
+            f"this is the 257th of {len(operations)} operations; a march has at most 256",
         )
     number = int(values["element"])
     if code == "M5":
@@ -64,7 +72,11 @@ def march(name: str, text: bytes, code: str, values: Mapping[str, str]) -> Findi
     at, word = elements[number][1][int(values["operation"])]
     if code == "M7":
         return Finding(
-            name, text, at, f"{word} reads a cell that nothing has written yet", ["a march begins with a write, as any(w0)"]
+            name,
+            text,
+            at,
+            f"{word} reads a cell that nothing has written yet",
+            ["a march begins with a write, as any(w0)"],
         )
     before = next(entry for entry in reversed(operations) if entry[1] < at and entry[2][0] == "w")
     row, column = place(text, before[1])
@@ -72,7 +84,10 @@ def march(name: str, text: bytes, code: str, values: Mapping[str, str]) -> Findi
         name,
         text,
         at,
-        f"{word} expects {word[1]}, and {before[2]} of element {before[0]} (line {row}, column {column}) wrote {before[2][1]} last",
+        (
+            f"{word} expects {word[1]}, and {before[2]} of element {before[0]} (line {row}, column {column}) wrote"
+            f" {before[2][1]} last"
+        ),
     )
 
 
@@ -86,7 +101,9 @@ def unexpected(kind: str, name: str, text: bytes, at: int, names: list[str], is_
     start = at if inside or whole else word_start(text, at)
     word = text[at : at + 1].decode("utf-8", "replace").strip("\n") if inside else word_at(text, at, whole)
     meant = (
-        close_to(word, [token for token in tokens or names if re.match(r"[A-Za-z]", token)]) if word and not inside else None
+        close_to(word, [token for token in tokens or names if re.match(r"[A-Za-z]", token)])
+        if word and not inside
+        else None
     )
     if not word:
         message = "the primitive can't end here" if is_word else "the line can't end here"
@@ -102,7 +119,9 @@ def early(kind: str, name: str, text: bytes, what: str, is_word: bool = False) -
     if not text.strip() and kind == "verilog":
         return Finding(name, text, None, "the file is empty")
     end = len(text.rstrip(b" \t\r\n")) if kind in ("march", "verilog") else len(text)
-    return Finding(name, text, end, f"{what} stops here, and is not whole", could_stand(kind, text, len(text), is_word)[1])
+    return Finding(
+        name, text, end, f"{what} stops here, and is not whole", could_stand(kind, text, len(text), is_word)[1]
+    )
 
 
 # ---- lists and primitives
@@ -139,7 +158,9 @@ def no_item(name: str, text: bytes, at: int, is_word: bool) -> Finding:
 
 def too_many_operations(primitive: Primitive, is_word: bool) -> str:
     count = len(primitive.operations)
-    parted = primitive.aggressor is not None and bool(primitive.aggressor.operations) and bool(primitive.victim.operations)
+    parted = (
+        primitive.aggressor is not None and bool(primitive.aggressor.operations) and bool(primitive.victim.operations)
+    )
     if count == 2 and parted:
         return "the primitive has an operation on each cell; a primitive has them on one"
     if count == 2 and is_word:
@@ -245,7 +266,9 @@ def unexpected_statement(description: Description, values: Mapping[str, str]) ->
             description.at(line), f"'{word}' is a line of version 2", "write 'memory 2' in place of 'memory 1'"
         )
     if description.statements[0][0] == line and word != "memory":
-        return description.found(description.at(line), "the first line that says anything has to be 'memory 1' or 'memory 2'")
+        return description.found(
+            description.at(line), "the first line that says anything has to be 'memory 1' or 'memory 2'"
+        )
     return unexpected("memory", description.name, description.text, at, KEYWORDS)
 
 
@@ -288,7 +311,9 @@ def out_of_range(description: Description, line: int) -> Finding:
             description.at(line, rest), f"'{word} {rest}' is outside its range, {least} to {thousands(most)} {unit}"
         )
     if word == "name":
-        why = f"it has {len(rest)} bytes, and a name at most 48" if len(rest) > 48 else "it is a reserved word of Verilog"
+        why = (
+            f"it has {len(rest)} bytes, and a name at most 48" if len(rest) > 48 else "it is a reserved word of Verilog"
+        )
         return description.found(description.at(line, rest), f"'{rest}' can't name a memory: {why}")
     if word == "scramble":
         return outside_row(description, line, rest)
@@ -307,12 +332,17 @@ def outside_row(description: Description, line: int, rest: str) -> Finding:
     part, what = row.strip(), "address"
     if int(part[1:]) < width:
         part, what = (
-            next(term.strip() for term in terms.split("^") if term.strip()[0] == "p" and int(term.strip()[1:]) >= width),
+            next(
+                term.strip() for term in terms.split("^") if term.strip()[0] == "p" and int(term.strip()[1:]) >= width
+            ),
             "index",
         )
     return description.found(
         description.at(line, part),
-        f"there is no {part}: an {what} of {thousands(words)} words has {width} bits, {part[0]}0 to {part[0]}{width - 1}",
+        (
+            f"there is no {part}: an {what} of {thousands(words)} words has {width} bits, {part[0]}0 to"
+            f" {part[0]}{width - 1}"
+        ),
     )
 
 
@@ -344,7 +374,9 @@ def no_power(description: Description) -> Finding:
 
 def no_solid(description: Description) -> Finding:
     line, rest = description.line_of("backgrounds"), description.said("backgrounds")
-    return description.found(description.at(line), "the word 0 is not among the backgrounds", f"write 'backgrounds 0 {rest}'")
+    return description.found(
+        description.at(line), "the word 0 is not among the backgrounds", f"write 'backgrounds 0 {rest}'"
+    )
 
 
 def too_many(description: Description) -> Finding:

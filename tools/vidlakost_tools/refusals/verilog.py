@@ -203,7 +203,9 @@ def clock(module: Events, event: Event, what: str) -> str | None:
 
 
 def loop(name: str, text: bytes, module: Events, names: list[str]) -> Finding:
-    places = [next((event.at for event in module.events if event.kind == "assign" and event.name == it), None) for it in names]
+    places = [
+        next((event.at for event in module.events if event.kind == "assign" and event.name == it), None) for it in names
+    ]
     circle = " -> ".join([*names, names[0]])
     return Finding(
         name,
@@ -247,12 +249,17 @@ def port(name: str, text: bytes, what: str, memory: Memory) -> Finding:
     kind, width = wanted[what]
     if what not in module.ports:
         return Finding(
-            name, text, None, f"the port '{what}' is missing: {'an' if kind[0] in 'aeio' else 'a'} {kind} of {bits(width)}"
+            name,
+            text,
+            None,
+            f"the port '{what}' is missing: {'an' if kind[0] in 'aeio' else 'a'} {kind} of {bits(width)}",
         )
     has = module.ports[what]
     way = "input" if has.kind == "input" else "output"
     if way != kind:
-        return Finding(name, text, has.at, f"'{what}' is an {way} here, and an {kind} of the self-test of {memory.name}")
+        return Finding(
+            name, text, has.at, f"'{what}' is an {way} here, and an {kind} of the self-test of {memory.name}"
+        )
     return Finding(
         name, text, has.at, f"'{what}' has {bits(has.width)} here, and {bits(width)} in the self-test of {memory.name}"
     )
@@ -261,7 +268,9 @@ def port(name: str, text: bytes, what: str, memory: Memory) -> Finding:
 def too_deep(text: bytes, at: int) -> str:
     """What is too much at a byte. No module opens anything at byte 0, so there it is the text that `show` would say."""
     if at == 0:
-        return "with parentheses round each operator, this module opens more than 64 of (, {, begin, case and if at once"
+        return (
+            "with parentheses round each operator, this module opens more than 64 of (, {, begin, case and if at once"
+        )
     if re.compile(rb"[({]|(begin|case|if)\b").match(text, at):
         return "this opens the 65th of (, {, begin, case and if that are open at once; at most 64 may be"
     return "this is the 257th operator of an expression, and at most 256 may be"
@@ -281,6 +290,9 @@ def verilog(name: str, text: bytes, code: str, values: Mapping[str, str], memory
     message = {
         "L3": too_deep(text, at),
         "L4": "this name goes on for more than 64 bytes",
-        "L5": "this number is too large: a literal has 1 to 64 bits and a value that they hold, and an index is at most 63",
+        "L5": (
+            "this number is too large: a literal has 1 to 64 bits and a value that they hold, and an index is at"
+            " most 63"
+        ),
     }[code]
     return Finding(name, text, at, message)

@@ -1,1 +1,2 @@
-"""The texts that the program reads and writes, as objects: marches, memories, chips and reports, with the plain models that play them."""
+"""The texts that the program reads and writes, as objects: marches, memories, chips and reports, with the plain models
+that play them."""

@@ -58,8 +58,8 @@ class Chip:
 
 
 def place(chip: Chip) -> None:
-    """Gives each unit the first group that has room for it, and its start: a group begins in the last cycle but one of the
-    longest test of the group before it, which is the cycle of its reset."""
+    """Gives each unit the first group that has room for it, and its start: a group begins in the last cycle but one of
+    the longest test of the group before it, which is the cycle of its reset."""
     loads: list[int] = []
     for unit in chip.units:
         room = (number for number, load in enumerate(loads) if load + unit.weight <= chip.budget)

@@ -178,5 +178,8 @@ def reason(verdict: DecoderVerdict, elements: list[Element]) -> tuple[str, list[
     turning = [(count, turned(element)) for count, element in enumerate(elements) if turned(element)]
     if not turning:
         return "no element begins with a read of a bit and leaves the other, so x and y always answer alike", steps
-    told = [f"in element {count} y comes first, and the {end} of both cells is what {read} of x expects" for count, read in turning]
+    told = [
+        f"in element {count} y comes first, and the {end} of both cells is what {read} of x expects"
+        for count, read in turning
+    ]
     return "; ".join(told), steps

@@ -45,7 +45,9 @@ def sense(text: str) -> Sense:
 def read_primitive(text: str) -> Primitive:
     """The primitive of a text of the grammar; whether it describes a fault is the program's to say."""
     match = PRIMITIVE.fullmatch("".join(text.split()))
-    if match is None or any(part is not None and not re.match("[01r]", part) for part in (match["aggressor"], match["victim"])):
+    if match is None or any(
+        part is not None and not re.match("[01r]", part) for part in (match["aggressor"], match["victim"])
+    ):
         raise ToolError(f"'{text}' is no primitive")
     return Primitive(
         sense(match["aggressor"]) if match["aggressor"] is not None else None,
@@ -81,10 +83,10 @@ class Step:
 
 
 class Array:
-    """Some cells with one instance of a primitive, by the definition: a primitive without an operation acts wherever its
-    states hold, one with a pause in each pause that finds its state, one with an operation in that operation, and one
-    with two operations in the second, where that is done right behind the first, all states held before the first, and
-    the first left in its cell what it plainly leaves."""
+    """Some cells with one instance of a primitive, by the definition: a primitive without an operation acts wherever
+    its states hold, one with a pause in each pause that finds its state, one with an operation in that operation, and
+    one with two operations in the second, where that is done right behind the first, all states held before the first,
+    and the first left in its cell what it plainly leaves."""
 
     def __init__(self, primitive: Primitive, aggressor: int | None, victim: int, content: str):
         self.primitive, self.victim = primitive, victim

@@ -16,7 +16,8 @@ from vidlakost_tools.texts.report import COUNT, COVERED, ITEM, SHAPE, TOTAL, cla
 from vidlakost_tools.tool import ToolError
 
 ESCAPE = re.compile(
-    rf"escape {ITEM} aggressor (?P<aggressor>[0-9]{{1,2}}) victim (?P<victim>[0-9]{{1,2}}) content (?P<content>[01]{{2}})"
+    rf"escape {ITEM} aggressor (?P<aggressor>[0-9]{{1,2}}) victim (?P<victim>[0-9]{{1,2}}) content"
+    r" (?P<content>[01]{2})"
 )
 APART = re.compile(f"apart (?P<apart>{COUNT})")
 # what two bits can hold, the aggressor's digit first
@@ -148,8 +149,8 @@ def judged_in_word(march: Path, memory: Path, faults: Path) -> InWordReport:
 
 @dataclasses.dataclass
 class WordStep:
-    """What an operation on the word (or a pause, or the state before the test) did to the two bits. `due` is what they have
-    to hold behind it, `answer` what a read shows; of all pairs the aggressor's digit comes first."""
+    """What an operation on the word (or a pause, or the state before the test) did to the two bits. `due` is what they
+    have to hold behind it, `answer` what a read shows; of all pairs the aggressor's digit comes first."""
 
     background: int | None
     element: int | None
@@ -165,8 +166,8 @@ class WordStep:
 
 
 class Couple:
-    """Two bits of one word with an instance of a coupling, by the definition: an operation on the word is one on both bits;
-    the word is written, and then the victim goes wrong."""
+    """Two bits of one word with an instance of a coupling, by the definition: an operation on the word is one on both
+    bits; the word is written, and then the victim goes wrong."""
 
     def __init__(self, primitive: Primitive, content: str):
         if primitive.aggressor is None:
@@ -299,7 +300,11 @@ def hidden(steps: list[WordStep], memory: Memory) -> list[str]:
         elif after is None:
             why = "the word is not visited again"
         else:
-            why = f"{after.operation} writes over it before a read" if after.operation[0] == "w" else "the read expects that"
+            why = (
+                f"{after.operation} writes over it before a read"
+                if after.operation[0] == "w"
+                else "the read expects that"
+            )
         found.setdefault(why, place(step, memory))
     return [f"acts {first}, and {why}" for why, first in found.items()]
 

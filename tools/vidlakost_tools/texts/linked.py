@@ -24,8 +24,8 @@ MEANS = {
 }
 LINK = f"(?P<kind>{'|'.join(KINDS)}) (?P<first><[^ ]+>) (?P<second><[^ ]+>)"
 VERDICT = re.compile(
-    f"(?P<verdict>covered|escape) {LINK}"
-    "(?: a (?P<a>[012]|none) b (?P<b>[012]|none) v (?P<v>[012]) content (?P<content>[01]{3}) directions (?P<directions>[ud]{1,64}))?"
+    f"(?P<verdict>covered|escape) {LINK}(?: a (?P<a>[012]|none) b (?P<b>[012]|none) v (?P<v>[012]) content"
+    " (?P<content>[01]{3}) directions (?P<directions>[ud]{1,64}))?"
 )
 
 
@@ -97,8 +97,8 @@ class LinkVerdict:
 
 
 class LinkedRun:
-    """Three cells with two linked primitives, by the definition: the plain part of an operation, and then the effect of the
-    primitive whose operation it is, with all its states held before."""
+    """Three cells with two linked primitives, by the definition: the plain part of an operation, and then the effect of
+    the primitive whose operation it is, with all its states held before."""
 
     def __init__(self, verdict: LinkVerdict):
         self.cells = [int(digit) for digit in verdict.content]
@@ -145,7 +145,9 @@ class LinkedReport:
     @property
     def kinds(self) -> dict[str, tuple[int, int]]:
         """Of each kind how many links there are, and how many of them are covered."""
-        return {kind: (count, sum(it.covered for it in self.verdicts if it.kind == kind)) for kind, count in KINDS.items()}
+        return {
+            kind: (count, sum(it.covered for it in self.verdicts if it.kind == kind)) for kind, count in KINDS.items()
+        }
 
     @property
     def covered(self) -> int:
@@ -188,7 +190,10 @@ def read_report(path: Path) -> LinkedReport:
             report.verdicts.append(verdict_of(line, elements))
         except ToolError as error:
             raise ToolError(f"{path}:{number}: {error}; this is no report of `linked`") from error
-    told = [f"kind {kind} total {of} covered {covered} escapes {of - covered}" for kind, (of, covered) in report.kinds.items()]
+    told = [
+        f"kind {kind} total {of} covered {covered} escapes {of - covered}"
+        for kind, (of, covered) in report.kinds.items()
+    ]
     told.append(f"total {count} covered {report.covered} escapes {len(report.escapes)}")
     for number, (line, right) in enumerate(zip(lines[count + 1 :], told), count + 2):
         if line != right:

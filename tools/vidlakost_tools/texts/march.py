@@ -11,8 +11,8 @@ from vidlakost_tools.tool import ToolError
 
 @dataclasses.dataclass
 class Element:
-    """An element of a march: its text without blanks, its order (`del` for a pause), its operations, and where it and they
-    begin in the text, in characters."""
+    """An element of a march: its text without blanks, its order (`del` for a pause), its operations, and where it and
+    they begin in the text, in characters."""
 
     text: str
     order: str

@@ -45,7 +45,9 @@ class Memory:
     def address_of(self, index: int) -> int:
         """The address of a physical index."""
         rows = (self.row(i) for i in range(self.width))
-        return sum((sum(index >> bit & 1 for bit in bits) + constant & 1) << i for i, (bits, constant) in enumerate(rows))
+        return sum(
+            (sum(index >> bit & 1 for bit in bits) + constant & 1) << i for i, (bits, constant) in enumerate(rows)
+        )
 
     def way_back(self) -> list[Row]:
         """For each bit of an index the address bits whose exclusive or it is, and its constant."""

@@ -1,4 +1,5 @@
-"""Names of faults: those of the literature that are none of a list, with what stands for them here, and the words of classes."""
+"""Names of faults: those of the literature that are none of a list, with what stands for them here, and the words of
+classes."""
 from __future__ import annotations
 
 import itertools

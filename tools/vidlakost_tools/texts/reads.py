@@ -1,5 +1,5 @@
-"""Which command a cycle of a test is, and which read a word belongs to: background, element, operation, index, and the word
-that is expected. The cycle of the reset is 0, and the first command comes in cycle 1."""
+"""Which command a cycle of a test is, and which read a word belongs to: background, element, operation, index, and the
+word that is expected. The cycle of the reset is 0, and the first command comes in cycle 1."""
 from __future__ import annotations
 
 import dataclasses

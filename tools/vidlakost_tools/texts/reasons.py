@@ -29,7 +29,9 @@ def why_never(verdict: Verdict, elements: list[Element], steps: list[Step]) -> s
         pauses = any(element.is_pause for element in elements)
         return f"in no pause the cell holds {array.primitive.victim.state}" if pauses else "the march has no pause"
     state = array.senses[array.own_cell()].state
-    actor = "the aggressor" if array.actor != array.victim else "the victim" if array.primitive.aggressor else "the cell"
+    actor = (
+        "the aggressor" if array.actor != array.victim else "the victim" if array.primitive.aggressor else "the cell"
+    )
     if not meets_alone(verdict, steps):
         return f"no {operations[0]} comes at {actor} while it holds {state}"
     if len(operations) == 2:

@@ -107,11 +107,17 @@ class Report:
 
     def as_object(self) -> dict[str, object]:
         """The report in the schema of `tools/report --json`."""
-        made: dict[str, object] = {"schema": "vidlakost-report-1", "march": self.march, "length": length_of(self.elements)}
+        made: dict[str, object] = {
+            "schema": "vidlakost-report-1",
+            "march": self.march,
+            "length": length_of(self.elements),
+        }
         if self.memory:
             made["memory"] = self.memory
         made["verdicts"] = [verdict.as_object() for verdict in self.verdicts]
-        made["classes"] = {kind: {"primitives": count, "covered": covered} for kind, (count, covered) in self.classes.items()}
+        made["classes"] = {
+            kind: {"primitives": count, "covered": covered} for kind, (count, covered) in self.classes.items()
+        }
         made["total"] = dict(zip(("primitives", "covered", "escapes"), self.total))
         return made
 
@@ -124,7 +130,9 @@ def verdict_of(line: str) -> Verdict | None:
     if match is None:
         return None
     aggressor = None if match["aggressor"] == "none" else int(match["aggressor"])
-    return Verdict(match["primitive"], match["kind"], aggressor, int(match["victim"]), match["content"], match["directions"])
+    return Verdict(
+        match["primitive"], match["kind"], aggressor, int(match["victim"]), match["content"], match["directions"]
+    )
 
 
 def check_escape(verdict: Verdict, elements: list[Element]) -> str | None:

@@ -1,4 +1,5 @@
-"""How a testbench begins a planted run and ends any: where a bit may be stuck, and the last line of a run that passes."""
+"""How a testbench begins a planted run and ends any: where a bit may be stuck, and the last line of a run that
+passes."""
 from __future__ import annotations
 
 from typing import Sequence
@@ -22,7 +23,8 @@ def over(module: str) -> str:
 
 
 def planted(module: str, sizes: Sequence[tuple[int, int]]) -> str:
-    """What a call of a testbench plants, in one of some memories of so many words and bits; what is none of them is refused."""
+    """What a call of a testbench plants, in one of some memories of so many words and bits; what is none of them is
+    refused."""
     inside = [
         f"(asked_unit == 64'd{number} && asked_address < 64'd{words} && asked_bit < 64'd{bits})"
         for number, (words, bits) in enumerate(sizes)

@@ -1,5 +1,5 @@
-"""On what clock a module's registers stand: buffers and inverters are followed, and a clock that a latch gates is an enable
-of its registers. What is left is one input, whose rising edge is the only one."""
+"""On what clock a module's registers stand: buffers and inverters are followed, and a clock that a latch gates is an
+enable of its registers. What is left is one input, whose rising edge is the only one."""
 from __future__ import annotations
 
 import dataclasses
@@ -75,7 +75,12 @@ class Tree:
         if bit in ("0", "1"):
             return str(bit)
         cell = self.cells.get(self.drivers.get(bit, ""))
-        if cell is None or depth > 8 or cell["type"] not in (*INVERTERS, *BUFFERS) or len(cell["connections"]["A"]) != 1:
+        if (
+            cell is None
+            or depth > 8
+            or cell["type"] not in (*INVERTERS, *BUFFERS)
+            or len(cell["connections"]["A"]) != 1
+        ):
             return None
         found = self.constant(cell["connections"]["A"][0], depth + 1)
         return {"0": "1", "1": "0"}.get(found or "", None) if cell["type"] in INVERTERS else found
@@ -111,7 +116,9 @@ class Tree:
                 if self.constant(cell["connections"][other][0]) == "1":
                     return self.path(cell["connections"][one][0], register, depth + 1)
             return self.gated(self.drivers[bit], register, depth)
-        self.refuse(register, f"its clock is made by a cell {cell['type']} ({place_of(self.module, cell)}), and is no input")
+        self.refuse(
+            register, f"its clock is made by a cell {cell['type']} ({place_of(self.module, cell)}), and is no input"
+        )
         raise AssertionError
 
     def gated(self, name: str, register: dict[str, Any], depth: int) -> Path:
@@ -208,11 +215,15 @@ def clock_of(tree: Tree, registers: dict[str, Edge], pins: Pins | None) -> str |
         port = tree.inputs[edge.path.root]
         first = first or port
         if port != (told or first):
-            tree.refuse(tree.cells[name], f"its clock is {port}, and that of other registers {told or first}; one is taken")
+            tree.refuse(
+                tree.cells[name], f"its clock is {port}, and that of other registers {told or first}; one is taken"
+            )
     chosen = told or first
     ports = tree.module["ports"]
     if not pins and chosen not in (None, "clk") and "clk" in ports:
-        raise ToolError(f"the registers' clock is {chosen}, and clk is another port: a file of pins tells which is which", 1)
+        raise ToolError(
+            f"the registers' clock is {chosen}, and clk is another port: a file of pins tells which is which", 1
+        )
     if chosen and len(ports[chosen]["bits"]) != 1:
         raise ToolError(f"the clock is bit 0 of {chosen}, which has several", 1)
     return chosen

@@ -1,8 +1,8 @@
 """A program that may change files in one folder alone, where the system can see to that.
 
-Landlock (Linux 5.13 on) takes the right to write elsewhere from the program; where that is missing, a mount namespace of its
-own does, in which all else is read only (Linux 5.12 on, where the caller may have one). Where neither is there, nothing holds
-the program, and the caller has to rest on what it refuses beforehand."""
+Landlock (Linux 5.13 on) takes the right to write elsewhere from the program; where that is missing, a mount namespace
+of its own does, in which all else is read only (Linux 5.12 on, where the caller may have one). Where neither is there,
+nothing holds the program, and the caller has to rest on what it refuses beforehand."""
 from __future__ import annotations
 
 import contextlib
@@ -37,7 +37,8 @@ def rule(ruleset: int, path: str, rights: int) -> bool:
 
 
 def ruleset_of(folder: pathlib.Path) -> int | None:
-    """A ruleset of Landlock by which only this folder can be changed, and the null device written; None without Landlock."""
+    """A ruleset of Landlock by which only this folder can be changed, and the null device written; None without
+    Landlock."""
     version = call(CREATE_RULESET, None, ctypes.c_size_t(0), 1)
     if version < 1:
         return None
@@ -84,8 +85,11 @@ def holds(folder: pathlib.Path) -> Iterator[Callable[[], object]]:
             os.close(ruleset)
 
 
-def run(words: Sequence[str], folder: pathlib.Path, seconds: float, out: pathlib.Path) -> subprocess.CompletedProcess[bytes]:
-    """Runs a program in a folder, which is all that it may change, for at most so many seconds; what it says goes to a file."""
+def run(
+    words: Sequence[str], folder: pathlib.Path, seconds: float, out: pathlib.Path
+) -> subprocess.CompletedProcess[bytes]:
+    """Runs a program in a folder, which is all that it may change, for at most so many seconds; what it says goes to a
+    file."""
     with holds(folder) as hold, open(out, "wb") as file:
         return subprocess.run(
             words,

@@ -1,6 +1,6 @@
-"""Any synthesizable Verilog (or VHDL, through GHDL) as a module of the subset: Yosys' words become operators of the subset
-with their widths, and the names of the sources stay. What nothing drives, what nothing sets and each `x` is open: a
-register that nothing sets."""
+"""Any synthesizable Verilog (or VHDL, through GHDL) as a module of the subset: Yosys' words become operators of the
+subset with their widths, and the names of the sources stay. What nothing drives, what nothing sets and each `x` is
+open: a register that nothing sets."""
 from __future__ import annotations
 
 import dataclasses
@@ -15,15 +15,19 @@ from vidlakost_tools.tool import ToolError
 from vidlakost_tools.verilog import clock_tree, known_cells, source_texts, yosys
 from vidlakost_tools.verilog.syntax import ranged
 from vidlakost_tools.verilog.vhdl import verilog_of
-from vidlakost_tools.verilog.yosys_operators import Drive, NotWords, Writer
+from vidlakost_tools.verilog.yosys_operators import Writer
+from vidlakost_tools.verilog.named_bits import Drive, NotWords
 
-# Two flip-flops with the same input are not one: before the first edge they may differ. So flip-flops are neither merged
-# nor made simpler, and an `x` is a number of its own wherever it stands.
+# Two flip-flops with the same input are not one: before the first edge they may differ. So flip-flops are neither
+# merged nor made simpler, and an `x` is a number of its own wherever it stands.
 SIMPLER = (
-    "opt_expr -keepdc\nopt_merge t:$*dff* t:$*DFF* t:$__* %u %u %n\nopt_muxtree\nopt_reduce\nopt_expr -keepdc\nopt_clean\n"
+    "opt_expr -keepdc\nopt_merge t:$*dff* t:$*DFF* t:$__* %u %u %n\nopt_muxtree\nopt_reduce\nopt_expr"
+    " -keepdc\nopt_clean\n"
 )
 OPEN_X = "setundef -anyseq\n"
-HARD = "t:$shiftx t:$shift t:$mul t:$div t:$mod t:$divfloor t:$modfloor t:$pow t:$alu t:$lcu t:$macc t:$fa t:$sshl t:$sshr"
+HARD = (
+    "t:$shiftx t:$shift t:$mul t:$div t:$mod t:$divfloor t:$modfloor t:$pow t:$alu t:$lcu t:$macc t:$fa t:$sshl t:$sshr"
+)
 HARD += " t:$demux t:$bmux t:$lut t:$sop"
 # a pass over what is too wide or too rare for an operator, which may leave such cells once more
 RARE = f"techmap {HARD}\n" * 3
@@ -71,8 +75,11 @@ class Plain:
 # ---- the module
 
 
-def plain_of(files: list[str], options: dict[str, Any], pins: Pins | None = None, tries: tuple[str, ...] = TRIES) -> Plain:
-    """The module of the sources, with the ports of the pins where these are told; the first of the tries that gives one."""
+def plain_of(
+    files: list[str], options: dict[str, Any], pins: Pins | None = None, tries: tuple[str, ...] = TRIES
+) -> Plain:
+    """The module of the sources, with the ports of the pins where these are told; the first of the tries that gives
+    one."""
     yosys.want()
     with tempfile.TemporaryDirectory() as name:
         folder = pathlib.Path(name)

@@ -1,5 +1,5 @@
-"""The cells of a netlist that Yosys made for a family of FPGAs: Yosys' own models of those that the netlist uses, without their
-times and without what their registers hold at first."""
+"""The cells of a netlist that Yosys made for a family of FPGAs: Yosys' own models of those that the netlist uses,
+without their times and without what their registers hold at first."""
 from __future__ import annotations
 
 import pathlib

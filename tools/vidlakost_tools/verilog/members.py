@@ -1,5 +1,6 @@
-"""A bit or a part of a structure's member whose place is no number: Yosys takes another member's bit where it lies beyond the
-member. Where it is read, a function of the member's word takes the place of the select, so that it lies in a word of its own."""
+"""A bit or a part of a structure's member whose place is no number: Yosys takes another member's bit where it lies
+beyond the member. Where it is read, a function of the member's word takes the place of the select, so that it lies in a
+word of its own."""
 from __future__ import annotations
 
 import dataclasses
@@ -9,12 +10,48 @@ from typing import Iterator
 from vidlakost_tools.text import shown
 from vidlakost_tools.tool import ToolError
 
-TOKEN = re.compile(r"\\[!-~]+|`?[A-Za-z_$][\w$]*|\d*'s?[bodh][\w?]*|\d[\w.]*|<=|>=|[=!]==?|[+-]:|&&|\|\||::|\S", re.IGNORECASE)
+TOKEN = re.compile(
+    r"\\[!-~]+|`?[A-Za-z_$][\w$]*|\d*'s?[bodh][\w?]*|\d[\w.]*|<=|>=|[=!]==?|[+-]:|&&|\|\||::|\S", re.IGNORECASE
+)
 NAME = re.compile(r"[A-Za-z_][\w$]*")
 # behind these begins a statement
-BEGINS = {";", "begin", "end", "else", "endcase", "endfunction", "endtask", "generate", "endgenerate", "always_comb", "fork", "join"}
+BEGINS = {
+    ";",
+    "begin",
+    "end",
+    "else",
+    "endcase",
+    "endfunction",
+    "endtask",
+    "generate",
+    "endgenerate",
+    "always_comb",
+    "fork",
+    "join",
+}
 # what stands before a parenthesis in which something is read
-READING = {"if", "case", "casez", "(", "=", "<=", "?", ":", ",", "{", "[", "return", *"+-*/%&|^~!<>", "&&", "||", "==", "!=", "===", "!==", ">="}
+READING = {
+    "if",
+    "case",
+    "casez",
+    "(",
+    "=",
+    "<=",
+    "?",
+    ":",
+    ",",
+    "{",
+    "[",
+    "return",
+    *"+-*/%&|^~!<>",
+    "&&",
+    "||",
+    "==",
+    "!=",
+    "===",
+    "!==",
+    ">=",
+}
 SIGNED = re.compile(r"\b(?:signed|byte|shortint)\b|'s", re.IGNORECASE)
 MEMBERS = re.compile(r"\b(?:struct|union)\s+packed\s*\{([^{}]*)\}")
 WORD = re.compile(r"\s*(?:logic|bit|reg)\s*\[\s*(\d+)\s*:\s*(\d+)\s*\]\s*((?:\w+\s*,\s*)*\w+)\s*")
@@ -35,7 +72,8 @@ class Select:
 
 
 def members_of(text: str) -> dict[str, tuple[int, int]]:
-    """The ranges of the members that structures declare as words of so many bits; none of a name that is declared twice."""
+    """The ranges of the members that structures declare as words of so many bits; none of a name that is declared
+    twice."""
     found: dict[str, list[tuple[int, int] | None]] = {}
     for body in MEMBERS.finditer(text):
         for line in body[1].split(";"):
@@ -96,7 +134,9 @@ class Reader:
         parens = [one for one in open_at if self.tokens[one] == "("]
         if not parens:
             return is_behind
-        return all(one > 0 and self.tokens[one - 1] in READING for one in parens) and (is_behind or self.tokens[parens[0] - 1] in ("if", "case", "casez"))
+        return all(one > 0 and self.tokens[one - 1] in READING for one in parens) and (
+            is_behind or self.tokens[parens[0] - 1] in ("if", "case", "casez")
+        )
 
     def select(self, at: int) -> Select | None:
         """The select whose bracket begins here; None where its place is numbers."""
@@ -114,7 +154,14 @@ class Reader:
         if mark and not width.isdigit() or is_twofold:
             word = ""
         index = self.text[self.places[at] + 1 : self.places[mark or last]].strip()
-        return Select(self.places[first], self.places[last] + 1, word, self.tokens[at - 1], index, int(width) if width.isdigit() else None)
+        return Select(
+            self.places[first],
+            self.places[last] + 1,
+            word,
+            self.tokens[at - 1],
+            index,
+            int(width) if width.isdigit() else None,
+        )
 
 
 @dataclasses.dataclass
@@ -151,8 +198,8 @@ def function_of(name: str, select: Select, span: tuple[int, int]) -> str:
 
 
 def rewritten(file: str, source: str, blank: str, sources: Sources) -> tuple[str, list[str]]:
-    """A source with functions in place of such selects, and what there is to say of each; `blank` is the source without comments
-    and texts. What can't be written so is refused, with what to write in its stead."""
+    """A source with functions in place of such selects, and what there is to say of each; `blank` is the source without
+    comments and texts. What can't be written so is refused, with what to write in its stead."""
     edits: list[tuple[int, int, str]] = []
     told = []
     for count, (select, is_read) in enumerate(Reader(blank).selects()):

@@ -1,7 +1,7 @@
-"""A plain model of `check`, by the definitions: one run of a controller in which every register of the first cycle and every
-word that returns is left open, and the first port in it that is not as the rule of the ports wants it. It judges the program:
-it shares nothing with it, and of the tools only the readers of a march, a memory and a module, whose meaning is told here
-alone. It takes modules that the program accepts; a number that is left open is None."""
+"""A plain model of `check`, by the definitions: one run of a controller in which every register of the first cycle and
+every word that returns is left open, and the first port in it that is not as the rule of the ports wants it. It judges
+the program: it shares nothing with it, and of the tools only the readers of a march, a memory and a module, whose
+meaning is told here alone. It takes modules that the program accepts; a number that is left open is None."""
 from __future__ import annotations
 
 import dataclasses
@@ -28,7 +28,8 @@ from vidlakost_tools.verilog.syntax import (
 
 # the ports that have a number or none in each cycle; `fail` is not looked at
 PORTS = ("en", "we", "addr", "wdata", "done")
-# the number of each name in a cycle, None where it is left open; what an expression is for them, and what a statement sets
+# the number of each name in a cycle, None where it is left open; what an expression is for them, and what a statement
+# sets
 Numbers = Mapping[str, Optional[int]]
 Number = Callable[[Numbers], Optional[int]]
 Sets = Callable[[Numbers], List[Tuple[str, Optional[int]]]]
@@ -46,8 +47,9 @@ class Value:
 
 @dataclasses.dataclass
 class Run:
-    """A module to be run: the width of each name, the inputs, the registers, an expression for each wire and plain output,
-    with the names that it reads, and the statements of all blocks in their order, as functions of the numbers of names."""
+    """A module to be run: the width of each name, the inputs, the registers, an expression for each wire and plain
+    output, with the names that it reads, and the statements of all blocks in their order, as functions of the numbers
+    of names."""
 
     widths: dict[str, int] = dataclasses.field(default_factory=dict)
     inputs: list[str] = dataclasses.field(default_factory=list)
@@ -80,7 +82,9 @@ class Run:
             return (lambda env: [(name, value(env))]), {name}
         if isinstance(statement, Block):
             parts = [self.sets(part) for part in statement.parts]
-            return (lambda env: [pair for part, _ in parts for pair in part(env)]), set().union(*(names for _, names in parts))
+            return (lambda env: [pair for part, _ in parts for pair in part(env)]), set().union(
+                *(names for _, names in parts)
+            )
         if isinstance(statement, If):
             return self.choice_of_statements(statement)
         return self.cases(statement)
@@ -256,7 +260,8 @@ def order_of(module: Run) -> list[str]:
 
 
 def clocked(module: Run, first: Numbers, inputs: Iterable[Numbers]) -> Iterator[Dict[str, Optional[int]]]:
-    """Of each cycle the numbers of all names, from what the registers hold at first, with what comes in in each cycle."""
+    """Of each cycle the numbers of all names, from what the registers hold at first, with what comes in in each
+    cycle."""
     order = order_of(module)
     registers: Dict[str, Optional[int]] = dict(first)
     for given in inputs:
@@ -279,8 +284,8 @@ def cycles_of(module: Run) -> Iterator[Dict[str, Optional[int]]]:
 
 
 def commands_of(elements: list[Element], memory: Memory) -> Iterator[Optional[Command]]:
-    """Of each cycle behind the reset, to the last of the march, its command: whether it writes, address and word; None in
-    a pause."""
+    """Of each cycle behind the reset, to the last of the march, its command: whether it writes, address and word; None
+    in a pause."""
     ones = (1 << memory.bits) - 1
     for background in memory.backgrounds:
         for element in elements:

@@ -1,5 +1,6 @@
-"""The rule of the ports as assertions of SystemVerilog: a controller of a march and a memory, cycle by cycle, beside which
-any other is compared. It is written from the description, as a designer would write one, with counters and tables."""
+"""The rule of the ports as assertions of SystemVerilog: a controller of a march and a memory, cycle by cycle, beside
+which any other is compared. It is written from the description, as a designer would write one, with counters and
+tables."""
 from __future__ import annotations
 
 from typing import Iterable
@@ -46,7 +47,8 @@ def rule(elements: list[Element], memory: Memory) -> str:
         downs=arms((f"6'd{count}", "goes_down = 1'b1") for count, element in numbered if element.order == "down"),
         operations=arms(operations),
         backgrounds=arms(
-            (f"3'd{count}", f"background_word = {memory.bits}'h{word:x}") for count, word in enumerate(memory.backgrounds)
+            (f"3'd{count}", f"background_word = {memory.bits}'h{word:x}")
+            for count, word in enumerate(memory.backgrounds)
         ),
         last_rest=memory.pause - 1,
         last_word=memory.words - 1,

@@ -1,5 +1,6 @@
-"""What a simulator reads otherwise in a source of Verilog than a synthesizer, by its text: sensitivity lists that are not whole,
-delays, signals that are read before they are set, assignments whose order is open, and what only one of both sees."""
+"""What a simulator reads otherwise in a source of Verilog than a synthesizer, by its text: sensitivity lists that are
+not whole, delays, signals that are read before they are set, assignments whose order is open, and what only one of both
+sees."""
 from __future__ import annotations
 
 import dataclasses
@@ -8,12 +9,18 @@ from typing import Iterator
 
 from vidlakost_tools.text import shown
 
-TOKEN = re.compile(r"\\[!-~]+|`?[A-Za-z_$][\w$]*|\d*'s?[bodh][\w?]*|'[01xz]|\d[\w.]*|[<>=!]=+|\+\+|--|::|\S", re.IGNORECASE)
+TOKEN = re.compile(
+    r"\\[!-~]+|`?[A-Za-z_$][\w$]*|\d*'s?[bodh][\w?]*|'[01xz]|\d[\w.]*|[<>=!]=+|\+\+|--|::|\S", re.IGNORECASE
+)
 NAME = re.compile(r"[A-Za-z_][\w$]*|\\[!-~]+")
 ALWAYS = ("always", "always_comb", "always_ff", "always_latch")
 LOCAL = ("reg", "logic", "bit", "integer", "int", "automatic", "static", "byte", "genvar", "localparam", "time", "real")
-WORDS = {*LOCAL, *ALWAYS, *"""or and not posedge negedge begin end if else case casez casex endcase for while repeat default signed
-    unsigned unique unique0 priority inside iff assign disable return break continue forever wait fork join""".split()}
+WORDS = {
+    *LOCAL,
+    *ALWAYS,
+    *"""or and not posedge negedge begin end if else case casez casex endcase for while repeat default signed unsigned
+    unique unique0 priority inside iff assign disable return break continue forever wait fork join""".split(),
+}
 CONSTANT = re.compile(r"\b(?:parameter|localparam|genvar|enum)\b[^;]*")
 DEEPEST = 200
 HIDDEN = re.compile(r"\b(?:synopsys|synthesis|pragma)\s+translate_off\b|\bpragma\s+translate\s+off\b")
@@ -32,7 +39,8 @@ class Event:
 
 @dataclasses.dataclass
 class Block:
-    """An `always`: where it begins, what it waits for (None: for all that it reads), whether for an edge, and its events."""
+    """An `always`: where it begins, what it waits for (None: for all that it reads), whether for an edge, and its
+    events."""
 
     at: int
     waits: set[str] | None
@@ -77,7 +85,11 @@ class Reader:
             self.here, self.events, self.locals = self.here + 1, [], set()
             waited = self.waited()
             self.statement(0)
-            names = None if waited is None or not waited or "*" in waited else {word for word in waited if NAME.fullmatch(word)}
+            names = (
+                None
+                if waited is None or not waited or "*" in waited
+                else {word for word in waited if NAME.fullmatch(word)}
+            )
             is_clocked = bool(waited) and ("posedge" in waited or "negedge" in waited) or word == "always_ff"
             events = [event for event in self.events if event.name not in self.locals]
             yield Block(at, names if word == "always" else None, is_clocked, events)
@@ -107,7 +119,11 @@ class Reader:
         """The tokens to one of these outside of parentheses; it goes on at that one."""
         begin, depth = self.here, 0
         while self.here < self.last and (depth > 0 or self.tokens[self.here] not in ends):
-            depth += 1 if self.tokens[self.here] in ("(", "[", "{") else -1 if self.tokens[self.here] in (")", "]", "}") else 0
+            depth += (
+                1
+                if self.tokens[self.here] in ("(", "[", "{")
+                else -1 if self.tokens[self.here] in (")", "]", "}") else 0
+            )
             self.here += 1
         return begin, self.here
 
@@ -251,7 +267,8 @@ def warnings_of(file: str, source: str, text: str) -> list[str]:
     if wild:
         found.append((wild.start(), "casex takes an x of what it looks at for any number"))
     return [
-        f"{shown(file)}:{text.count(chr(10), 0, at) + 1}: {why}; a simulator reads it otherwise" for at, why in sorted(found)[:8]
+        f"{shown(file)}:{text.count(chr(10), 0, at) + 1}: {why}; a simulator reads it otherwise"
+        for at, why in sorted(found)[:8]
     ]
 
 

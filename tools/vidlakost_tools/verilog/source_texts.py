@@ -19,8 +19,8 @@ OPENED = "opened"
 
 @dataclasses.dataclass
 class Sources:
-    """What is read: the script that reads it without initial values and opens what nothing drives, the top's name and its
-    parts before anything is made simpler, what there is to warn of, and the files that Yosys opened."""
+    """What is read: the script that reads it without initial values and opens what nothing drives, the top's name and
+    its parts before anything is made simpler, what there is to warn of, and the files that Yosys opened."""
 
     script: str
     top: str
@@ -29,8 +29,8 @@ class Sources:
     opened: list[str]
 
 
-# a text or a comment, in which a word means nothing to the preprocessor: as it is read without escaped names, and as Yosys
-# reads it, to which neither begins in such a name, and a text may go over several lines
+# a text or a comment, in which a word means nothing to the preprocessor: as it is read without escaped names, and as
+# Yosys reads it, to which neither begins in such a name, and a text may go over several lines
 READINGS = [
     re.compile(pattern, re.DOTALL)
     for pattern in (
@@ -39,7 +39,8 @@ READINGS = [
     )
 ]
 ASKED = re.compile(r"\b(YOSYS|SYNTHESIS)\b", re.ASCII)
-# attributes that make another net of one, or drive it, and that put other cells or connections in a place, for Yosys alone
+# attributes that make another net of one, or drive it, and that put other cells or connections in a place, for Yosys
+# alone
 ATTRIBUTES = re.compile(r"\(\*(?!\s*\)).*?(?:\*\)|\Z)", re.DOTALL)
 ATTRIBUTE = re.compile(r"\b(defaultvalue|wand|wor|hierconn|via_celltype|wildcard_port_conns)\b")
 STRUCTURE = re.compile(r"\b(struct|union)\b")
@@ -47,7 +48,8 @@ SELECTED = re.compile(r"\.\s*(\w+)\s*\[([^\]]*)\]")
 # a name behind a backslash; and without one a name of the system or of something elsewhere
 ESCAPED = re.compile(r"\\([!-~]+)")
 ELSEWHERE = re.compile(
-    r"(?<![\w$\\.:])(?:\$[A-Za-z_][\w$]*|[A-Za-z_][\w$]*(?:\s*\[[^\]\n]*\])?(?:\s*(?:\.|::)\s*[A-Za-z_][\w$]*(?:\s*\[[^\]\n]*\])?)+)"
+    r"(?<![\w$\\.:])(?:\$[A-Za-z_][\w$]*"
+    r"|[A-Za-z_][\w$]*(?:\s*\[[^\]\n]*\])?(?:\s*(?:\.|::)\s*[A-Za-z_][\w$]*(?:\s*\[[^\]\n]*\])?)+)"
 )
 INCLUDED = re.compile(r"`include\s*(\S*)")
 
@@ -65,8 +67,8 @@ def blanked(text: str, but_texts: bool = False) -> list[str]:
 
 
 def plain_text(file: str) -> str:
-    """A source as Yosys' preprocessor sees it, which passes over carriage returns. It unpacks what is packed, and takes a byte
-    0 for the end: such a file is refused."""
+    """A source as Yosys' preprocessor sees it, which passes over carriage returns. It unpacks what is packed, and takes
+    a byte 0 for the end: such a file is refused."""
     content = read_bytes(file, SOURCE_BYTES)
     if content.startswith(b"\x1f\x8b") or b"\0" in content:
         raise ToolError(f"{shown(file)} is packed, or has a byte 0, and is no source", 1)
@@ -95,8 +97,8 @@ QUOTED = re.compile(r'"([^"\n]+)"')
 
 
 def included(files: list[str]) -> list[str]:
-    """The sources, what those in Verilog include, and each file that a text in quotes names in one of them, as what a memory
-    holds at first."""
+    """The sources, what those in Verilog include, and each file that a text in quotes names in one of them, as what a
+    memory holds at first."""
     texts = with_included([file for file in files if not is_vhdl(file)])
     texts += [(file, plain_text(file)) for file in files if is_vhdl(file)]
     found = dict.fromkeys([*files, *(file for file, _ in texts)])
@@ -110,8 +112,8 @@ READ_BY_NAME = re.compile(r'\$readmem(?![hb]\s*\(\s*"[^"\n]*"\s*,)')
 
 
 def refuse_untold(out: str | None, files: list[str], begin: str) -> None:
-    """Refuses to write over what a source may read by a name that is put together: in a branch that isn't taken nobody tells
-    which file that is. A file that begins as an output does holds no memory."""
+    """Refuses to write over what a source may read by a name that is put together: in a branch that isn't taken nobody
+    tells which file that is. A file that begins as an output does holds no memory."""
     if out is None or not os.path.isfile(out) or not os.path.getsize(out):
         return
     with open(out, "rb") as file:
@@ -121,7 +123,10 @@ def refuse_untold(out: str | None, files: list[str], begin: str) -> None:
     for name, source in sources:
         for match in (match for text in blanked(source, but_texts=True) for match in READ_BY_NAME.finditer(text)):
             place = f"{shown(name)}:{source.count(chr(10), 0, match.start()) + 1}"
-            raise ToolError(f"{place}: what it reads has no name in quotes, and may be {shown(out)}: take that away, or write another")
+            raise ToolError(
+                f"{place}: what it reads has no name in quotes, and may be {shown(out)}: take that away, or write"
+                " another"
+            )
 
 
 def named_in(file: str, text: str) -> list[pathlib.Path]:
@@ -132,8 +137,8 @@ def named_in(file: str, text: str) -> list[pathlib.Path]:
 
 
 def opened(folder: pathlib.Path) -> list[str]:
-    """The files that Yosys opened, as it lists them behind those that it wrote: sources, what they include, and what they read
-    into memories by names of any kind."""
+    """The files that Yosys opened, as it lists them behind those that it wrote: sources, what they include, and what
+    they read into memories by names of any kind."""
     listed = (folder / OPENED).read_bytes().decode("utf-8", "surrogateescape").rstrip("\n")
     return [re.sub(r"\\ ", " ", name) for name in re.split(r"(?<!\\) ", listed.partition(": ")[2]) if name]
 
@@ -149,13 +154,15 @@ def refuse_attributes(file: str, source: str) -> None:
 
 
 def asked(files: list[str]) -> list[str]:
-    """What there is to warn of in sources that say something else to a simulator; those that ask for Yosys are refused, since
-    what is found would hold of no other tool's reading."""
+    """What there is to warn of in sources that say something else to a simulator; those that ask for Yosys are refused,
+    since what is found would hold of no other tool's reading."""
     warnings, sources = [], with_included(files)
     for file, source in sources:
         endless = next((place for place in named_in(file, source) if not place.is_file() and not place.is_dir()), None)
         if endless:
-            raise ToolError(f"{shown(file)}: it names {shown(str(endless))}, which is no plain file, and may never end", 1)
+            raise ToolError(
+                f"{shown(file)}: it names {shown(str(endless))}, which is no plain file, and may never end", 1
+            )
     for file, source in sources:
         refuse_attributes(file, source)
     if has_structures(sources):
@@ -176,8 +183,8 @@ def has_structures(sources: list[tuple[str, str]]) -> bool:
 
 
 def refuse_members(file: str, source: str, whole: str) -> None:
-    """Refuses a bit or a part of a member, by numbers, that does not lie in each range with which the sources declare the name;
-    where one of these is no numbers, all but bit 0."""
+    """Refuses a bit or a part of a member, by numbers, that does not lie in each range with which the sources declare
+    the name; where one of these is no numbers, all but bit 0."""
     for text in blanked(source):
         for match in SELECTED.finditer(text):
             ends = [int(number) for number in re.findall(r"[0-9]+", match[2])]
@@ -186,12 +193,14 @@ def refuse_members(file: str, source: str, whole: str) -> None:
             is_beyond = any(one and not int(one[2]) <= end <= int(one[1]) for one in declared for end in ends)
             is_open = any(ends) and (not declared or None in declared)
             if re.fullmatch(r"[0-9\s:]+", match[2]) and (is_beyond or is_open):
-                raise ToolError(f"{shown(file)}:{source.count(chr(10), 0, match.start()) + 1}: {members.WHY}{members.INSTEAD}", 1)
+                raise ToolError(
+                    f"{shown(file)}:{source.count(chr(10), 0, match.start()) + 1}: {members.WHY}{members.INSTEAD}", 1
+                )
 
 
 def with_members(files: list[str], folder: pathlib.Path) -> tuple[list[str], list[str]]:
-    """The sources, those in which a member's part has no number for its place as copies that say so in a way that Yosys reads as
-    a simulator does; and what there is to say of these."""
+    """The sources, those in which a member's part has no number for its place as copies that say so in a way that Yosys
+    reads as a simulator does; and what there is to say of these."""
     sources = with_included([file for file in files if not is_vhdl(file)])
     if not has_structures(sources):
         return files, []
@@ -212,8 +221,8 @@ def with_members(files: list[str], folder: pathlib.Path) -> tuple[list[str], lis
 
 
 def refuse_one_name(file: str, source: str) -> None:
-    """Refuses a name that is one with another behind a backslash to Yosys alone, which takes `$random` for the name of a wire
-    `\\$random`, and `u.x` for that of a wire `\\u.x`."""
+    """Refuses a name that is one with another behind a backslash to Yosys alone, which takes `$random` for the name of
+    a wire `\\$random`, and `u.x` for that of a wire `\\u.x`."""
     for text in blanked(source):
         escaped = set(ESCAPED.findall(text))
         for match in ELSEWHERE.finditer(text) if escaped else ():

@@ -1,4 +1,5 @@
-"""The commands of a march on a memory, as a testbench works them out one after another, so that no list of them is needed."""
+"""The commands of a march on a memory, as a testbench works them out one after another, so that no list of them is
+needed."""
 from __future__ import annotations
 
 from vidlakost_tools.text import template
@@ -49,6 +50,8 @@ def streamed(memory: Memory, elements: list[Element]) -> str:
         counts=arms((count, f"operations_of = {len(element.operations)}") for count, element in numbered),
         downs=arms((count, "goes_down = 1'b1") for count, element in numbered if element.order == "down"),
         operations=arms(operations),
-        backgrounds=arms((count, f"background_word = {memory.bits}'h{word:x}") for count, word in enumerate(memory.backgrounds)),
+        backgrounds=arms(
+            (count, f"background_word = {memory.bits}'h{word:x}") for count, word in enumerate(memory.backgrounds)
+        ),
         rows="\n".join(rows),
     )

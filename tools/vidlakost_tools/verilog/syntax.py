@@ -40,8 +40,8 @@ class Token:
 
 @dataclasses.dataclass
 class Expression:
-    """An expression: `literal`, `name` (with the bits that are selected of it), `prefix`, `infix`, `choice` or `join`; its
-    first byte, the token that says what it is, and its operands. `width` and `value` are those of a literal."""
+    """An expression: `literal`, `name` (with the bits that are selected of it), `prefix`, `infix`, `choice` or `join`;
+    its first byte, the token that says what it is, and its operands. `width` and `value` are those of a literal."""
 
     kind: str
     start: int

@@ -1,5 +1,5 @@
-"""Sources that can mean two things: rows of a case that overlap though they are said not to, a word of a memory that two blocks
-write, a register that two blocks set, and cells of a library whose driver can be off."""
+"""Sources that can mean two things: rows of a case that overlap though they are said not to, a word of a memory that
+two blocks write, a register that two blocks set, and cells of a library whose driver can be off."""
 from __future__ import annotations
 
 import dataclasses
@@ -20,8 +20,8 @@ HOLDS = template(__file__, "two_meanings_holds.sv")
 
 @dataclasses.dataclass
 class Rows:
-    """A case: its number, its depth in the text, what it looks at, its place, whether it is said that no two rows of it hold at
-    once, and its rows but for the default."""
+    """A case: its number, its depth in the text, what it looks at, its place, whether it is said that no two rows of it
+    hold at once, and its rows but for the default."""
 
     number: int
     depth: int
@@ -36,18 +36,23 @@ class Rows:
 
     def meet(self) -> bool:
         """Whether two rows may hold at once, of which the contrary is said."""
-        return self.is_said and any(not_apart(one, other) for at, one in enumerate(self.rows) for other in self.rows[:at])
+        return self.is_said and any(
+            not_apart(one, other) for at, one in enumerate(self.rows) for other in self.rows[:at]
+        )
 
     def wires(self) -> list[str]:
         return [f"{self.place}\n  wire {self.name(what, at)}" for at in range(len(self.rows)) for what in WIRES]
 
     def parts(self) -> list[str]:
-        """What drives the wires: that a row holds; that a later one does; that this one is taken even so, which is open."""
+        """What drives the wires: that a row holds; that a later one does; that this one is taken even so, which is
+        open."""
         found = []
         for at, row in enumerate(self.rows):
             holds, later, alone, is_open, may, taken = (self.name(what, at) for what in WIRES)
             found.append(HOLDS.substitute(name=holds, signal=self.signal, row=row))
-            behind = [self.name(what, at + 1) for what in ("holds", "later")] if at + 1 < len(self.rows) else ["1'0", "1'0"]
+            behind = (
+                [self.name(what, at + 1) for what in ("holds", "later")] if at + 1 < len(self.rows) else ["1'0", "1'0"]
+            )
             found += [gate("$or", later, *behind), gate("$not", alone, later), gate("$or", may, is_open, alone)]
             found.append(gate("$and", taken, holds, may))
             found.append(f"  cell $anyseq {is_open}$cell\n    parameter \\WIDTH 1\n    connect \\Y {is_open}\n  end")
@@ -60,7 +65,8 @@ def gate(kind: str, name: str, *signals: str) -> str:
 
 
 def not_apart(one: str, other: str) -> bool:
-    """Whether two rows may hold at once: none of their numbers may differ in a bit that both say, or one is no number."""
+    """Whether two rows may hold at once: none of their numbers may differ in a bit that both say, or one is no
+    number."""
     numbers = [[re.fullmatch(r" *\d+'([01-]+) *", part) for part in row.split(",")] for row in (one, other)]
     return any(
         first is None or second is None or not any({"0", "1"} == {*bits} for bits in zip(first[1], second[1]))
@@ -70,8 +76,8 @@ def not_apart(one: str, other: str) -> bool:
 
 
 def open_rows(rtlil: str) -> str:
-    """The modules where of rows that are said not to overlap, and do, any may be taken: a simulator takes the first, and a
-    synthesizer need not."""
+    """The modules where of rows that are said not to overlap, and do, any may be taken: a simulator takes the first,
+    and a synthesizer need not."""
     kept: list[str] = []
     cases: list[Rows] = []
     stack: list[tuple[Rows, list[int]]] = []
@@ -109,8 +115,8 @@ def open_rows(rtlil: str) -> str:
 
 
 def of_constant(row: str, signal: str) -> str:
-    """A row of a case that looks at a constant: a pattern that this meets is the constant itself, since Yosys passes over one
-    with a wild bit."""
+    """A row of a case that looks at a constant: a pattern that this meets is the constant itself, since Yosys passes
+    over one with a wild bit."""
     if not re.fullmatch(r"\d+'[01]+", signal):
         return row
     width, _, bits = signal.partition("'")
@@ -133,7 +139,9 @@ def drivers(module: dict[str, Any]) -> dict[object, tuple[str, int]]:
     """Of each bit the cell that drives it, and which bit of its output it is."""
     found = {}
     for name, cell in module["cells"].items():
-        for bit, index in ((bit, index) for pin in ("Y", "Q") for index, bit in enumerate(cell["connections"].get(pin, []))):
+        for bit, index in (
+            (bit, index) for pin in ("Y", "Q") for index, bit in enumerate(cell["connections"].get(pin, []))
+        ):
             found[bit] = name, index
     return found
 
@@ -142,7 +150,12 @@ def refuse_two_blocks(module: dict[str, Any]) -> None:
     """Refuses a register that two blocks set, and a memory of which two blocks may write one bit in one cycle."""
     driven: dict[object, str] = {}
     for name, cell in module["cells"].items():
-        bits = [bit for pin, bits in cell["connections"].items() if cell["port_directions"].get(pin) == "output" for bit in bits]
+        bits = [
+            bit
+            for pin, bits in cell["connections"].items()
+            if cell["port_directions"].get(pin) == "output"
+            for bit in bits
+        ]
         other = next((driven[bit] for bit in bits if bit in driven), None)
         if other is not None:
             both = [module["cells"][other], cell]
@@ -174,14 +187,19 @@ def refuse_writers(module: dict[str, Any]) -> None:
 
 def is_open_order(later: dict[str, Any], earlier: dict[str, Any]) -> bool:
     """Whether the first of two writers is behind the second in the text, and not behind it in one block."""
-    numbers = [int(cell["parameters"]["PORTID" if "PORTID" in cell["parameters"] else "PRIORITY"], 2) for cell in (later, earlier)]
+    numbers = [
+        int(cell["parameters"]["PORTID" if "PORTID" in cell["parameters"] else "PRIORITY"], 2)
+        for cell in (later, earlier)
+    ]
     if later is earlier or numbers[0] < numbers[1]:
         return False
     mask = later["parameters"].get("PRIORITY_MASK", "")[::-1]
     return bool(mask[numbers[1] : numbers[1] + 1] != "1")
 
 
-def meets(module: dict[str, Any], driver: dict[object, tuple[str, int]], one: dict[str, Any], other: dict[str, Any]) -> Iterator[bool]:
+def meets(
+    module: dict[str, Any], driver: dict[object, tuple[str, int]], one: dict[str, Any], other: dict[str, Any]
+) -> Iterator[bool]:
     """Of each bit whether two writers may both write it."""
     for first, second in zip(one["connections"]["EN"], other["connections"]["EN"]):
         yield may_be_one(module, driver, first) and may_be_one(module, driver, second)
@@ -205,8 +223,8 @@ def may_be_one(module: dict[str, Any], driver: dict[object, tuple[str, int]], bi
 
 
 def beyond_words(module: dict[str, Any]) -> Iterator[str]:
-    """What there is to warn of where an address has more bits than the number of a memory's last word: it is cut to these. With
-    fewer bits too it may lie beyond the words, and then it is open."""
+    """What there is to warn of where an address has more bits than the number of a memory's last word: it is cut to
+    these. With fewer bits too it may lie beyond the words, and then it is open."""
     memories = {f"\\{name}": said for name, said in module.get("memories", {}).items()}
     for cell in module["cells"].values():
         said = memories.get(cell["parameters"].get("MEMID", "")) if re.match(r"\$mem(rd|wr)", cell["type"]) else None
@@ -238,8 +256,8 @@ def off_cells(text: str) -> set[str]:
 
 
 def refuse_off(libraries: list[str], rtlil: str) -> None:
-    """Refuses a part that is such a cell: Yosys leaves out what turns its driver off. A `$pmux` that a source names is one too:
-    rows that overlap."""
+    """Refuses a part that is such a cell: Yosys leaves out what turns its driver off. A `$pmux` that a source names is
+    one too: rows that overlap."""
     off = {name for file in libraries for name in off_cells(read_bytes(file, LARGE_BYTES).decode("utf-8", "replace"))}
     place = ""
     for line in lines_of(rtlil):

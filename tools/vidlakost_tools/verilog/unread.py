@@ -83,7 +83,10 @@ def reason(sources: Iterable[tuple[str, str]], error: str) -> str | None:
 def latch(error: str) -> str | None:
     """What there is to say where a block that says to be combinational keeps what a signal is."""
     match = re.search(
-        r"Latch inferred for signal `\\(?:\S*?\.)?\\?([^\s']+)' from always_comb process `\S*\$proc\$(?:\S*/)?([^\s:/]+):",
+        (
+            r"Latch inferred for signal `\\(?:\S*?\.)?\\?([^\s']+)' from always_comb process"
+            r" `\S*\$proc\$(?:\S*/)?([^\s:/]+):"
+        ),
         error,
     )
     why = "an always_comb doesn't set it in every branch, and so it would be a latch; give it a default first"
@@ -96,4 +99,7 @@ def within_parts(said: Iterable[str]) -> Iterator[str]:
     for line in said:
         match = re.match(r"(?:.*/)?([^\s:/]+:\d+): Warning: Identifier `\\(\S+\.\S+)' is implicitly declared", line)
         if match:
-            yield f"{match[2]} ({match[1]}): Yosys follows no name into a part, and takes it for open; a port of the part carries it"
+            yield (
+                f"{match[2]} ({match[1]}): Yosys follows no name into a part, and takes it for open; a port of the part"
+                " carries it"
+            )

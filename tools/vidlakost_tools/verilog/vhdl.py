@@ -25,7 +25,8 @@ def is_vhdl(file: str) -> bool:
 
 
 def verilog_of(files: list[str], options: dict[str, Any], folder: pathlib.Path) -> tuple[list[str], dict[str, Any]]:
-    """The files with GHDL's Verilog in place of those in VHDL; the top is then its last entity, or the one that is named."""
+    """The files with GHDL's Verilog in place of those in VHDL; the top is then its last entity, or the one that is
+    named."""
     vhdl = [file for file in files if is_vhdl(file)]
     if not vhdl:
         return files, options
@@ -34,7 +35,9 @@ def verilog_of(files: list[str], options: dict[str, Any], folder: pathlib.Path) 
     texts = [read_described(file, SOURCE_BYTES) for file in vhdl]
     for file, text in zip(vhdl, texts):
         refuse_reaching(file, text)
-    entities = [name for text in texts for name in re.findall(r"^[ \t]*entity\s+(\w+)\s+is", text, re.MULTILINE | re.IGNORECASE)]
+    entities = [
+        name for text in texts for name in re.findall(r"^[ \t]*entity\s+(\w+)\s+is", text, re.MULTILINE | re.IGNORECASE)
+    ]
     if not entities:
         raise ToolError(f"{vhdl[-1]} has no entity")
     is_mixed = len(vhdl) < len(files)
@@ -53,8 +56,8 @@ def verilog_of(files: list[str], options: dict[str, Any], folder: pathlib.Path) 
 
 
 def synthesized(form: str, names: list[str], top: str, folder: pathlib.Path) -> str:
-    """What GHDL makes of an entity, as a text of one of its forms. It may change nothing but what it leaves in a folder of its
-    own, since it opens the files that sources name."""
+    """What GHDL makes of an entity, as a text of one of its forms. It may change nothing but what it leaves in a folder
+    of its own, since it opens the files that sources name."""
     with tempfile.TemporaryDirectory(dir=folder) as own:
         out = pathlib.Path(own) / "out"
         out.touch()
@@ -84,8 +87,8 @@ def declared_at(texts: dict[str, str]) -> dict[str, tuple[str, int]]:
 
 
 def placed(verilog: str, texts: dict[str, str]) -> str:
-    """GHDL's Verilog whose declarations have the places of the sources, where a name of the sources has stayed, or is that
-    of the register behind it; a file whose name `line` can't carry has none."""
+    """GHDL's Verilog whose declarations have the places of the sources, where a name of the sources has stayed, or is
+    that of the register behind it; a file whose name `line` can't carry has none."""
     places = declared_at({file: text for file, text in texts.items() if re.fullmatch(r'[^\s"\\]+', file)})
     for name, register in re.findall(r"^\s*assign (\w+) = (n\d+_q);", verilog, re.MULTILINE):
         if name.lower() in places:
@@ -106,8 +109,8 @@ def literal_of(value: str) -> str | None:
 
 
 def with_defaults(verilog: str, vhdl: str) -> str:
-    """GHDL's Verilog, in whose `case` some versions leave out what stands behind `when others`, with it. Where it can't be
-    read, the signal is a latch, which is refused."""
+    """GHDL's Verilog, in whose `case` some versions leave out what stands behind `when others`, with it. Where it can't
+    be read, the signal is a latch, which is refused."""
     others = {}
     for name, body in re.findall(r"^\s*with \w+ select (\w+) <=(.*?);", vhdl, re.MULTILINE | re.DOTALL):
         last = re.search(r"(\S+) when others\s*$", body)

@@ -1,6 +1,7 @@
 """What of a source in VHDL reaches beyond it: files of the system, and functions that are not VHDL.
 
-GHDL opens a file that a source declares when it elaborates it, to write too, so such a source is refused before GHDL sees it."""
+GHDL opens a file that a source declares when it elaborates it, to write too, so such a source is refused before GHDL
+sees it."""
 from __future__ import annotations
 
 import re
@@ -11,8 +12,8 @@ from vidlakost_tools.tool import ToolError
 # a line of GHDL's, which ends with any of these
 END = re.compile("\r\n|[\n\r\v\f]")
 REST = "[^\n\r\v\f]*"
-# A comment and a text in quotes say nothing. Where a quote, a backslash or a `%` may be a letter or begin a text, all that
-# follows on the line is looked at.
+# A comment and a text in quotes say nothing. Where a quote, a backslash or a `%` may be a letter or begin a text, all
+# that follows on the line is looked at.
 COMMENT = rf"--{REST}|/\*.*?(?:\*/|\Z)"
 QUOTED = r'"[^"\n\r\v\f]*"|\\[^\\\n\r\v\f]*\\'
 EITHER = rf"""'["\\%]'{REST}|["\\%]{REST}"""
@@ -33,7 +34,8 @@ def code_of(text: str) -> str:
 
 
 def reaching(text: str) -> tuple[int, str, str] | None:
-    """The first word that reaches beyond a source, with the place behind which it stands, and why; None where none does."""
+    """The first word that reaches beyond a source, with the place behind which it stands, and why; None where none
+    does."""
     found = BEYOND.search(code_of(text))
     if found:
         return found.start(), found[0], FOREIGN if found[0].lower() == "foreign" else OPENS

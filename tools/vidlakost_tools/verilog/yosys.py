@@ -1,4 +1,4 @@
-"""What the tools that ask Yosys share: names that its scripts can carry, what it says, and signals with two drivers."""
+"""What the tools that ask Yosys share: names that its scripts can carry, and what it says."""
 from __future__ import annotations
 
 import dataclasses
@@ -14,6 +14,7 @@ from typing import Any, Mapping
 from vidlakost_tools.text import LARGE_BYTES, Path, beside, lines_of, read_bytes, shown, template
 from vidlakost_tools.tool import ToolError, identifier, telling
 from vidlakost_tools.verilog import known_cells, simulation, two_meanings, unread
+from vidlakost_tools.verilog.rtlil import driven_constant, driven_twice, without_initial, written_contents
 from vidlakost_tools.verilog.source_texts import OPENED, Sources, asked, blanked, opened, with_included, with_members
 
 
@@ -57,7 +58,9 @@ class Slow(ToolError):
 SECONDS = 300.0
 MEMORY = 4 << 30
 # what a log says of the step at which it is
-AT = re.compile(r"(Executing|Generating|Importing|Setting up|Solving|Parsing|Optimizing|Running|Finding|Mapping) [^\n]*")
+AT = re.compile(
+    r"(Executing|Generating|Importing|Setting up|Solving|Parsing|Optimizing|Running|Finding|Mapping) [^\n]*"
+)
 
 
 def how_far(log: pathlib.Path) -> str:
@@ -78,8 +81,8 @@ def bounded() -> None:
 
 
 def run(script: str, folder: pathlib.Path, *flags: str, seconds: float | None = None) -> list[str]:
-    """The lines that Yosys says of a script; where it fails its error is told, with the warnings before it. It is ended when it
-    takes too long."""
+    """The lines that Yosys says of a script; where it fails its error is told, with the warnings before it. It is ended
+    when it takes too long."""
     file, log = folder / "script.ys", folder / "log"
     file.write_text(script)
     bound = seconds or SECONDS
@@ -98,7 +101,10 @@ def run(script: str, folder: pathlib.Path, *flags: str, seconds: float | None = 
             why = "a loop without end in the sources would look so"
             raise Slow(f"Yosys took longer than {bound:g} seconds ({how_far(log)}), and was ended; {why}", 1) from error
     # what a reader can't find says nothing to him
-    lines = [re.sub(rf"{re.escape(str(folder))}/(?:given\d+/)?", "", line) for line in lines_of(done.stdout.decode("utf-8", "replace"))]
+    lines = [
+        re.sub(rf"{re.escape(str(folder))}/(?:given\d+/)?", "", line)
+        for line in lines_of(done.stdout.decode("utf-8", "replace"))
+    ]
     if done.returncode and any("bad_alloc" in line for line in lines[-9:]):
         why = "a loop without end in the sources would look so"
         raise Slow(f"Yosys took more than {MEMORY >> 30} GB of memory ({how_far(log)}), and was ended; {why}", 1)
@@ -120,7 +126,9 @@ class Gates:
 def gates_of(module: pathlib.Path, library: str) -> Gates:
     """The gates of the module of a file, of a library of `abc -g`."""
     script = f"read_verilog {quoted(module)}; synth -flatten; abc -g {library}; opt_clean; stat; ltp -noff"
-    done = subprocess.run(["yosys", "-p", script], stdout=subprocess.PIPE, stderr=subprocess.STDOUT, text=True, check=False)
+    done = subprocess.run(
+        ["yosys", "-p", script], stdout=subprocess.PIPE, stderr=subprocess.STDOUT, text=True, check=False
+    )
     counted = re.search(r".*Number of cells:\s+(\d+)(.*)", done.stdout, re.DOTALL)
     depth = re.search(r"length=(\d+)", done.stdout)
     if done.returncode or counted is None or depth is None:
@@ -142,130 +150,15 @@ def warnings_in(lines: list[str]) -> list[str]:
     return found
 
 
-# ---- signals with two drivers
-
-
-def parts_of(signal: str) -> list[str]:
-    """The parts of a signal as RTLIL writes it: `\\a`, `\\a [3]`, `\\a [3:0]`, a constant, or several in braces."""
-    return re.findall(r"[\\$][^ ]+(?: \[[0-9:]+\])?|[0-9]+'[^ ]+", signal)
-
-
-def bits_of(part: str, widths: Mapping[str, int]) -> list[tuple[str, int]]:
-    """The bits of a part; none of a constant."""
-    if part[0] not in "\\$":
-        return []
-    name, _, at = part.partition(" ")
-    if not at:
-        return [(name, bit) for bit in range(widths.get(name, 1))]
-    high, _, low = at[1:-1].partition(":")
-    return [(name, bit) for bit in range(int(low or high), int(high) + 1)]
-
-
-def left_of(line: str) -> str:
-    """The left side of a connection."""
-    body = line[len("connect ") :]
-    if body.startswith("{"):
-        # a name may have a brace in it, but none begins with one
-        return body[: body.index(" }") + 2]
-    found = re.match(r"[^ ]+(?: \[[0-9:]+\])?", body)
-    return found[0] if found else ""
-
-
-def driven_twice(rtlil: str) -> str | None:
-    """A signal with two `assign`s, also where both are constants, which Yosys' `check` does not see."""
-    widths: dict[str, int] = {}
-    places: dict[str, str] = {}
-    driven: set[tuple[str, int]] = set()
-    depth, place = 0, ""
-    for line in map(str.strip, lines_of(rtlil)):
-        if line.startswith("module "):
-            depth, driven = 0, set()
-        depth += line.startswith(("cell ", "process ", "switch ")) - (line == "end")
-        if line.startswith("attribute \\src "):
-            place = line.split('"')[1]
-        found = re.fullmatch(r"wire (?:.* )?([\\$][^ ]+)", line)
-        if found:
-            width = re.search(r" width ([0-9]+) ", line)
-            widths[found[1]], places[found[1]] = int(width[1]) if width else 1, place
-        if depth > 0 or not line.startswith("connect "):
-            continue
-        for bit in [bit for part in parts_of(left_of(line)) for bit in bits_of(part, widths)]:
-            if bit in driven:
-                return f"{bit[0].lstrip(chr(92))} ({places.get(bit[0], 'no place')}) has two drivers"
-            driven.add(bit)
-    return None
-
-
-def driven_constant(module: Mapping[str, Any]) -> str | None:
-    """A cell whose output is tied to a constant."""
-    for cell in module["cells"].values():
-        for pin, bits in cell["connections"].items():
-            outward = cell.get("port_directions", {}).get(pin) == "output"
-            if outward and any(bit in ("0", "1", "x", "z") for bit in bits):
-                return f"what is driven at {cell['attributes'].get('src', 'no place')} is a constant elsewhere"
-    return None
-
-
-# ---- sources without initial values
-
-
-def without_initial(rtlil: str) -> tuple[str, bool]:
-    """The modules without what their `initial` blocks and initial values say, and whether they said anything. Of a register
-    that nothing else sets Yosys makes a constant where it reads them. What a memory holds at first is left to
-    `written_contents`: which of its bits are said is written as the number that it is."""
-    kept: list[str] = []
-    process: list[str] | None = None
-    enables: dict[str, str] = {}
-    had = False
-    for line in lines_of(rtlil):
-        if line.startswith("  process "):
-            process = []
-        if process is None:
-            kept.append(line)
-            continue
-        process.append(line)
-        if line == "  end":
-            if any(part.strip() == "sync init" for part in process):
-                enables.update(enables_of(process))
-                rest = [part for part in process if not part.strip().startswith(("update ", "memwr "))]
-                had |= sum("$memwr$" not in part for part in process if part not in rest) > 0
-                process = rest
-            kept += process
-            process = None
-    return "\n".join(map(lambda line: told_enable(line, enables), kept)) + "\n", had
-
-
-def enables_of(process: list[str]) -> dict[str, str]:
-    """The constants in a process of `initial` that say which bits of a memory it sets."""
-    words = [part.split() for part in process]
-    constants = {part[1]: part[2] for part in words if len(part) == 3 and part[0] == "assign" and "'" in part[2]}
-    updates = [part for part in words if len(part) == 3 and part[0] == "update" and part[1].startswith("$memwr$")]
-    return {part[1]: constants[part[2]] for part in updates if part[2] in constants}
-
-
-def told_enable(line: str, enables: dict[str, str]) -> str:
-    """A line of a cell, with the constant where it names one of them."""
-    words = line.split()
-    return f"    connect \\EN {enables[words[2]]}" if words[:2] == ["connect", "\\EN"] and words[2] in enables else line
-
-
-def written_contents(module: dict[str, Any]) -> str:
-    """A script that takes away what the memories hold at first that are written; what is only read keeps it."""
-    cells = [(cell["type"], cell["parameters"].get("MEMID", "")) for cell in module["cells"].values()]
-    written = {name for kind, name in cells if re.match(r"\$memwr|\$mem(_v2)?$", kind)}
-    dropped = sorted({name for kind, name in cells if kind.startswith("$meminit") and name in written})
-    if not all(re.fullmatch(r"\\[\w.]+", name) for name in dropped):
-        return "delete t:$meminit*\n"
-    return "".join(f"delete t:$meminit* r:MEMID=\\{name} %i\n" for name in dropped)
-
-
 # what nothing drives is open: it may have any number in any cycle
 OPEN = "setundef -undriven -anyseq\n"
-# So is a bit beyond the word of which a part is selected: Yosys' own passes take any other bit for it. A part that is always
-# within its word stays as it is. And so is what is written to a part that begins below its word, which Yosys drops whole.
+# So is a bit beyond the word of which a part is selected: Yosys' own passes take any other bit for it. A part that is
+# always within its word stays as it is. And so is what is written to a part that begins below its word, which Yosys
+# drops whole.
 BEYOND = beside(__file__, "yosys_beyond.v")
-# A shift by 2 ** 31 or more leaves nothing, or the sign. Yosys' own passes take such a constant for a negative number, also
-# where it becomes one late, so the amount's bits from 31 on are looked at beside the shift, unless they are 0 already.
+# A shift by 2 ** 31 or more leaves nothing, or the sign. Yosys' own passes take such a constant for a negative number,
+# also where it becomes one late, so the amount's bits from 31 on are looked at beside the shift, unless they are 0
+# already.
 FAR = beside(__file__, "yosys_far.v")
 # What is divided by 0 is open. The cell itself stays, so that the pass goes over each once.
 BY_ZERO = template(__file__, "yosys_by_zero.v")
@@ -278,15 +171,22 @@ DIVISIONS = ("$div", "$mod", "$divfloor", "$modfloor")
 def read(files: list[str], options: Mapping[str, Any], folder: pathlib.Path) -> Sources:
     """The sources; a signal with two drivers is refused."""
     asks = asked(files)
-    given, raw, plain, first, parts = (folder / name for name in ("given.il", "raw.il", "plain.il", "first.il", "first.json"))
+    given, raw, plain, first, parts = (
+        folder / name for name in ("given.il", "raw.il", "plain.il", "first.il", "first.json")
+    )
     cells = known_cells.cells_of(options, [blanked(source)[0] for _, source in with_included(files)])
     (folder / "cells.v").write_text(cells)
-    # without -nodpi Yosys would run a function of C that a source names, in its own process; and a module with the name of one
-    # of its cells would take the place of each such cell
+    # without -nodpi Yosys would run a function of C that a source names, in its own process; and a module with the name
+    # of one of its cells would take the place of each such cell
     copies, rewritten = with_members(files, folder)
     more = [str(folder / "cells.v")] if cells else []
-    folders = " ".join(f"-I{quoted(place)}" for place in dict.fromkeys(os.path.dirname(file) or "." for file in files) if rewritten)
-    reading = f"read_verilog -sv -icells -nodpi {folders} {sources_of([*copies, *more])}\nwrite_rtlil {quoted(given)}\n{libraries_of(options)}"
+    folders = " ".join(
+        f"-I{quoted(place)}" for place in dict.fromkeys(os.path.dirname(file) or "." for file in files) if rewritten
+    )
+    reading = (
+        f"read_verilog -sv -icells -nodpi {folders} {sources_of([*copies, *more])}\nwrite_rtlil"
+        f" {quoted(given)}\n{libraries_of(options)}"
+    )
     reading += f"select -assert-none $*\nhierarchy -check {top_of(options)}\n"
     try:
         said = run(f"{reading}write_rtlil {quoted(raw)}\n", folder, "-q", "-E", str(folder / OPENED))
@@ -338,8 +238,15 @@ def read(files: list[str], options: Mapping[str, Any], folder: pathlib.Path) -> 
 
 def taken_name(files: list[str]) -> str:
     """What there is to say of a module that would take the place of one of Yosys' own cells or modules."""
-    found = [(file, source, match) for file, source in with_included(files) for match in re.finditer(r"\bmodule\s+\\(\$\S+)", source)]
-    places = [f"{shown(file)}:{source.count(chr(10), 0, match.start()) + 1}: {shown(match[1])}: " for file, source, match in found]
+    found = [
+        (file, source, match)
+        for file, source in with_included(files)
+        for match in re.finditer(r"\bmodule\s+\\(\$\S+)", source)
+    ]
+    places = [
+        f"{shown(file)}:{source.count(chr(10), 0, match.start()) + 1}: {shown(match[1])}: "
+        for file, source, match in found
+    ]
     why = "a module has a name that begins with $, as Yosys' own cells have, and would take their place"
     return f"{places[0] if places else ''}{why}; a netlist that is flattened has none, or another name says the same"
 

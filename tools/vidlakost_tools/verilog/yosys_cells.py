@@ -13,7 +13,9 @@ REFUSED = [
     (r"\$tribuf|\$_TBUF_", "a tri-state driver"),
 ]
 HINTS = {
-    "a latch": "set the signal in every branch, or give it a default first; a latch is taken where it gates the clock alone",
+    "a latch": (
+        "set the signal in every branch, or give it a default first; a latch is taken where it gates the clock alone"
+    ),
     "an asynchronous load": "an asynchronous reset loads a constant",
     "a tri-state driver": "a multiplexer says which driver is taken",
 }
@@ -25,7 +27,9 @@ def place_of(module: dict[str, Any], cell: dict[str, Any]) -> str:
     names = [name for name, net in module["netnames"].items() if not net["hide_name"] and driven & set(net["bits"])]
     places = {name: module["netnames"][name]["attributes"].get("src", "") for name in names}
     # a name of the sources, before one that stands in what is made of them alone
-    names.sort(key=lambda name: (not places[name] or is_made(places[name]), re.fullmatch(r"n\d+_[a-z]", name) is not None))
+    names.sort(
+        key=lambda name: (not places[name] or is_made(places[name]), re.fullmatch(r"n\d+_[a-z]", name) is not None)
+    )
     found = [place for place in (cell["attributes"].get("src", ""), *map(places.__getitem__, names)) if place]
     where = next((place for place in found if not is_made(place)), found[0] if found else "")
     return ", ".join([*names[:1], *([short(where)] if where else [])])
@@ -53,8 +57,14 @@ def live_cells(module: dict[str, Any]) -> set[str]:
     found = set()
     for name, cell in cells.items():
         ways = cell.get("port_directions", {})
-        drivers.update((bit, name) for pin, bits in cell["connections"].items() if ways.get(pin) == "output" for bit in bits)
-        if cell["type"].startswith("$mem") or not set(cell["connections"]) <= set(ways) or "output" not in ways.values():
+        drivers.update(
+            (bit, name) for pin, bits in cell["connections"].items() if ways.get(pin) == "output" for bit in bits
+        )
+        if (
+            cell["type"].startswith("$mem")
+            or not set(cell["connections"]) <= set(ways)
+            or "output" not in ways.values()
+        ):
             found.add(name)
     todo = [bit for said in module["ports"].values() if said["direction"] != "input" for bit in said["bits"]]
     todo += [bit for name in found for bits in cells[name]["connections"].values() for bit in bits]
@@ -67,8 +77,8 @@ def live_cells(module: dict[str, Any]) -> set[str]:
 
 
 def choices_of(module: dict[str, Any], latch: dict[str, Any]) -> set[str]:
-    """The choices by which a latch takes what it takes. Yosys leaves out of them that it keeps what it holds, so that what else
-    reads them reads something else."""
+    """The choices by which a latch takes what it takes. Yosys leaves out of them that it keeps what it holds, so that
+    what else reads them reads something else."""
     drivers = {bit: name for name, cell in module["cells"].items() for bit in cell["connections"].get("Y", [])}
     todo, found = list(latch["connections"].get("D", [])), set()
     while todo:
@@ -80,8 +90,8 @@ def choices_of(module: dict[str, Any], latch: dict[str, Any]) -> set[str]:
 
 
 def refuse_cells(module: dict[str, Any], taken: set[str]) -> None:
-    """Refuses what later passes would make something else of, as a flip-flop of a latch; not those that are taken, nor those on
-    which nothing hangs, as the latch of a loop's variable that nothing reads behind the loop."""
+    """Refuses what later passes would make something else of, as a flip-flop of a latch; not those that are taken, nor
+    those on which nothing hangs, as the latch of a loop's variable that nothing reads behind the loop."""
     live = live_cells(module)
     for name, cell in module["cells"].items():
         if name in taken or name not in live and not choices_of(module, cell) & live:

@@ -1,0 +1,215 @@
+"""What is tested: a memory or the memories of a chip, as modules of Verilog with their ports."""
+from __future__ import annotations
+
+import dataclasses
+from typing import Sequence
+
+from vidlakost_tools.refusals.otherwise import RESERVED
+from vidlakost_tools.text import read_described, statements
+from vidlakost_tools.texts.chip import Chip
+from vidlakost_tools.texts.memory import Memory
+from vidlakost_tools.tool import ToolError
+from vidlakost_tools.verilog.syntax import ranged
+
+# the identity of a TAP for which nobody names another
+IDENTITY = 0x10000A01
+# classes that every source of SystemVerilog has
+BUILT_IN = {"process", "mailbox", "semaphore"}
+SIGNALS = ("rdata", "en", "we", "addr", "wdata")
+
+
+@dataclasses.dataclass
+class Port:
+    """A port of a module of Verilog."""
+
+    direction: str
+    name: str
+    width: int = 1
+
+    def declared(self) -> str:
+        return f"{self.direction} {ranged(self.width)}{self.name}"
+
+
+@dataclasses.dataclass
+class Unit:
+    """A memory, and what stands behind the names of its ports."""
+
+    memory: Memory
+    suffix: str
+    start: int = 0
+
+    def ports(self) -> list[Port]:
+        """The ports of the self-test towards the memory."""
+        it, word = self.memory, self.memory.bits
+        widths = {"rdata": word, "en": 1, "we": 1, "addr": it.width, "wdata": word}
+        return [Port("input" if name == "rdata" else "output", name + self.suffix, widths[name]) for name in SIGNALS]
+
+
+@dataclasses.dataclass
+class Target:
+    """What is tested: one memory, or the memories of a chip, the module of the self-test, the cycle of `done` where the
+    march is known, and how many wrong reads a log keeps that a bus reads, where one does. Of a TAP the identity, and
+    whether its registers stand behind segment insertion bits."""
+
+    name: str
+    top: str
+    units: list[Unit]
+    is_chip: bool
+    done: int | None = None
+    depth: int | None = None
+    identity: int = IDENTITY
+    has_sib: bool = False
+
+    @staticmethod
+    def of_memory(memory: Memory, done: int | None) -> Target:
+        return Target(memory.name, f"{memory.name}_bist", [Unit(memory, "")], False, done)
+
+    @staticmethod
+    def of_chip(chip: Chip) -> Target:
+        if chip.name in RESERVED | BUILT_IN:
+            why = "is a word of SystemVerilog, so most simulators refuse the chip's module: give it another name"
+            raise ToolError(f"'{chip.name}' {why}")
+        units = [Unit(unit.memory, f"_{number}", unit.start) for number, unit in enumerate(chip.units)]
+        return Target(chip.name, chip.name, units, True, chip.done)
+    # whether the first failure of each memory is kept, and not that of all alone
+    each: bool = False
+
+    @property
+    def word(self) -> int:
+        """The bits of the widest word."""
+        return max(unit.memory.bits for unit in self.units)
+
+    @property
+    def count(self) -> int:
+        return len(self.units)
+
+    @property
+    def length(self) -> int:
+        """The cycle of `done`, where the march is known."""
+        if self.done is None:
+            raise ToolError(f"how long the test of {self.name} takes is not known without its march")
+        return self.done
+
+    @property
+    def unit_bits(self) -> int:
+        """The bits of the number of a unit."""
+        return max(1, (self.count - 1).bit_length())
+
+    def ports(self) -> list[Port]:
+        return [port for unit in self.units for port in unit.ports()]
+
+    def result(self) -> list[Port]:
+        """What is kept of the first failure."""
+        words = [Port("output", name, self.word) for name in ("expected", "returned")]
+        unit = [Port("output", "unit", self.unit_bits)] if self.is_chip else []
+        return [Port("output", "cycle", 32), *words, *unit]
+
+    # ---- what a whole chip has in another way
+
+    def conditional(self) -> list[str]:
+        """The lines of ports that stand under a define."""
+        return []
+
+    def handed_on(self) -> list[str]:
+        """The lines of their links, from a module to the one inside."""
+        return []
+
+    def nets(self) -> list[str]:
+        """What is declared beside the ports, for what the self-test writes and reads."""
+        return []
+
+    def self_test(self) -> list[str]:
+        """The instance of the self-test."""
+        return [
+            f"  {self.top} self_test(.clk(clk), .reset(!test), {links(self.ports())},",
+            "    .done(over), .fail(fail));",
+        ]
+
+    def bench_head(self) -> str:
+        """What stands before the module of a testbench."""
+        return ""
+
+    def bench_nets(self) -> str:
+        """The nets of a testbench for the ports."""
+        return "\n".join(f"  wire {ranged(port.width)}{port.name};" for port in self.ports())
+
+    def bench_links(self) -> str:
+        """Further links of the module under test."""
+        return ""
+
+    def beside_nets(self) -> str:
+        """What is declared for what stands beside the module under test."""
+        return ""
+
+    def beside(self) -> str:
+        """What stands beside the module under test, and has faults planted in it."""
+        return model_links(self)
+
+    def ends(self, kind: str) -> str:
+        """What looks at both ends of the pins that go through the module under test, which is of this kind."""
+        return ""
+
+    def wanted_fails(self) -> str:
+        """The bits of fail that a testbench has to see."""
+        return f"planted ? {self.count}'d1 << at_unit : {zero(self.count)}"
+
+    def read_each(self, kind: str, read: str) -> str:
+        """What a testbench does to read the first failure of each memory; `read` are the statements that read what is
+        told."""
+        return ""
+
+    def how_planted(self) -> str:
+        """The words of a call that plants a fault."""
+        which = " +unit=U" if self.is_chip else ""
+        return (
+            f"//   +planted +address=A +bit=B +value=V{which}   a bit of a word is stuck at V (0 where nothing is said"
+            " of a number)"
+        )
+
+    def choice(self) -> list[Port]:
+        """Of a chip the units whose failures are not kept."""
+        return [Port("input", "ignore", self.count)] if self.is_chip else []
+
+
+def is_chip_file(path: str) -> bool:
+    """Whether a file begins as a chip file does."""
+    said = statements(read_described(path))
+    return bool(said) and said[0][1] == "chip"
+
+
+def is_list(path: str) -> bool:
+    """Whether a file begins as a list of memories above chip files does."""
+    said = statements(read_described(path))
+    return bool(said) and said[0][1] == "list"
+
+
+def header(
+    about: str, name: str, ports: list[Port], registers: tuple[str, ...] = (), before: Sequence[str] = ()
+) -> str:
+    """The comment, the name and the ports of a module; `before` are lines of ports that stand under a define."""
+    lines = []
+    for port in ports:
+        kept = port.name in registers
+        lines.append(port.declared().replace("output ", "output reg ", 1) if kept else port.declared())
+    first = "".join(f"{line}\n" for line in before)
+    return f"{about}\nmodule {name}(\n{first}  " + ",\n  ".join(lines) + "\n);\n"
+
+
+def links(ports: list[Port]) -> str:
+    """The same names on both sides of an instance."""
+    return ", ".join(f".{port.name}({port.name})" for port in ports)
+
+
+def zero(width: int) -> str:
+    return f"{width}'d0"
+
+
+def extended(name: str, width: int, to: int) -> str:
+    """A word with zeros in front."""
+    return f"{{{to - width}'d0, {name}}}" if to > width else name
+
+
+def model_links(target: Target) -> str:
+    """An instance of the model."""
+    names = [Port("", name) for name in ("planted", "at_unit", "at_address", "at_bit", "at_value")]
+    return f"  {target.name}_model memories(.clk(clk), {links(target.ports())},\n    {links(names)});\n"
