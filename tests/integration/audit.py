@@ -1,8 +1,9 @@
 """The rows of python3 -m tests.integration for `audit`, and what it needs of files."""
 from __future__ import annotations
 
-from typing import List, Tuple
+from typing import List
 
+from tests.integration.call import Call
 from vidlakost_tools.program import ROOT
 from vidlakost_tools.text import read_text
 
@@ -37,7 +38,7 @@ FILES = {
 }
 
 
-def rows() -> list[tuple[str, list[str], int, str, str]]:
+def rows() -> list[Call]:
     """Each line of the table as a call."""
     found = []
     for line in read_text(ROOT / FOLDER / "styles" / "answers").splitlines():
@@ -46,57 +47,69 @@ def rows() -> list[tuple[str, list[str], int, str, str]]:
         call, _, told = line.partition(" : ")
         status, *words = call.split()
         files = [word if word.startswith("--") else FOLDER + word for word in words]
-        found.append(
-            ("ghdl" if ".vhd" in call else "yosys", ["tools/audit", *files], int(status), f"audit: {told}\n", "")
-        )
+        needs = "ghdl" if ".vhd" in call else "yosys"
+        found.append(Call(" ".join(["tools/audit", *files]), int(status), f"audit: {told}\n", needs=needs))
     return found
 
 
-WALK = [f"{FOLDER}styles/walk.vhd", "examples/mats_plus.m", f"{FOLDER}four.mem"]
-PINNED = ["tools/audit", NAMES, "c.m", "s.mem", "--pins", "unsaid.pins"]
-CALLS: List[Tuple[str, List[str], int, str, str]] = [
-    (
-        "yosys",
-        ["tools/audit", "asks.v", "c.m", "s.mem"],
-        1,
-        "audit: refused",
-        "audit: 'asks.v':1: it asks whether Yosys",
+WALK = f"{FOLDER}styles/walk.vhd examples/mats_plus.m {FOLDER}four.mem"
+PINNED = f"tools/audit {NAMES} c.m s.mem --pins unsaid.pins"
+CALLS: List[Call] = [
+    Call(
+        "tools/audit asks.v c.m s.mem",
+        status=1,
+        prints="audit: refused",
+        says="audit: 'asks.v':1: it asks whether Yosys",
+        needs="yosys",
     ),
-    (
-        "yosys",
-        ["tools/audit", "includes.v", "c.m", "s.mem"],
-        1,
-        "audit: refused",
-        "audit: 'inner.vh':2: it asks whether",
+    Call(
+        "tools/audit includes.v c.m s.mem",
+        status=1,
+        prints="audit: refused",
+        says="audit: 'inner.vh':2: it asks whether",
+        needs="yosys",
     ),
-    (
-        "yosys",
-        ["tools/audit", "escapes.v", "c.m", "s.mem"],
-        1,
-        "audit: refused",
-        "audit: 'escapes.v':2: it asks whether",
+    Call(
+        "tools/audit escapes.v c.m s.mem",
+        status=1,
+        prints="audit: refused",
+        says="audit: 'escapes.v':2: it asks whether",
+        needs="yosys",
     ),
-    ("yosys", ["tools/audit", "latch.v", "c.m", "s.mem"], 1, "audit: refused", "audit: "),
-    ("yosys", ["tools/audit", "far.v", *WALK[1:]], 0, "audit: conforms, fail is exact\n", ""),
-    ("yosys", ["tools/audit", "no_clear.v", "c.m", "s.mem"], 1, "en hangs on later", "audit: "),
-    ("yosys", ["tools/audit", NAMES, "c.m", "s.mem"], 1, "", "audit: a self-test of s has the ports"),
-    ("yosys", ["tools/audit", "simulated.v", "c.m", "s.mem"], 1, "", "audit: simulated.v:3: $time is a call"),
-    ("yosys", ["tools/audit", NAMES, "c.m", "s.mem", "--pins", "twice.pins"], 2, "", "audit: twice.pins: the pin 'ck'"),
-    (
-        "yosys",
-        ["tools/audit", NAMES, "c.m", "s.mem", "--pins", "unsaid.pins"],
-        2,
-        "",
-        "audit: unsaid.pins: the input q",
+    Call("tools/audit latch.v c.m s.mem", status=1, prints="audit: refused", says="audit: ", needs="yosys"),
+    Call(
+        f"tools/audit far.v examples/mats_plus.m {FOLDER}four.mem",
+        prints="audit: conforms, fail is exact\n",
+        needs="yosys",
     ),
-    ("", ["tools/audit", NAMES, "c.m", "s.mem", "--pins", "word.pins"], 2, "", "audit: word.pins:1: there is no line"),
-    ("", ["tools/audit", NAMES, "c.m"], 2, "", "audit: too few words"),
-    ("", ["tools/audit", NAMES, "wrong.m", "s.mem"], 3, "", "audit: march M8"),
-    ("", ["tools/audit", NAMES, "c.m", "s.mem", "--vcd", "c.m"], 2, "", "audit: 'c.m' is the march"),
-    ("", [*PINNED, "--vcd", "unsaid.pins"], 2, "", "audit: 'unsaid.pins' is what is read"),
-    ("", [*PINNED, "--liberty", "cells.lib", "--vcd", "./cells.lib"], 2, "", "audit: './cells.lib' is what is read"),
-    ("", [*PINNED, "--vcd", "run.gtkw"], 2, "", "audit: 'run.gtkw' is the name of the save file"),
-    ("ghdl", ["tools/audit", "upside.v", *WALK], 2, "", "audit: some of the sources are Verilog and some VHDL"),
-    ("ghdl", ["tools/audit", "upside.v", *WALK, "--top", "upside"], 1, "audit: differs cycle 1 port we", ""),
+    Call("tools/audit no_clear.v c.m s.mem", status=1, prints="en hangs on later", says="audit: ", needs="yosys"),
+    Call(f"tools/audit {NAMES} c.m s.mem", status=1, says="audit: a self-test of s has the ports", needs="yosys"),
+    Call("tools/audit simulated.v c.m s.mem", status=1, says="audit: simulated.v:3: $time is a call", needs="yosys"),
+    Call(
+        f"tools/audit {NAMES} c.m s.mem --pins twice.pins",
+        status=2,
+        says="audit: twice.pins: the pin 'ck'",
+        needs="yosys",
+    ),
+    Call(
+        f"tools/audit {NAMES} c.m s.mem --pins unsaid.pins",
+        status=2,
+        says="audit: unsaid.pins: the input q",
+        needs="yosys",
+    ),
+    Call(f"tools/audit {NAMES} c.m s.mem --pins word.pins", status=2, says="audit: word.pins:1: there is no line"),
+    Call(f"tools/audit {NAMES} c.m", status=2, says="audit: too few words"),
+    Call(f"tools/audit {NAMES} wrong.m s.mem", status=3, says="audit: march M8"),
+    Call(f"tools/audit {NAMES} c.m s.mem --vcd c.m", status=2, says="audit: 'c.m' is the march"),
+    Call(f"{PINNED} --vcd unsaid.pins", status=2, says="audit: 'unsaid.pins' is what is read"),
+    Call(f"{PINNED} --liberty cells.lib --vcd ./cells.lib", status=2, says="audit: './cells.lib' is what is read"),
+    Call(f"{PINNED} --vcd run.gtkw", status=2, says="audit: 'run.gtkw' is the name of the save file"),
+    Call(
+        f"tools/audit upside.v {WALK}",
+        status=2,
+        says="audit: some of the sources are Verilog and some VHDL",
+        needs="ghdl",
+    ),
+    Call(f"tools/audit upside.v {WALK} --top upside", status=1, prints="audit: differs cycle 1 port we", needs="ghdl"),
     *rows(),
 ]

@@ -7,6 +7,7 @@ import pathlib
 import re
 import subprocess
 
+from tests.integration.call import Call
 from tests.integration.files import FILES
 from vidlakost_tools.program import ROOT
 
@@ -64,6 +65,10 @@ class Bench:
             said.startswith(error) and (error or not said) for said in (done.stderr, SLOW.sub("", done.stderr))
         ):
             self.tell(call, f"{error!r} is wanted on standard error", done)
+
+    def look_at(self, call: Call) -> None:
+        """Runs a call of a table."""
+        self.look(call.words, call.status, call.prints, call.says)
 
     def is_so(self, holds: bool, what: str) -> None:
         self.count += 1

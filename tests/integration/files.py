@@ -3,7 +3,7 @@ from __future__ import annotations
 
 from typing import Dict
 
-from tests.integration import audit as selftest_audit, judges as selftest_judges
+from tests.integration import audit, judges
 
 
 MARCHES = [
@@ -152,4 +152,4 @@ FILES: Dict[str, str] = {
     "latch.v": "module t(input clk, input a, output reg q);\n  always @* if (a) q = clk;\nendmodule\n",
     "no.v": "module t(input clk,, output q);\nendmodule\n",
 }
-FILES = {**FILES, **selftest_audit.FILES, **selftest_judges.FILES}
+FILES = {**FILES, **audit.FILES, **judges.FILES}

@@ -7,103 +7,10 @@ import shutil
 import signal
 import subprocess
 import time
-from typing import List, Tuple
+from typing import List
 
 from tests.integration.bench import Bench
-from tests.integration.files import FILES, REPORT
-
-LOOSE = "memory 1\nname s # was\rname {name}\nwords 4 # was\rwords 8\nbits 1\n"
-LONG = REPORT.replace("content 00", "content " + "01" * 4000)
-
-FILES.update(
-    {
-        # what stands behind a lone carriage return is the comment's
-        "loose.mem": LOOSE.format(name="other"),
-        "path.mem": LOOSE.format(name="../../outside"),
-        "task.mem": LOOSE.format(name="$system"),
-        "loose.chip": "chip 1\nname both # was\rname ../other\nbudget 3 # was\rbudget 1\nunit 2 c.m loose.mem\n",
-        "loose.pins": "macro ram # was\rmacro ../ram\nclk ck\nwrite we\naddr a\nwdata d\nrdata q\n",
-        "named.pins": "macro ../ram\nclk ck\nwrite we\naddr a\nwdata d\nrdata q\n",
-        "tied.pins": 'macro ram\nclk ck\nwrite we\naddr a\nwdata d\nrdata q\ntie t 1\'b0);initial$system("x");//\n',
-        "latin.mem": "memory 1 # \udce9\nname s\nwords 4\nbits 1\n",
-        # a report that nobody's program wrote
-        "bell.report": REPORT.replace(" TF\nescape", " \x1b[2J\nescape"),
-        "mark.report": REPORT.replace("TF 2", "<script>alert(1)</script> 2"),
-        "shape.report": REPORT.replace(
-            "\ncovered", "\nmemory <b>x words 4 bits 1 backgrounds 1 commands 40\ncovered", 1
-        ),
-        "long.report": LONG,
-        "quoted\nname.v": FILES["free.v"],
-        "many.report": REPORT.replace("covered <0w1/0/-> TF\n", "covered <0w1/0/-> TF\n" * 1100),
-        "sum.report": REPORT.replace("total 2", "total " + "9" * 5000),
-    }
-)
-
-RIGHT = ["examples/foreign/one_hot.v", "examples/mats_plus.m", "examples/foreign/four.mem"]
-# a tool that a call needs, its words, its status, a part of its output, and the beginning of standard error
-CALLS: List[Tuple[str, List[str], int, str, str]] = [
-    ("", ["tools/summary", "c.m", "loose.mem"], 0, "\ns           4 ", ""),
-    ("", ["tools/summary", "c.m", "latin.mem"], 0, "\ns           4 ", ""),
-    ("", ["tools/testbench", "c.m", "path.mem", "harm"], 0, "harm/s_tb.v\n", ""),
-    ("", ["tools/testbench", "c.m", "task.mem", "harm"], 0, "harm/s_tb.v\n", ""),
-    ("", ["tools/schedule", "loose.chip"], 0, "   0  s            2      0       0      42\ngroups 1 done 42\n", ""),
-    ("", ["tools/testbench", "loose.chip", "harm", "--chip"], 0, "harm/both_tb.v\n", ""),
-    (
-        "",
-        ["tools/collar", "s.mem", "--macro", "loose.pins", "harm"],
-        0,
-        "harm/ram.v\n",
-        "collar: not tested: we: whether",
-    ),
-    ("", ["tools/collar", "s.mem", "--macro", "named.pins", "harm"], 2, "", "collar: named.pins:1: the name of a pin"),
-    (
-        "",
-        ["tools/collar", "s.mem", "--macro", "tied.pins", "harm"],
-        2,
-        "",
-        "collar: tied.pins:7: what an input is tied to",
-    ),
-    (
-        "yosys",
-        ["tools/audit", *RIGHT, "--vcd", "latin\udce9.vcd"],
-        2,
-        "fail is exact",
-        "audit: a name that is no UTF-8 would stand",
-    ),
-    ("", ["tools/trace", "bell.report"], 2, "", "trace: bell.report:2: the line is none of a report's"),
-    ("", ["tools/replay", "bell.report"], 2, "", "replay: bell.report:2: the line is none of a report's"),
-    (
-        "",
-        ["tools/report", "mark.report", "--html", "m.html"],
-        2,
-        "",
-        "report: mark.report:4: the line is none of a report's",
-    ),
-    ("", ["tools/report", "shape.report", "--html", "m.html"], 2, "", "report: shape.report:2: the line is none"),
-    ("", ["tools/report", "long.report", "--html", "m.html"], 2, "", "report: long.report:3: the line is none"),
-    ("", ["tools/trace", "many.report"], 2, "", "trace: many.report:1026: this is the 1,025th primitive"),
-    ("", ["tools/report", "sum.report", "--json"], 2, "", "report: sum.report:5: the last line is no total"),
-    (
-        "yosys",
-        ["tools/plain", "plain.v", "free.v", "--top", "t; shell touch harmed"],
-        2,
-        "",
-        "plain: what --top names is",
-    ),
-    ("yosys", ["tools/plain", "plain.v", 'a"; shell touch harmed; ".v'], 2, "", "plain: a\"; shell"),
-    ("yosys", ["tools/plain", "plain.v", "quoted\nname.v"], 2, "", "plain: 'quoted\\x0aname.v': a name for Yosys has"),
-    ("yosys", ["tools/plain", "plain.v", "latch.v"], 1, "", "plain: q, latch.v:2: a latch is outside the subset"),
-    (
-        "yosys",
-        ["tools/formal", "free.v", "no.v", "c.m", "s.mem"],
-        1,
-        "",
-        "formal: yosys refuses it: no.v:1: ERROR: syntax error",
-    ),
-]
-
-
-# ---- controllers that must not pass: edits of one_hot.v, which conforms, each with what they make of it
+from tests.integration.files import FILES
 
 SUB = "module sub(input i, output o); assign o = i; endmodule\n"
 HELD = ("state[4:0] != 5'b00000", "state[4:0] != 5'b00000 && !hold")

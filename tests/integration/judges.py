@@ -2,14 +2,15 @@
 right one."""
 from __future__ import annotations
 
-from typing import Dict, List, Tuple
+import shlex
+from typing import Dict, Tuple
 
 from vidlakost_tools.program import ROOT
 from vidlakost_tools.text import read_text
 
 STYLES = "examples/foreign/styles/"
 RIGHT = read_text(ROOT / STYLES / "two_processes.v")
-TEST = ["examples/mats_plus.m", "examples/foreign/four.mem"]
+TEST = "examples/mats_plus.m examples/foreign/four.mem"
 EXACT = "audit: conforms, fail is exact\n"
 FAIL = "  assign fail = wrong & ~reset;\n"
 
@@ -91,20 +92,20 @@ def with_member(index: str) -> str:
     )
 
 
-def netlist(source: str, out: str) -> List[str]:
-    """The call that makes gates of a source, whose registers keep their asynchronous reset, and audits them."""
+def in_shell(command: str) -> str:
+    return f"bash -c {shlex.quote(command)}"
+
+
+def netlist(source: str, out: str) -> str:
+    """The command that makes gates of a source, whose registers keep their asynchronous reset, and audits them."""
     passes = f"read_verilog {source}; synth -flatten; abc -g NAND,NOR,XOR; opt_clean; write_verilog -noattr {out}"
-    return ["bash", "-c", f"yosys -q -p '{passes}' && tools/audit {out} {' '.join(TEST)}"]
+    return f"yosys -q -p '{passes}' && tools/audit {out} {TEST}"
 
 
-def for_ice40(source: str, out: str, *options: str) -> List[str]:
-    """The call that maps a source to the cells of ice40, and audits the netlist."""
+def for_ice40(source: str, out: str, *options: str) -> str:
+    """The command that maps a source to the cells of ice40, and audits the netlist."""
     passes = f"read_verilog {source}; synth_ice40 -flatten; write_verilog -noattr {out}"
-    return [
-        "bash",
-        "-c",
-        f"yosys -q -p '{passes}' && tools/audit {out} {' '.join(TEST)} --cells ice40 {' '.join(options)}",
-    ]
+    return f"yosys -q -p '{passes}' && tools/audit {out} {TEST} --cells ice40 {' '.join(options)}"
 
 
 COMPILE = "./vidlakost compile examples/mats_plus.m examples/foreign/four.mem nothing.list own.v own.report"
@@ -119,7 +120,7 @@ PINNED = RIGHT + """module pinned(input ck, rst_n, mode, input [1:0] q, output c
   assign {cen, wen, busy} = {~en, ~we, 1'b1};
 endmodule
 """
-IDLE = [f"{STYLES}idle.v", *TEST, "--pins", f"{STYLES}idle.pins"]
+IDLE = f"{STYLES}idle.v {TEST} --pins {STYLES}idle.pins"
 
 
 def with_kept(*writers: str) -> str:
@@ -300,147 +301,3 @@ FILES: Dict[str, str] = {
     "dollar.v": "module \\$paramod$x\\part (input a, output y);\n  assign y = a;\nendmodule\n",
     "unclosed.v": "module m(input clk);" + "(*a" * 8000 + "\n",
 }
-
-
-def audited(name: str, status: int, out: str, error: str, *options: str) -> Tuple[str, List[str], int, str, str]:
-    return "yosys", ["tools/audit", name, *TEST, *options], status, out, error
-
-
-def clocked(name: str, status: int, out: str, error: str) -> Tuple[str, List[str], int, str, str]:
-    """Beside Icarus too."""
-    return "yosys iverilog", ["tools/audit", name, *TEST, "--simulate"], status, out, error
-
-
-CALLS: List[Tuple[str, List[str], int, str, str]] = [
-    audited("rows_apart.v", 0, EXACT, ""),
-    audited("rows_of_one_word.v", 0, EXACT, ""),
-    audited(
-        "rows_meet.v",
-        1,
-        "  wdata hangs on rows_that_overlap (rows_meet.v:45), of which more than one holds, and any may be taken",
-        "",
-    ),
-    audited("comment_apart.v", 0, EXACT, "audit: Warning: Encountered `"),
-    audited(
-        "comment_meet.v", 1, "  wdata hangs on rows_that_overlap (comment_meet.v:45)", "audit: Warning: Encountered `"
-    ),
-    audited("priority_rows.v", 0, EXACT, ""),
-    audited("full.v", 0, EXACT, "audit: Warning: Encountered `"),
-    audited("full_not.v", 1, "audit: unknown cycle 14 port wdata", "audit: Warning: Encountered `"),
-    audited("full_priority.v", 1, "audit: unknown cycle 14 port wdata", ""),
-    audited("priority_if.v", 1, "audit: refused", "audit: 'priority_if.v':50: Yosys doesn't read `priority if`"),
-    ("yosys", ["tools/formal", "rows_apart.v", *TEST], 0, "each port is in each cycle as it has to be\n", ""),
-    ("yosys", ["tools/formal", "rows_meet.v", *TEST], 1, "differs in cycle 6\n", ""),
-    audited("cells.v", 0, EXACT, "", "--liberty", "three_state.lib"),
-    audited(
-        "cells_off.v",
-        1,
-        "",
-        "audit: 'two' (cells_off.v:13): the cell TBUF has three states",
-        "--liberty",
-        "three_state.lib",
-    ),
-    audited("gate_off.v", 1, "", "audit: 'gate_off.v':20: bufif1: a driver that can be off"),
-    audited("gate_unused.v", 0, EXACT, "", "--top", "two_processes"),
-    audited("net_off.v", 1, "audit: conforms, fail is unknown in cycle 0", "audit: Warning: Yosys has only limited"),
-    audited("net_on.v", 0, EXACT, ""),
-    audited("kept.v", 0, EXACT, ""),
-    audited("kept_by_lanes.v", 0, EXACT, ""),
-    audited(
-        "kept_twice.v", 1, "audit: refused", "audit: 'kept' (kept_twice.v:41 and kept_twice.v:42): two blocks write"
-    ),
-    audited("set_twice.v", 1, "audit: refused", "audit: wrong (set_twice.v:22 and set_twice.v:38): two blocks set it"),
-    audited("list_short.v", 0, EXACT, "audit: 'list_short.v':38: the block reads reset, and does not wait for it"),
-    audited("list_short.v", 1, "a simulator may read the sources otherwise", "audit: 'list_short.v':38", "--strict"),
-    audited("list_whole.v", 0, EXACT, "", "--strict"),
-    audited("read_early.v", 0, EXACT, "audit: 'read_early.v':22: the block reads now before it sets it"),
-    audited("read_late.v", 0, EXACT, ""),
-    ("yosys", ["tools/plain", "out.v", "read_early.v"], 0, "", "plain: 'read_early.v':22: the block reads now"),
-    (
-        "yosys",
-        ["tools/formal", "read_early.v", *TEST],
-        0,
-        "each port",
-        "formal: 'read_early.v':22: the block reads now",
-    ),
-    audited("delayed.v", 0, EXACT, "audit: 'delayed.v':20: a delay is passed over"),
-    clocked("list_short.v", 1, "audit: refused", "audit: 'list_short.v':38"),
-    clocked("list_whole.v", 0, EXACT, ""),
-    clocked("read_early.v", 1, "audit: refused", "audit: 'read_early.v'"),
-    clocked("read_late.v", 0, EXACT, ""),
-    clocked("delayed.v", 1, "audit: refused", "audit: 'delayed.v'"),
-    clocked("writes.v", 1, "audit: refused", "audit: 'writes.v':21: $fdisplay would reach beyond a simulation"),
-    audited("pipelined.v", 1, "audit: conforms but for done, 1 cycle late, fail is exact\n", ""),
-    audited("pipelined.v", 0, "ever after, 1 cycle later than the rule\n", "", "--fail-late", "1"),
-    audited("pipelined_twice.v", 1, "audit: conforms but for done, 1 cycle late, fail is ", "", "--fail-late", "1"),
-    audited("pipelined_forgets.v", 1, "audit: conforms but for done, 1 cycle late, fail is ", "", "--fail-late", "1"),
-    audited("unique_if.v", 1, "audit: refused", "audit: 'unique_if.v':50: Yosys doesn't read `unique if`"),
-    audited(
-        "returns.v", 1, "audit: refused", "audit: 'returns.v':21: Yosys doesn't read `return`; a function's own name"
-    ),
-    audited("says.v", 0, EXACT, ""),
-    audited("says_not.v", 1, "audit: conforms, fail is 1 in cycle 1 though all answers are right", ""),
-    audited("keeps.v", 1, "audit: refused", "audit: said (keeps.v): an always_comb doesn't set it in every branch"),
-    audited("keeps_not.v", 0, EXACT, ""),
-    audited("turns.v", 0, EXACT, ""),
-    audited("turns_kept.v", 1, "audit: refused", "audit: b.k, turns_kept.v:"),
-    audited("pulled.v", 1, "audit: refused", "audit: 'pulled.v':20: Yosys has no net that pulls (tri1)"),
-    audited("falls_late.v", 0, "fail is exact to cycle 106\n", ""),
-    audited("falls_late.v", 1, "fail is exact to cycle 106\n", "", "--strict"),
-    audited("kept.v", 0, EXACT, "", "--strict"),
-    clocked("counts.v", 0, "and splitting 1 bit does, in 8 states at once\n", ""),
-    audited("counts.v", 0, EXACT, ""),
-    audited(
-        "counts_on.v", 1, "audit: conforms, fail is 0 in cycle 21 though bit 0 of the answer of cycle 6 is wrong\n", ""
-    ),
-    clocked("minus.v", 0, EXACT, ""),
-    audited("minus_short.v", 1, "audit: conforms, fail is 0 in cycle 15 though bit 0 of the answer of cycle 14", ""),
-    clocked("signed.v", 0, EXACT, ""),
-    audited("signed_half.v", 1, "audit: conforms, fail is 0 in cycle 15 though", ""),
-    ("yosys", netlist("counts.v", "counts_gates.v"), 0, EXACT, ""),
-    ("yosys", netlist("counts_on.v", "counts_on_gates.v"), 1, "audit: conforms, fail is 0 in cycle ", ""),
-    ("yosys iverilog", for_ice40(f"{STYLES}two_processes.v", "ice.v", "--simulate"), 0, EXACT, ""),
-    (
-        "yosys",
-        for_ice40(f"{STYLES}two_processes_forgets.v", "ice_forgets.v"),
-        1,
-        "audit: conforms, fail is 0 in cycle 9",
-        "",
-    ),
-    ("yosys", for_ice40("counts_on.v", "ice_counts_on.v"), 1, "audit: conforms, fail is 0 in cycle ", ""),
-    (
-        "yosys",
-        ["bash", "-c", f"{COMPILE} && {for_ice40('own.v', 'ice_own.v')[-1]}"],
-        0,
-        EXACT,
-        "nothing.list: warning: the list holds no primitive",
-    ),
-    clocked("member.v", 0, EXACT, "audit: 'member.v':37: kept.expected[i] is read as a part of a word of its own"),
-    audited("member_beyond.v", 1, "audit: conforms, fail is ", "audit: 'member_beyond.v':37: kept.expected[i + 1]"),
-    audited(
-        "member_written.v", 1, "", "audit: 'member_written.v':36: a part of a structure's member, beyond which Yosys"
-    ),
-    (
-        "yosys",
-        ["tools/plain", "out.v", "ram_cell.v", "--cells", "ice40"],
-        1,
-        "",
-        "plain: ram_cell has a part SB_RAM40_4K, which is no",
-    ),
-    ("yosys", ["tools/plain", "out.v", "ram_cell.v", "--cells", "ice"], 2, "", "plain: --cells knows ice40"),
-    ("yosys", ["tools/formal", "counts.v", *TEST], 0, "each port is in each cycle as it has to be\n", ""),
-    # of the second word another one is expected, whose first answer comes in cycle 7; some registers become constants
-    (
-        "yosys",
-        ["bash", "-c", WRONG_WORD],
-        1,
-        "differs in cycle 8\n",
-        "nothing.list: warning: the list holds no primitive",
-    ),
-    ("yosys", ["tools/formal", *IDLE], 1, "differs in cycle 1\n", ""),
-    ("yosys", ["tools/formal", "pinned.v", *TEST, "--pins", "pinned.pins"], 0, "each port is in each cycle", ""),
-    ("yosys", ["tools/plain", "out.v", "nothing.v"], 1, "", "plain: no module of the sources has anything in it"),
-    audited("nothing.v", 1, "audit: refused", "audit: no module of the sources has anything in it"),
-    ("yosys", ["tools/plain", "out.v", "dollar.v"], 1, "", "plain: 'dollar.v':1: '$paramod$x"),
-    ("yosys", ["tools/plain", "out.v", "unclosed.v"], 1, "", "plain: yosys refuses it: unclosed.v:1: ERROR"),
-]

@@ -6,6 +6,7 @@ import os
 import pathlib
 import random
 import re
+import shlex
 import shutil
 import signal
 import tempfile
@@ -13,22 +14,31 @@ from typing import Callable
 
 from tests.integration import (
     access,
-    cases,
+    audit,
+    check_calls,
     collar as collars,
+    collar_calls,
     design as designs,
     ends,
     explore,
     files,
     harm,
     hostile,
+    hostile_calls,
+    judges_calls,
+    refusal_calls,
+    report_calls,
     search as searches,
     tester,
+    tool_calls,
     twins,
     untested as left_out,
     vhdl as standards,
     wrong,
 )
 from tests.integration.bench import Bench
+from tests.integration.call import Call
+from tests.integration.primitives import PRIMITIVES
 from vidlakost_tools import tasks
 from vidlakost_tools.program import ROOT, command_table, quick_program
 from vidlakost_tools.refusals import explained as diagnose
@@ -41,24 +51,19 @@ from vidlakost_tools.tool import ToolError
 TOOLS = ROOT / "tools"
 
 
-def side_by_side(bench: Bench, calls: list[tuple[list[str], int, str, str]]) -> None:
+def side_by_side(bench: Bench, calls: list[Call]) -> None:
     """Looks at calls that don't disturb one another, as many at once as there are processors."""
     with concurrent.futures.ThreadPoolExecutor(os.cpu_count()) as workers:
-        list(workers.map(lambda call: bench.look(*call), calls))
+        list(workers.map(bench.look_at, calls))
 
 
 def refusals(bench: Bench) -> None:
     """Each refusal of the program, explained by the launcher."""
-    rows = [*cases.REFUSALS]
-    if "check" in [command.name for command in command_table()]:
-        rows += cases.CHECKS
-    else:
-        print("there is no command check, so its refusals are left out")
-    side_by_side(bench, [(["./vidlakost", *words], status, said, error) for words, status, said, error in rows])
-    words, status, said, _ = cases.REFUSALS[0]
-    bench.look(["./vidlakost", *words], status, said, "", VIDLAKOST_EXPLAIN="0")
-    done = bench.run(["./vidlakost", *words])
-    bench.is_so(done.stderr == cases.WHOLE, f"{' '.join(words)} says {done.stderr!r} on standard error")
+    side_by_side(bench, [*refusal_calls.REFUSALS, *check_calls.CHECKS])
+    first = refusal_calls.REFUSALS[0]
+    bench.look(first.words, first.status, first.prints, "", VIDLAKOST_EXPLAIN="0")
+    done = bench.run(first.words)
+    bench.is_so(done.stderr == refusal_calls.WHOLE, f"{first.line} says {done.stderr!r} on standard error")
 
 
 def data_loss(bench: Bench) -> None:
@@ -112,23 +117,20 @@ def tools(bench: Bench) -> None:
         for path in TOOLS.iterdir()
         if path.is_file() and os.access(path, os.X_OK) and path.name not in tasks.OLD
     )
-    calls = [([f"tools/{name}", "--help"], 0, f"usage: vidlakost {name}", "") for name in names]
-    calls += [(["./vidlakost", "help", name], 0, f"usage: vidlakost {name}", "") for name in names]
-    calls += [
-        ([f"tools/{name}", "--nothing"], 2, "", f"{name}: there is no option --nothing")
-        for name in names
-        if name != "unproved"
-    ]
-    table = [*cases.CALLS, *hostile.CALLS, *access.CALLS, *tester.CALLS, *collars.CALLS]
-    missing = sorted({need for needs, *_ in table for need in needs.split() if not shutil.which(need)})
-    for needs in missing:
-        print(f"{needs} is not installed, so the calls that need it are left out")
-    side_by_side(bench, [*calls, *(row[1:] for row in table if not {*row[0].split()} & {*missing})])
+    calls = [Call(f"tools/{name} --help", prints=f"usage: vidlakost {name}") for name in names]
+    calls += [Call(f"./vidlakost help {name}", prints=f"usage: vidlakost {name}") for name in names]
+    calls += [Call(f"tools/{name} --nothing", status=2, says=f"{name}: there is no option --nothing") for name in names]
+    for table in (report_calls, tool_calls, audit, judges_calls, hostile_calls, tester, collar_calls):
+        calls += table.CALLS
+    calls += [Call(shlex.join(words), status, prints, says, needs) for needs, words, status, prints, says in access.CALLS]
+    for need in sorted({need for call in calls for need in call.missing()}):
+        print(f"{need} is not installed, so the calls that need it are left out")
+    side_by_side(bench, [call for call in calls if not call.missing()])
 
 
 def closed_pipes(bench: Bench) -> None:
     """A reader that closes the pipe ends a tool without a word."""
-    for call in cases.PIPED:
+    for call in tool_calls.PIPED:
         bench.count += 1
         done = bench.run(["bash", "-c", f"set -o pipefail; {call} | head -n 1"])
         if done.stderr or not done.stdout:
@@ -155,7 +157,7 @@ def model_and_sim(bench: Bench) -> None:
     """The plain model answers as `sim` does, on random calls."""
     chance = random.Random(4)
     for _ in range(150):
-        march, primitive = chance.choice(files.MARCHES), chance.choice(cases.PRIMITIVES)
+        march, primitive = chance.choice(files.MARCHES), chance.choice(PRIMITIVES)
         elements = elements_of(march)
         verdict = random_instance(chance, primitive, "", elements)
         (bench.folder / "random.m").write_text(march)
@@ -211,7 +213,7 @@ def testbench_and_benchfault(bench: Bench) -> None:
     chance, memory = random.Random(8), parse_memory(files.FILES["scrambled.mem"])
     for number in range(10):
         (bench.folder / "planted.m").write_text(chance.choice(files.MARCHES))
-        primitive, cells = chance.choice(cases.PRIMITIVES), [
+        primitive, cells = chance.choice(PRIMITIVES), [
             f"{word}.{chance.randrange(memory.bits)}" for word in chance.sample(range(memory.words), 2)
         ]
         aggressor = cells[1] if ";" in primitive else "none"

@@ -4,10 +4,11 @@ from __future__ import annotations
 
 import pathlib
 import shutil
-from typing import Callable
+from typing import Callable, List
 
 from tests.integration.access import JOINS, PINS, played, stands
 from tests.integration.bench import Bench
+from tests.integration.call import Call
 from vidlakost_tools.tester_files import bsdl, icl, pdl, stil, wgl
 from vidlakost_tools.tester_files.cycles import Cycle, joined, listing
 from vidlakost_tools.tester_files.retarget import Session
@@ -44,15 +45,14 @@ module player;
 endmodule
 """
 WAYS: list[list[str]] = [[], ["--log", "3"], ["--sib"], ["--sib", "--log", "3", "--idcode", "2468ACE1"]]
-# calls, as those of `selftest_cases.py`
-CALLS = [
-    ("", ["tools/access", "late.mem", "acc", "--sib"], 2, "", "access: --sib is of a TAP, and stands beside --jtag"),
+CALLS: List[Call] = [
+    Call("tools/access late.mem acc --sib", status=2, says="access: --sib is of a TAP, and stands beside --jtag"),
     *(
-        ("", ["tools/access", "pair.chip", "acc6", "--jtag", "--idcode", word], 2, "", "access: --idcode has eight")
+        Call(f"tools/access pair.chip acc6 --jtag --idcode {word}", status=2, says="access: --idcode has eight")
         for word in ("1", "12345678", "000000ff", "1234567g", "112345679")
     ),
-    ("", ["tools/locate", "access.m", "late.mem", "7", "--sib"], 2, "", "locate: --sib stands beside --tdr"),
-    ("", ["tools/locate", "access.m", "late.mem", "--tdr", "16a00000029f", "--sib"], 2, "", "locate: bit 46 of"),
+    Call("tools/locate access.m late.mem 7 --sib", status=2, says="locate: --sib stands beside --tdr"),
+    Call("tools/locate access.m late.mem --tdr 16a00000029f --sib", status=2, says="locate: bit 46 of"),
 ]
 # how a file is spoilt; each is of a TAP with a network and a log
 SPOILT = [

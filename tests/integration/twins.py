@@ -5,7 +5,7 @@ from __future__ import annotations
 import pathlib
 import shutil
 import subprocess
-from typing import Dict, List
+from typing import Dict
 
 from tests.integration.bench import Bench
 from tests.integration.judges import FILES, STYLES, TEST, for_ice40, netlist
@@ -68,7 +68,7 @@ ICE40 = {
 def clocked(bench: Bench, file: str, options: Dict[str, str], said: str) -> None:
     """Looks at whether Icarus says `right` or `wrong` of a file."""
     source = bench.folder / file
-    memory, cycles = port_judge.cycles_of(*(bench.folder / name for name in TEST))
+    memory, cycles = port_judge.cycles_of(*(bench.folder / name for name in TEST.split()))
     try:
         plain = plain_of([str(source)], options)
         cells = known_cells.cells_of(options, [source.read_text()])
@@ -78,9 +78,9 @@ def clocked(bench: Bench, file: str, options: Dict[str, str], said: str) -> None
     bench.is_so(told.startswith(said), f"{file} is {said}, and by Icarus {told}")
 
 
-def made(bench: Bench, call: List[str]) -> None:
-    """Makes a netlist by the first part of a call."""
-    subprocess.run(["bash", "-c", call[-1].partition(" && ")[0]], cwd=bench.folder, check=True)
+def made(bench: Bench, command: str) -> None:
+    """Makes a netlist by the first part of a command."""
+    subprocess.run(["bash", "-c", command.partition(" && ")[0]], cwd=bench.folder, check=True)
 
 
 def twins(bench: Bench) -> None:
