@@ -31,79 +31,76 @@ SIZES = [(16, 1), (37, 5), (64, 8), (2, 3), (1000, 32), (300, 64), (4096, 2)]
 
 
 def launcher(folder: pathlib.Path) -> list[Figure]:
-    """The time of a call through the launcher, beside that of the program alone."""
+    """A call of `bench`, by the launcher and by the program alone."""
     march, memory = write(folder, march=C, memory=memory_text("small", 16, 1))
     program = timed(LAUNCHER, "--program").said or PROGRAM
     ours, alone = (best(30, which, "bench", march, memory) for which in (LAUNCHER, program))
-    return [Figure("a call through the launcher", ours.seconds * 1e3, "ms", "the program alone", alone.seconds * 1e3)]
+    return [Figure("by the launcher", ours.seconds * 1e3, "ms", "the program alone", alone.seconds * 1e3)]
 
 
 def compile_large(folder: pathlib.Path) -> list[Figure]:
-    """65,536 words of 64 bits with eight backgrounds: March SS with 1,024 primitives, and the longest code with
-    none."""
+    """65,536 words of 64 bits with eight backgrounds, by March SS and by the longest code."""
     files = write(
         folder, ss=SS, long=long_march(64), memory=memory_text("large_one", 65536, 64, EIGHT), many=LARGE, none=""
     )
     ss, longest, memory, many, none = files
     out = folder / "v", folder / "r"
-    made = of_call("`compile`, March SS, 1,024 primitives", best(5, PROGRAM, "compile", ss, memory, many, *out))
+    made = of_call("March SS, 1,024 primitives", best(5, PROGRAM, "compile", ss, memory, many, *out))
     made += of_call(
-        "`compile`, 256 operations in 64 elements", best(5, PROGRAM, "compile", longest, memory, none, *out)
+        "256 operations in 64 elements, no primitives", best(5, PROGRAM, "compile", longest, memory, none, *out)
     )
-    return [*made, Figure("`compile`, its module", out[0].stat().st_size, "bytes")]
+    return [*made, Figure("the module", out[0].stat().st_size, "bytes")]
 
 
 def chip(folder: pathlib.Path) -> list[Figure]:
-    """16 memories of 65,536 words of 64 bits with eight backgrounds, tested by March SS, two at a time."""
+    """16 memories of 65,536 words of 64 bits with eight backgrounds, by March SS, two at a time."""
     lines = ["chip 1", "name soc", "budget 5"]
     write(folder, **{"ss.m": SS})
     for unit in range(16):
         write(folder, **{f"ram_{unit}.mem": memory_text(f"ram_{unit}", 65536, 64, EIGHT)})
         lines.append(f"unit 2 {folder}/ss.m {folder}/ram_{unit}.mem")
     (chip_file,) = write(folder, chip="\n".join(lines) + "\n")
-    made = of_call("`chip`, 16 memories", best(5, PROGRAM, "chip", chip_file, folder / "soc.v"))
-    return [*made, Figure("`chip`, its module", (folder / "soc.v").stat().st_size, "bytes")]
+    made = of_call("16 memories", best(5, PROGRAM, "chip", chip_file, folder / "soc.v"))
+    return [*made, Figure("the module", (folder / "soc.v").stat().st_size, "bytes")]
 
 
 def judge(folder: pathlib.Path) -> list[Figure]:
-    """The largest inputs: 1,024 primitives and a march of 256 operations in 64 elements, all but the last of order
-    any."""
+    """By a march of 256 operations in 64 elements, all but the last of order any."""
     march, many, dynamic, none = write(folder, march=long_march(64), large=LARGE, dynamic=DYNAMIC, none="")
     report = folder / "report"
-    made = of_call("`judge`, 1,024 static primitives", best(5, PROGRAM, "judge", march, many, report))
-    made += of_call("`judge`, 1,024 dynamic primitives", best(5, PROGRAM, "judge", march, dynamic, report))
+    made = of_call("1,024 static primitives", best(5, PROGRAM, "judge", march, many, report))
+    made += of_call("1,024 dynamic primitives", best(5, PROGRAM, "judge", march, dynamic, report))
     # a primitive that a list repeats is judged once, so one is measured on lists of different ones
     empty = best(15, PROGRAM, "judge", march, none, report).seconds
     for kind, count, text in (("static", 48, "all\n"), ("dynamic", 126, "dyn1\ndyn2\n")):
         (faults,) = write(folder, faults=text)
         each = (best(15, PROGRAM, "judge", march, faults, report).seconds - empty) / count * 1e6
-        made.append(Figure(f"`judge`, a {kind} primitive on 64 elements", each, "microseconds"))
+        made.append(Figure(f"a {kind} primitive", each, "microseconds"))
     return made
 
 
 def vectors(folder: pathlib.Path) -> list[Figure]:
-    """About the largest file of `vectors`: March SS on 12,986 words of 64 bits with seven backgrounds."""
+    """About the largest file: March SS on 12,986 words of 64 bits."""
     march, memory = write(folder, march=SS, memory=memory_text("big", 12986, 64))
-    made = of_call("`vectors`, 1,999,844 lines", best(3, PROGRAM, "vectors", march, memory, folder / "out"))
-    return [*made, Figure("`vectors`, its file", (folder / "out").stat().st_size, "bytes")]
+    made = of_call("1,999,844 lines", best(3, PROGRAM, "vectors", march, memory, folder / "out"))
+    return [*made, Figure("the file", (folder / "out").stat().st_size, "bytes")]
 
 
 def check(folder: pathlib.Path) -> list[Figure]:
-    """`check` beside `bench` on the same module, and controllers that `bench/peer` makes as one would write them by
-    hand."""
+    """`check` beside `bench` on one module, and controllers as one would write them by hand."""
     march, memory, none = write(folder, march=C, memory=memory_text("wide", 24000, 64), none="")
     asked("compile", march, memory, none, folder / "wide_bist.v", folder / "report")
     bench = best(3, PROGRAM, "bench", march, memory)
     ours = best(3, PROGRAM, "check", folder / "wide_bist.v", march, memory)
     if ours.said != "conforms 1680003":
         raise SystemExit(f"check says {ours.said}")
-    made = of_call("`check`, 1,680,003 cycles", ours)
+    made = of_call("1,680,003 cycles", ours)
     made[0].peer, made[0].beside = "`bench`", bench.seconds
     paths = [path for path in sorted((ROOT / "examples" / "marches").glob("*.m")) if "del" not in path.read_text()]
     wrong = [path.name for count, path in enumerate(paths) if not conforms(path, *SIZES[count % len(SIZES)], folder)]
     if wrong:
         raise SystemExit(f"by hand, and do not conform: {', '.join(wrong)}")
-    return [*made, Figure("`check`, controllers of `bench/peer` that conform", len(paths), f"of {len(paths)}")]
+    return [*made, Figure("controllers of `bench/peer` that conform", len(paths), f"of {len(paths)}")]
 
 
 def conforms(march: pathlib.Path, words: int, bits: int, folder: pathlib.Path) -> bool:
@@ -155,7 +152,7 @@ def read(text: pathlib.Path, command: str) -> Timed:
 
 
 def verilog(folder: pathlib.Path) -> list[Figure]:
-    """How long the text of a module takes to be read, for 16 KiB to 1 MiB of it, with both readers."""
+    """How long texts of modules take to be read, by both readers."""
     made = []
     (word,) = write(folder, word="module")
     start = read(word, "benchfile").seconds
@@ -163,6 +160,6 @@ def verilog(folder: pathlib.Path) -> list[Figure]:
         (text,) = write(folder, text=text_of(size))
         calls = [read(text, command) for command in ("benchfile", "check")]
         plain, free = (max(call.seconds - start, 1e-9) * 1e3 for call in calls)
-        made.append(Figure(f"a module of {size >> 10} KiB is read", plain, "ms", "by precedence", free))
-        made.append(Figure(f"a module of {size >> 10} KiB is read", calls[0].held, "MiB"))
+        made.append(Figure(f"{size >> 10} KiB", plain, "ms", "by precedence", free))
+        made.append(Figure(f"{size >> 10} KiB", calls[0].held, "MiB"))
     return made

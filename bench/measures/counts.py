@@ -43,7 +43,7 @@ def linked(folder: pathlib.Path) -> list[Figure]:
 
 
 def diagnosis(folder: pathlib.Path) -> list[Figure]:
-    """Faults that Icarus plants in scrambled memories, and the candidates that the diagnosis of their logs has."""
+    """Faults that Icarus plants in scrambled memories, and the diagnosis of their logs."""
     return counted("bench/diagnosis")
 
 
@@ -79,28 +79,27 @@ def interop(folder: pathlib.Path) -> list[Figure]:
 
 
 def foreign(folder: pathlib.Path) -> list[Figure]:
-    """`check` beside its plain model, on the modules of random marches and memories, as they are and changed."""
+    """`check` beside its plain model, on modules of random marches and memories, right and changed."""
     return counted("dev/foreign", "--random", "700")
 
 
 def formal(folder: pathlib.Path) -> list[Figure]:
-    """Modules of small memories before Yosys' bounded model checker, and modules that are made wrong."""
+    """Right and wrong modules of small memories before Yosys' bounded model checker."""
     return [*counted("tools/formal", "--random", "300"), *counted("tools/formal", "--wrong")]
 
 
 def audit(folder: pathlib.Path) -> list[Figure]:
-    """`audit` beside Yosys' bounded model checker, on modules whose `fail` is damaged in a random place."""
+    """`audit` beside Yosys' bounded model checker, on modules with a damaged `fail`."""
     return counted("tools/audit", "--random", "300")
 
 
 def joins(folder: pathlib.Path) -> list[Figure]:
-    """Wrong connections in a chip of small memories and in its collars, and what their testbenches tell."""
+    """Wrong connections in a chip and in its collars, and what their testbenches tell."""
     return counted("bench/joins")
 
 
 def sources(folder: pathlib.Path) -> list[Figure]:
-    """What `plain` makes of random sources beside Icarus, which clocks the sources; as they are, and one place
-    changed."""
+    """What `plain` makes of random sources, right and changed, beside Icarus on the sources."""
     return [*counted("bench/sources"), *counted("bench/sources", "--damaged", "1", "300")]
 
 
@@ -110,8 +109,7 @@ def selftest(folder: pathlib.Path) -> list[Figure]:
 
 
 def gate(folder: pathlib.Path) -> list[Figure]:
-    """Every proof, test and wrong body from nothing, in minutes of a processor; calm by the pace of a loop, quiet by
-    that of two crates."""
+    """The gate anew, in minutes of a processor; calm by the pace of a loop, quiet by that of two crates."""
     log = ROOT / "build" / "gate.log"
     log.parent.mkdir(exist_ok=True)
     # what it says can be read meanwhile

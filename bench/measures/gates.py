@@ -28,7 +28,7 @@ ROWS = [
     ("March C-", C, 16, 1, ""),
     ("March C-", C, 24000, 64, ""),
     ("March SS", SS, 1024, 32, ""),
-    ("March SS, addresses in Gray order", SS, 1024, 32, GRAY),
+    ("March SS, Gray addresses", SS, 1024, 32, GRAY),
     ("MATS+", MATS, 65536, 1, ""),
     ("64 elements, 254 operations", varied(), 1002, 64, ""),
     ("March C-, latency 2", C, 24000, 64, "latency 2\n"),
@@ -57,12 +57,12 @@ def rows(folder: pathlib.Path) -> list[tuple[str, pathlib.Path, pathlib.Path | N
         place = folder / str(number)
         place.mkdir()
         peer = None if more else by_hand(place, march, words, bits)
-        made.append((f"{name}, {words:,} x {bits}", generated(place, march, words, bits, more), peer))
+        made.append((f"{name}, {words:,}×{bits}", generated(place, march, words, bits, more), peer))
     return made
 
 
 def area(folder: pathlib.Path) -> list[Figure]:
-    """Cells, flip-flops among them, and the depth of the longest path, by Yosys' `synth` and `abc -g cmos2`."""
+    """Cells, flip-flops among them, and the longest path, by Yosys' `synth` and `abc -g cmos2`."""
     want("yosys")
     made = []
     for name, ours, peer in rows(folder):
@@ -74,8 +74,7 @@ def area(folder: pathlib.Path) -> list[Figure]:
 
 
 def cells(folder: pathlib.Path) -> list[Figure]:
-    """Area and megahertz behind buffers, by vesta and OpenSTA: of seven orders of lines, which scatter by a fifth, the
-    middle.
+    """Area, megahertz by vesta and OpenSTA, behind buffers: the middle of seven orders of lines (scatter: a fifth).
 
     A row takes a minute and more."""
     if flow.missing():
@@ -84,14 +83,14 @@ def cells(folder: pathlib.Path) -> list[Figure]:
     for name, ours, peer in rows(folder):
         figures = [flow.mapped(str(ours), "buffer_bist", str(folder))]
         figures += [flow.mapped(str(peer), "peer", str(folder))] if peer else []
-        for place, unit in enumerate(("square micrometres", "MHz by vesta", "MHz by OpenSTA")):
+        for place, unit in enumerate(("µm²", "MHz", "MHz")):
             beside = figures[1][place] if peer else 0
             made.append(Figure(name, figures[0][place], unit, "by hand" if peer else "", beside))
     return made
 
 
 def lint(folder: pathlib.Path) -> list[Figure]:
-    """What Icarus, Verilator and Yosys say of the generated modules."""
+    """Linters on the generated modules."""
     want("iverilog", "verilator", "yosys")
     said = []
     for name, ours, _ in rows(folder):

@@ -73,15 +73,15 @@ def compared(folder: pathlib.Path, module: pathlib.Path, bits: int, words: int, 
 
 
 def netlists(folder: pathlib.Path) -> list[Figure]:
-    """Cycles after the reset, at most 100,000, of netlists in Icarus; those with an x or another output than the
-    module."""
+    """Netlists beside their modules in Icarus, up to 100,000 cycles after the reset of each."""
     want("iverilog", "yosys")
     if flow.missing():
         raise Skipped(f"{', '.join(flow.missing())} is missing")
     made, differ = [], 0
-    for (name, module, _), (_, _, words, bits, more) in zip(gates.rows(folder), gates.ROWS):
+    for (_, module, _), (_, _, words, bits, more) in zip(gates.rows(folder), gates.ROWS):
         latency = re.search(r"latency (\d)", more)
         cycles, wrong = compared(module.parent, module, bits, words, int(latency[1]) if latency else 1)
-        made.append(Figure(name, cycles, "cycles"))
+        made.append(cycles)
         differ += wrong
-    return [*made, Figure("cycles with an x or another output", differ, f"of {len(made)} netlists")]
+    what = f"{len(made)} netlists"
+    return [Figure(what, sum(made), "cycles"), Figure(what, differ, "with an x or another output")]

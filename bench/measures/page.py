@@ -10,10 +10,10 @@ from vidlakost_tools.program import version
 PAGE = ROOT / "docs" / "MEASURED.md"
 HEAD = """# What was measured
 
-Nothing on this page is proved. `bench/run --all --markdown` makes it, and `bench/run NAME --markdown` one section anew; the
-last line of a section tells when, at which commit and where. Times are the best of several calls, on x86-64; those of `gate`,
-of `first` and of compilers are of one. A ratio is what stands beside ours, by ours: above 1 the other takes so many times as
-much; of megahertz it is so many times as fast.
+Nothing on this page is proved. `bench/run --all --markdown` makes it, `bench/run NAME --markdown` one section anew,
+with its date, commit and machine. Times are the best of several calls, on x86-64; those of `gate`, `first` and
+compilers are of one. A ratio is what is beside ours, by ours: above 1 the other takes so many times as much; of
+megahertz it is so many times as fast.
 """
 
 
@@ -44,8 +44,10 @@ def rows(figures: list[Figure]) -> list[list[Figure]]:
 
 
 def table(figures: list[Figure]) -> list[str]:
-    """The rows; without a peer there are no columns for it."""
+    """The rows; without a peer there are no columns for it, and one row alone is a sentence."""
     compares = any(figure.peer for figure in figures)
+    if not compares and len(rows(figures)) == 1:
+        return [f"{figures[0].what}: {', '.join(map(here, figures))}."]
     head = ["What", "Here", "Beside it", "Ratio"][: 4 if compares else 2]
     lines = [row(group[0].what, group, compares) for group in rows(figures)]
     return [f"| {' | '.join(head)} |", "|---" * len(head) + "|", *lines]

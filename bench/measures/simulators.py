@@ -23,7 +23,7 @@ MODULES = [
         2,
     ),
 ]
-TOLD = {"march_c": "March C-, 24,000 words of 64 bits", "pausing": "pauses, scrambled addresses and a polarity"}
+TOLD = {"march_c": "March C-, 24,000×64", "pausing": "pauses and scrambling"}
 ICARUS = """module bench;
   reg clk = 0, reset = 1;
   reg [63:0] memory [0:%(last)d];
@@ -154,8 +154,7 @@ def verilator(name: str, latency: int, cycles: int, folder: pathlib.Path) -> tup
 
 
 def clock(folder: pathlib.Path) -> list[Figure]:
-    """A cycle of a whole self-test: `benchfile`, with its box and the words that the march expects, and plain memories
-    beside.
+    """A cycle of a self-test: `benchfile`, with its box and the expected words, and plain memories beside.
 
     The simulators run the same module for the same cycles, from reset to `done`, beside a memory that is an array. Ours
     has in it besides what `benchfile` does in each cycle: the box, which looks for an address's word and knows of
@@ -177,7 +176,7 @@ def clock(folder: pathlib.Path) -> list[Figure]:
 
 
 def closed_loop(folder: pathlib.Path) -> list[Figure]:
-    """`bench` on 1,680,000 commands, beside simulators that run the module and the memory of `vidlakost testbench`."""
+    """`bench`, beside simulators that run the module and the memory of `vidlakost testbench`."""
     march, memory, none = write(folder, march=C, memory=memory_text("wide", 24000, 64), none="")
     loop = of_loop(best(6, PROGRAM, "bench", march, memory))
     asked("compile", march, memory, none, folder / "wide_bist.v", folder / "report")
