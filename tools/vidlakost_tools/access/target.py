@@ -4,7 +4,7 @@ from __future__ import annotations
 import dataclasses
 from typing import Sequence
 
-from vidlakost_tools.refusals.otherwise import RESERVED
+from vidlakost_tools.verilog.reserved_words import BUILT_IN, OF_SYSTEM_VERILOG
 from vidlakost_tools.text import read_described, statements
 from vidlakost_tools.texts.chip import Chip
 from vidlakost_tools.texts.memory import Memory
@@ -13,8 +13,6 @@ from vidlakost_tools.verilog.syntax import ranged
 
 # the identity of a TAP for which nobody names another
 IDENTITY = 0x10000A01
-# classes that every source of SystemVerilog has
-BUILT_IN = {"process", "mailbox", "semaphore"}
 SIGNALS = ("rdata", "en", "we", "addr", "wdata")
 
 
@@ -66,7 +64,7 @@ class Target:
 
     @staticmethod
     def of_chip(chip: Chip) -> Target:
-        if chip.name in RESERVED | BUILT_IN:
+        if chip.name in OF_SYSTEM_VERILOG | BUILT_IN:
             why = "is a word of SystemVerilog, so most simulators refuse the chip's module: give it another name"
             raise ToolError(f"'{chip.name}' {why}")
         units = [Unit(unit.memory, f"_{number}", unit.start) for number, unit in enumerate(chip.units)]

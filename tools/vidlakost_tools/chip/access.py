@@ -12,7 +12,7 @@ from vidlakost_tools.chip import text as system_text
 from vidlakost_tools.chip.steps import cycles
 from vidlakost_tools.chip.system import System
 from vidlakost_tools.collar import planted as collar_planted
-from vidlakost_tools.collar.pin_lines import RESERVED
+from vidlakost_tools.verilog.reserved_words import RESERVED
 from vidlakost_tools.collar.planted import DEFINE
 from vidlakost_tools.collar.watch import POWER
 from vidlakost_tools.text import LARGE_BYTES, lines_of, read_described, read_text, template

@@ -10,7 +10,8 @@ import re
 from typing import Iterable
 
 from vidlakost_tools.access.target import is_chip_file
-from vidlakost_tools.collar.pin_lines import RESERVED, is_name, read_macro
+from vidlakost_tools.collar.pin_lines import is_name, read_macro
+from vidlakost_tools.verilog.reserved_words import RESERVED
 from vidlakost_tools.collar.pins import Macro, Word
 from vidlakost_tools.text import lines_of, read_described, shown, statements, words_in
 from vidlakost_tools.texts.chip import Chip, Unit, place, read_chip

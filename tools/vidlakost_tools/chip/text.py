@@ -9,7 +9,7 @@ from vidlakost_tools.chip.steps import steps_of
 from vidlakost_tools.chip.system import Part, Placed, System
 from vidlakost_tools.collar import planted as collar_planted
 from vidlakost_tools.collar.names import MARK, Names, halves, own_ports, planted_names
-from vidlakost_tools.collar.pin_lines import RESERVED
+from vidlakost_tools.verilog.reserved_words import RESERVED
 from vidlakost_tools.collar.text import FOOT, HEAD, PLANTED, memory_name
 from vidlakost_tools.collar.watch import POWER
 from vidlakost_tools.tool import ToolError

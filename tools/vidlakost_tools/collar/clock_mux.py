@@ -4,8 +4,8 @@ from __future__ import annotations
 
 import dataclasses
 
-from vidlakost_tools.access.target import BUILT_IN
-from vidlakost_tools.collar.pin_lines import RESERVED, is_name
+from vidlakost_tools.collar.pin_lines import is_name
+from vidlakost_tools.verilog.reserved_words import RESERVED
 from vidlakost_tools.collar.pins import Macro
 from vidlakost_tools.text import shown
 from vidlakost_tools.tool import ToolError
@@ -48,7 +48,7 @@ class ClockMux:
 def clock_mux(text: str) -> ClockMux:
     """The cell that an option names."""
     names = text.split(":")
-    is_plain = all(is_name(name) and name not in RESERVED | BUILT_IN for name in names)
+    is_plain = all(is_name(name) and name not in RESERVED for name in names)
     if len(names) != 5 or len(set(names)) != 5 or not is_plain:
         raise ToolError(f"--clock-mux is {FORM}, five names, and not {shown(text)}")
     return ClockMux(*names)

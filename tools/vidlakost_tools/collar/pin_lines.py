@@ -3,14 +3,11 @@ from __future__ import annotations
 
 import re
 
-from vidlakost_tools.access.target import BUILT_IN
 from vidlakost_tools.collar.pins import ADDRESSES, DRIVEN, WIDEST, Macro, Pin, Word, literal
-from vidlakost_tools.refusals.otherwise import RESERVED as SYSTEM_WORDS
 from vidlakost_tools.text import BLANKS, lines_of, read_described, shown, words_in
-from vidlakost_tools.verilog.cell_kinds import RESERVED as PLAIN_WORDS
+from vidlakost_tools.verilog.reserved_words import RESERVED
 
 
-RESERVED = PLAIN_WORDS | SYSTEM_WORDS | BUILT_IN
 MOST = 1024
 FORMS = {
     **DRIVEN,

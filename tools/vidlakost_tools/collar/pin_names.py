@@ -7,7 +7,8 @@ import re
 from typing import Mapping
 
 from vidlakost_tools.collar.liberty import Found
-from vidlakost_tools.collar.pin_lines import RESERVED, is_name
+from vidlakost_tools.collar.pin_lines import is_name
+from vidlakost_tools.verilog.reserved_words import RESERVED
 from vidlakost_tools.collar.pins import WIDEST
 from vidlakost_tools.text import visible
 

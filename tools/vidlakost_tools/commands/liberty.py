@@ -21,7 +21,8 @@ import pathlib
 
 from vidlakost_tools.collar import pin_names
 from vidlakost_tools.collar.liberty import Found, memory_cell
-from vidlakost_tools.collar.pin_lines import RESERVED, is_name
+from vidlakost_tools.collar.pin_lines import is_name
+from vidlakost_tools.verilog.reserved_words import RESERVED
 from vidlakost_tools.collar.port_list import Ports
 from vidlakost_tools.files import write_own
 from vidlakost_tools.text import SOURCE_BYTES, read_described, shown

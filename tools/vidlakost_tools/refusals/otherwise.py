@@ -10,6 +10,7 @@ from vidlakost_tools.refusals.finding import place
 from vidlakost_tools.refusals.verilog import Events
 from vidlakost_tools.text import read_bytes, read_described, statements
 from vidlakost_tools.verilog.syntax import COMMENT, Expression, Unread
+from vidlakost_tools.verilog.reserved_words import OF_SYSTEM_VERILOG
 
 # what may stand in a comment, or as a blank, and why another tool may go another way
 IN_TEXT = [
@@ -33,18 +34,6 @@ BEHIND_DECIMAL = (
 # from here on Yosys takes the amount of a shift for a negative number
 FAR = 1 << 31
 FAR_SHIFT = "a shift whose amount can be 2147483648 or more: Yosys takes another value"
-RESERVED = set(
-    """accept_on alias always_comb always_ff always_latch assert assume before bind bins binsof bit break byte chandle
-    checker class clocking const constraint context continue cover covergroup coverpoint cross dist do endchecker
-    endclass endclocking endgroup endinterface endpackage endprogram endproperty endsequence enum eventually expect
-    export extends extern final first_match foreach forkjoin global iff ignore_bins illegal_bins implements implies
-    import inside int interconnect interface intersect join_any join_none let local logic longint matches modport
-    nettype new nexttime null package packed priority program property protected pure rand randc randcase randsequence
-    ref reject_on restrict return s_always s_eventually s_nexttime s_until s_until_with sequence shortint shortreal
-    soft solve static string strong struct super sync_accept_on sync_reject_on tagged this throughout timeprecision
-    timeunit type typedef union unique unique0 until until_with untyped var virtual void wait_order weak wildcard with
-    within""".split()
-)
 
 
 class Shifts(Events):
@@ -130,7 +119,7 @@ def of_chip(name: str, text: str) -> list[str]:
         f"{port}_{unit}" for port in ("rdata", "en", "we", "addr", "wdata") for unit in range(units)
     }
     for line, chip in said:
-        if chip in RESERVED:
+        if chip in OF_SYSTEM_VERILOG:
             return [
                 f"{name}:{line}: warning: SystemVerilog reserves '{chip}': a tool that reads it refuses the chip's"
                 " module"

@@ -9,7 +9,8 @@ from typing import Any
 
 from vidlakost_tools.audit.pins import Pins
 from vidlakost_tools.tool import ToolError
-from vidlakost_tools.verilog.cell_kinds import CHOICES, RESERVED
+from vidlakost_tools.verilog.cell_kinds import CHOICES
+from vidlakost_tools.verilog.reserved_words import OF_VERILOG
 
 # the widest word of the subset
 WIDEST = 64
@@ -58,7 +59,7 @@ class NamedBits:
         self.helpers: list[Drive] = []
         self.opens: list[str] = []
         self.places: dict[str, str] = {}
-        self.used: set[str] = set(RESERVED)
+        self.used: set[str] = set(OF_VERILOG)
         self.counts: collections.Counter[str] = collections.Counter()
         self.read: list[str] = []
         self.results: list[tuple[str, list[Any]]] = []
