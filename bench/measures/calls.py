@@ -115,7 +115,8 @@ HEAD = "module bench(\n  input clk,\n  input [31:0] given,\n  output reg [31:0] 
 PART = """  // part {0}
   wire [31:0] sum_{0};
   reg [7:0] count_{0};
-  assign sum_{0} = ((given + {{count_{0}, 24'h0f00ff}}) ^ ((count_{0}[3:0] == 4'd9) ? {{shown[15:0], given[31:16]}} : (~shown)));
+  assign sum_{0} = ((given + {{count_{0}, 24'h0f00ff}})
+    ^ ((count_{0}[3:0] == 4'd9) ? {{shown[15:0], given[31:16]}} : (~shown)));
   always @(posedge clk) begin
     if ((count_{0} < 8'hc8)) begin
       count_{0} <= (count_{0} + 8'd1);

@@ -34,7 +34,8 @@ module bench;
       #4;
       if (cycle > 0) begin
         if ((^{en_2, we_2, addr_2, wdata_2, done_2, fail_2}) === 1'bx) differ = differ + 1;
-        else if ({en_2, we_2, addr_2, wdata_2, done_2, fail_2} !== {en, we, addr, wdata, done, fail}) differ = differ + 1;
+        else if ({en_2, we_2, addr_2, wdata_2, done_2, fail_2} !== {en, we, addr, wdata, done, fail})
+      differ = differ + 1;
         if (done === 1'b1) ended = ended + 1;
       end
       if (en & we) memory[addr] = wdata;

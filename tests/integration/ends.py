@@ -34,7 +34,8 @@ OUTSIDE = (
     "+address=x",
 )
 # a controller that does nothing, whose `done` never comes, comes at once, or is unknown
-IDLE = """module late_bist(input clk, input reset, input [4:0] rdata, output en, output we, output [2:0] addr, output [4:0] wdata,
+IDLE = """module late_bist(input clk, input reset, input [4:0] rdata,
+  output en, output we, output [2:0] addr, output [4:0] wdata,
   output done, output fail);
   assign {{en, we, addr, wdata, done, fail}} = {{10'd0, {}, 1'b0}};
 endmodule

@@ -114,7 +114,8 @@ WRONG_WORD += (
     "sed 's/value1 <= (reset/value1 <= (visit/' pairs.v > pairs_wrong.v && tools/formal pairs_wrong.v pairs.m pairs.mem"
 )
 RAM_CELL = "module ram_cell(input clk, output y);\n  SB_RAM40_4K ram(.RCLK(clk), .RDATA(y));\nendmodule\n"
-PINNED = RIGHT + """module pinned(input ck, rst_n, mode, input [1:0] q, output cen, wen, output [1:0] a, d, output ready, error, busy);
+PINNED = RIGHT + """module pinned(input ck, rst_n, mode, input [1:0] q,
+  output cen, wen, output [1:0] a, d, output ready, error, busy);
   wire en, we;
   two_processes inner(~ck, ~rst_n & mode, q, en, we, a, d, ready, error);
   assign {cen, wen, busy} = {~en, ~we, 1'b1};
@@ -157,7 +158,8 @@ def with_cells(last: str) -> str:
 PIN = "pin({0}) {{ direction : input; }}"
 LIBRARY = f"""library(l) {{
   cell(INV) {{ {PIN.format("A")} pin(Y) {{ direction : output; function : "(!A)"; }} }}
-  cell("TBUF") {{ {PIN.format("A")} {PIN.format("EN")} pin(Y) {{ direction : output; function : "(!A)"; three_state : "(!EN)"; }} }}
+  cell("TBUF") {{ {PIN.format("A")} {PIN.format("EN")}
+    pin(Y) {{ direction : output; function : "(!A)"; three_state : "(!EN)"; }} }}
 }}
 """
 UNUSED = "module unused(output y, input a, e);\n  bufif1 (y, a, e);\nendmodule\n"

@@ -32,7 +32,8 @@ CALLS: List[Call] = [
     audited(
         "rows_meet.v",
         status=1,
-        prints="  wdata hangs on rows_that_overlap (rows_meet.v:45), of which more than one holds, and any may be taken",
+        prints="  wdata hangs on rows_that_overlap (rows_meet.v:45), of which more than one holds, "
+        "and any may be taken",
     ),
     audited("comment_apart.v", prints=EXACT, says="audit: Warning: Encountered `"),
     audited(

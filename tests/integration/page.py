@@ -97,7 +97,8 @@ def small(it: Looker) -> None:
     )
     it.look("the squares show at 1280 x 720", lambda: 0 < it.browser.execute_script(lowest) < 720)
     it.browser.execute_cdp_cmd("Emulation.setDeviceMetricsOverride", {**sizes, "width": 375})
-    beyond = """return [...document.querySelectorAll("body *")].filter((it) => !it.closest("#cycles, pre, .skip, .march"))
+    beyond = """return [...document.querySelectorAll("body *")]
+        .filter((it) => !it.closest("#cycles, pre, .skip, .march"))
         .filter((it) => it.getBoundingClientRect().width > 0)
         .filter((it) => it.getBoundingClientRect().right > document.documentElement.clientWidth + 1)
         .map((it) => it.outerHTML.slice(0, 60))"""

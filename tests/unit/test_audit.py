@@ -16,7 +16,15 @@ from vidlakost_tools.audit.random_comparison import agree
 from vidlakost_tools.audit.waveform import code_of, shown, write_save
 from vidlakost_tools.texts.memory import parse_memory
 from vidlakost_tools.tool import ToolError
-from vidlakost_tools.verilog import clock_tree, model_checker, replayed, rtlil, source_texts, yosys, yosys_cells as cells
+from vidlakost_tools.verilog import (
+    clock_tree,
+    model_checker,
+    replayed,
+    rtlil,
+    source_texts,
+    yosys,
+    yosys_cells as cells,
+)
 from vidlakost_tools.verilog.front_end import Plain
 from vidlakost_tools.verilog.replayed import Case, Test
 from vidlakost_tools.verilog.source_texts import blanked

@@ -1,5 +1,5 @@
-"""What `audit` finds of a controller, step by step: its ports, its commands, a late start or end, what stands behind the
-end, and `fail`."""
+"""What `audit` finds of a controller, step by step: its ports, its commands, a late start or end, what stands behind
+the end, and `fail`."""
 from __future__ import annotations
 
 import dataclasses

@@ -1,5 +1,5 @@
-"""The testbench of the module that joins the chips with the collars of their memories: it uses each memory by the chip's
-pins, runs the test of sound memories, and plants one fault after another."""
+"""The testbench of the module that joins the chips with the collars of their memories: it uses each memory by the
+chip's pins, runs the test of sound memories, and plants one fault after another."""
 from __future__ import annotations
 
 import dataclasses

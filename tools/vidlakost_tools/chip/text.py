@@ -16,7 +16,7 @@ from vidlakost_tools.tool import ToolError
 from vidlakost_tools.verilog.syntax import ranged
 
 ABOUT = """{mark} top: the {count} memories of {name}, in collars, with the tests that `vidlakost chip` wrote.
-// The test runs once while test is 1; it begins when test rises, after 0 for a few cycles. fail has a bit for each memory:
+// The test runs once while test is 1. It begins when test rises, after 0 for a few cycles. fail has these bits:
 {bits}
 """
 

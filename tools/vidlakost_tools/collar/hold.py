@@ -75,7 +75,8 @@ def text(elements: list[Element], memory: Memory, holds: list[Hold]) -> str:
 
 
 BENCH = """{mark} hold: a testbench of {name}_hold, which resumes it after some cycles of each hold, looks whether its
-// clock stood and the memory was left alone, and ends with a status. With +planted a cell loses its content in each hold.
+// clock stood and the memory was left alone, and ends with a status. With +planted a cell loses its content in
+// each hold.
 {head}module {name}_hold_tb;
 {over}  reg clk = 1'b0;
   initial forever #5 clk = ~clk;

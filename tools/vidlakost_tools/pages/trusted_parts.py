@@ -5,11 +5,12 @@ from __future__ import annotations
 import dataclasses
 import fnmatch
 
-SIGNS = """*How to read it.* `Name : A → B → Type 0` declares a relation or a statement about an A and a B; the lines below say what it
-means, case by case. `(x : A) × P x` is "some x with P", `(x : A) → P x` is "for every x, P", `A ⊎ B` is "A or B", `A ×
-B` is "A and B", `A → ⊥` is "not A", `a ≡ b` is equality; a `record` holds where all its fields do. Numbers are natural,
-without bound; `List`, `Option` (`Some`, `None`) and `Result` (`Ok`, `Err`) are as in Rust, and texts are lists of bytes
-(`codes "en"`). What is taken from the kit's library (numbers, lists, texts of digits) is not shown.
+SIGNS = """\
+*How to read it.* `Name : A → B → Type 0` declares a relation or a statement about an A and a B; the lines below say
+what it means, case by case. `(x : A) × P x` is "some x with P", `(x : A) → P x` is "for every x, P", `A ⊎ B` is "A or
+B", `A × B` is "A and B", `A → ⊥` is "not A", `a ≡ b` is equality; a `record` holds where all its fields do. Numbers
+are natural, without bound; `List`, `Option` (`Some`, `None`) and `Result` (`Ok`, `Err`) are as in Rust, and texts are
+lists of bytes (`codes "en"`). What is taken from the kit's library (numbers, lists, texts of digits) is not shown.
 """
 
 HEADLINE_TITLE = """# The headline, and all that it stands on
@@ -164,16 +165,17 @@ stands in the open run stands in every history, and the answer is the first cycl
 than the rule of the ports wants.
 
 - `Refuses break result`: Ok exactly where there is no break, else the fault that tells it. Want of memory tells
-nothing.
+  nothing.
 - **Words** (`Words.antt`): a simple identifier begins with a letter or `_` and goes on with letters, digits, `_`, `$`;
   a name is one that isn't among the 124 reserved words (`bist_text/specs/ReservedWords`) and has at most 64 bytes.
-- **Tokens** (`Tokens.antt`): an identifier with its bytes; a number, by whether it has more than one digit, and its value; a
-  literal, as the constant that its size and digits write (`Based`); a literal of base b, o or h with a `?` directly behind it
-  (`Unused`, which no rule uses); a mark. The marks `~&`, `~|`, `~^`, `^~` and `&&&` of the standard are `Unused` too. A byte
-  begins a word, a number, a mark or no token (`start_of`), and a token takes as many bytes as there are (`run`, `decimal`,
-  `digits`, `behind_mark`), so that it is the longest at its place. `Lexed tokens bytes`: the bytes are these tokens in order,
-  with white space before, between and behind them. White space (`gap`) is spaces, tabs, line feeds, form feeds and carriage
-  returns, `//` to the line's end or the file's, and `/*` to the next `*/`.
+- **Tokens** (`Tokens.antt`): an identifier with its bytes; a number, by whether it has more than one digit, and its
+  value; a literal, as the constant that its size and digits write (`Based`); a literal of base b, o or h with a `?`
+  directly behind it (`Unused`, which no rule uses); a mark. The marks `~&`, `~|`, `~^`, `^~` and `&&&` of the
+  standard are `Unused` too. A byte begins a word, a number, a mark or no token (`start_of`), and a token takes as
+  many bytes as there are (`run`, `decimal`, `digits`, `behind_mark`), so that it is the longest at its place.
+  `Lexed tokens bytes`: the bytes are these tokens in order, with white space before, between and behind them. White
+  space (`gap`) is spaces, tabs, line feeds, form feeds and carriage returns, `//` to the line's end or the file's,
+  and `/*` to the next `*/`.
 - **Grammar** (`Grammar.antt`): a derivation is a datum with one constructor for each alternative of the grammar
   (braces, `if` with and without `else`, blocks, a default with or without its colon, a declaration of several names).
   `file style limit derivation tokens` says that the tokens are those of the derivation; each rule stands as a line of

@@ -1,5 +1,5 @@
-"""The bits of a module, as Yosys writes it in JSON: the names that they get, which are the sources' names where there are
-any, and the ports."""
+"""The bits of a module, as Yosys writes it in JSON: the names that they get, which are the sources' names where there
+are any, and the ports."""
 from __future__ import annotations
 
 import collections
