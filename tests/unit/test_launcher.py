@@ -182,6 +182,19 @@ class Launcher(unittest.TestCase):
             done = self.call("bench", VIDLAKOST_PROGRAM=name)
             self.assertEqual((done.returncode, "the launcher itself" in done.stderr), (125, True), done.stderr)
 
+    def test_a_tag_is_the_version(self) -> None:
+        def git(*words: str) -> None:
+            who = ["-c", "user.name=n", "-c", "user.email=e@example.org"]
+            subprocess.run(["git", *who, *words], cwd=self.root, check=True, stdout=subprocess.DEVNULL)
+
+        git("init", "-q")
+        git("commit", "-q", "--allow-empty", "-m", "first")
+        self.assertRegex(self.call("--version").stdout, r"\Avidlakost \d{4}\.\d\d\.\d\d-[0-9a-f]{7,}\n")
+        git("tag", "v1.2")
+        self.assertRegex(self.call("--version").stdout, r"\Avidlakost 1\.2\n")
+        git("commit", "-q", "--allow-empty", "-m", "second")
+        self.assertRegex(self.call("--version").stdout, r"\Avidlakost 1\.2\+1\.g[0-9a-f]{7,}\n")
+
     def test_few_files(self) -> None:
         self.program.parent.mkdir()
         self.program.write_text(PROGRAM)

@@ -8,10 +8,17 @@ import sys
 import tempfile
 import unittest
 
+from vidlakost_tools.program import tagged
+
 ROOT = pathlib.Path(__file__).resolve().parent.parent.parent
 
 
 class Installation(unittest.TestCase):
+    def test_a_version_is_the_newest_tag(self) -> None:
+        self.assertEqual(tagged("v1.2-0-gabc0123"), "1.2")
+        self.assertEqual(tagged("v1.2-rc-3-gabc0123"), "1.2-rc+3.gabc0123")
+        self.assertEqual(tagged(""), "")
+
     def test_what_somebody_put_beside_a_release_is_not_installed(self) -> None:
         with tempfile.TemporaryDirectory() as name:
             home = pathlib.Path(name)

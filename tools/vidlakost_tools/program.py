@@ -95,15 +95,26 @@ def version() -> tuple[str, str, str]:
         first, second, *_ = release.read_text().splitlines()
         commit, date = second.split(" ", 1)[1].split(", ")
         return first.split(" ")[1], date, commit
-    form = ["git", "-C", str(ROOT), "log", "-1", "--format=%cs %h"]
-    said = subprocess.run(
-        form, stdout=subprocess.PIPE, stderr=subprocess.DEVNULL, text=True, check=False
-    ).stdout.split()
+    said = of_git("log", "-1", "--format=%cs %h").split()
     date, commit = said if len(said) == 2 else ("0000-00-00", "none")
-    changed = subprocess.run(
-        [*form[:3], "status", "--porcelain"], stdout=subprocess.PIPE, stderr=subprocess.DEVNULL, text=True, check=False
-    ).stdout
-    return f"{date.replace('-', '.')}-{commit}{'-changed' if changed.strip() else ''}", date, commit
+    plain = tagged(of_git("describe", "--tags", "--long", "--match", "v[0-9]*")) or f"{date.replace('-', '.')}-{commit}"
+    return f"{plain}{'-changed' if of_git('status', '--porcelain') else ''}", date, commit
+
+
+def of_git(*words: str) -> str:
+    """What git says of this checkout; nothing where there is none."""
+    call = ["git", "-C", str(ROOT), *words]
+    done = subprocess.run(call, stdout=subprocess.PIPE, stderr=subprocess.DEVNULL, text=True, check=False)
+    return done.stdout.strip()
+
+
+def tagged(described: str) -> str:
+    """The version by the newest tag below, as `git describe --long` tells it: v1.2 itself is 1.2, and 1.2+3.gabc0123
+    is three commits further."""
+    found = re.fullmatch(r"v(.+)-(\d+)-(g[0-9a-f]+)", described)
+    if not found:
+        return ""
+    return found[1] if found[2] == "0" else f"{found[1]}+{found[2]}.{found[3]}"
 
 
 def quick_program() -> str | None:
