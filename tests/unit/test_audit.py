@@ -1,140 +1,22 @@
 """Parts of `audit` by themselves, without any program: `python3 -m unittest discover -s tests/unit -t .`."""
 from __future__ import annotations
 
-import json
 import pathlib
 import tempfile
 import unittest
 from typing import Any
 from unittest import mock
 
+from tests.unit.modules import cell, module, net, port, remembers
 from vidlakost_tools.audit import fail_lanes as lanes, fail_search, pins as audit_pins, splits
 from vidlakost_tools.audit.cuts import least_cut
 from vidlakost_tools.audit.gates import Machine
 from vidlakost_tools.audit.pins import Pin, Pins
-from vidlakost_tools.audit.random_comparison import agree
-from vidlakost_tools.audit.waveform import code_of, shown, write_save
 from vidlakost_tools.texts.memory import parse_memory
 from vidlakost_tools.tool import ToolError
-from vidlakost_tools.verilog import (
-    clock_tree,
-    model_checker,
-    replayed,
-    rtlil,
-    source_texts,
-    yosys,
-    yosys_cells as cells,
-)
+from vidlakost_tools.verilog import model_checker, replayed, yosys, yosys_cells as cells
 from vidlakost_tools.verilog.front_end import Plain
 from vidlakost_tools.verilog.replayed import Case, Test
-from vidlakost_tools.verilog.source_texts import blanked
-from vidlakost_tools.verilog.vhdl import literal_of, placed, with_defaults
-from vidlakost_tools.verilog.yosys_operators import Writer
-from vidlakost_tools.verilog.named_bits import Drive, NotWords
-
-
-def port(way: str, *bits: int) -> dict[str, Any]:
-    return {"direction": way, "bits": list(bits)}
-
-
-def net(*bits: int) -> dict[str, Any]:
-    return {"hide_name": 0, "bits": list(bits), "attributes": {}}
-
-
-def cell(kind: str, parameters: dict[str, Any] | None = None, **pins: list[Any]) -> dict[str, Any]:
-    return {"type": kind, "parameters": parameters or {}, "attributes": {}, "connections": pins}
-
-
-def module(cells: dict[str, Any], **ports: dict[str, Any]) -> dict[str, Any]:
-    return {"ports": ports, "cells": cells, "netnames": {name: net(*said["bits"]) for name, said in ports.items()}}
-
-
-def value_of(kind: str, width: int, parameters: dict[str, Any] | None = None, **pins: list[Any]) -> str:
-    """The expression of one cell whose operands are the bits of the inputs a (2 to 5) and b (6 to 9)."""
-    made = cell(kind, parameters, Y=list(range(20, 20 + width)), **pins)
-    writer = Writer(module({"one": made}, a=port("input", 2, 3, 4, 5), b=port("input", 6, 7, 8, 9)), None, None)
-    return writer.cells()[0][0].value
-
-
-A, B = [2, 3, 4, 5], [6, 7, 8, 9]
-SIGNED = {"A_SIGNED": "1", "B_SIGNED": "1"}
-
-
-class Words(unittest.TestCase):
-    def test_sums_are_extended(self) -> None:
-        self.assertEqual(value_of("$add", 5, A=A, B=B), "({1'b0, a} + {1'b0, b})")
-        self.assertEqual(value_of("$sub", 5, SIGNED, A=A, B=B), "({a[3], a} - {b[3], b})")
-
-    def test_signed_comparison_turns_the_highest_bits(self) -> None:
-        self.assertEqual(value_of("$lt", 1, SIGNED, A=A, B=B), "({(~a[3]), a[2:0]} < {(~b[3]), b[2:0]})")
-
-    def test_one_sign_is_none(self) -> None:
-        self.assertEqual(value_of("$lt", 1, {"A_SIGNED": "1"}, A=A[:2], B=B), "({2'b00, a[1:0]} < b)")
-
-    def test_answer_of_one_bit_is_padded(self) -> None:
-        self.assertEqual(value_of("$eq", 3, A=A, B=B), "{2'b00, (a == b)}")
-
-    def test_part_that_may_lie_outside_is_left(self) -> None:
-        self.assertEqual(value_of("$shiftx", 1, A=A, B=B[:2]), "shifted[0]")
-        with self.assertRaises(NotWords):
-            value_of("$shiftx", 1, A=A, B=B[:3])
-
-    def test_constants_and_parts(self) -> None:
-        value = value_of("$and", 4, A=["1", 3, 4, "0"], B=[9, 8, 7, 6])
-        self.assertEqual(value, "({1'b0, a[2:1], 1'b1} & {b[0], b[1], b[2], b[3]})")
-
-    def test_register_without_a_number_is_any(self) -> None:
-        self.assertEqual(replayed.ports_at(remembers(), Case(0, [0], {0}, {"dut.lost": [1]}))["fail"], 1)
-
-    def test_what_nothing_drives_is_open(self) -> None:
-        made = cell("$not", A=[50], Y=[20])
-        writer = Writer(module({"one": made}, a=port("input", 2)), None, None)
-        self.assertEqual(writer.cells()[0][0].value, "(~open)")
-        self.assertEqual(writer.opens, ["open"])
-
-    def test_two_x_are_two_numbers(self) -> None:
-        self.assertEqual(value_of("$xor", 1, A=["x"], B=["x"]), "(open ^ open_1)")
-
-    def test_clock_is_no_data(self) -> None:
-        made = cell("$and", A=[2], B=[3], Y=[20])
-        with self.assertRaises(ToolError):
-            Writer(module({"one": made}, ck=port("input", 2), a=port("input", 3)), None, "ck").cells()
-
-
-GATE = {
-    "held": cell("$dlatch", {"EN_POLARITY": "0"}, EN=[2], D=[3], Q=[10]),
-    "gate": cell("$and", A=[2], B=[10], Y=[11]),
-    "state": cell("$dff", {"CLK_POLARITY": "1"}, CLK=[11], D=[4], Q=[12]),
-}
-
-
-class Clocks(unittest.TestCase):
-    def tree(self, **changed: dict[str, Any]) -> clock_tree.Tree:
-        ports = {"ck": port("input", 2), "on": port("input", 3), "d": port("input", 4), "q": port("output", 12)}
-        return clock_tree.Tree(module({**{name: dict(it) for name, it in GATE.items()}, **changed}, **ports))
-
-    def test_gated_clock_is_an_enable(self) -> None:
-        path = clock_tree.edges_of(self.tree())["state"].path
-        self.assertEqual((path.root, path.enables, path.holders), (2, [3], ["held"]))
-
-    def test_latch_of_the_wrong_level_gates_nothing(self) -> None:
-        wrong = cell("$dlatch", {"EN_POLARITY": "1"}, EN=[2], D=[3], Q=[10])
-        with self.assertRaisesRegex(ToolError, "by what no latch holds"):
-            clock_tree.edges_of(self.tree(held=wrong))
-
-    def test_clock_gated_by_a_plain_signal_is_refused(self) -> None:
-        with self.assertRaisesRegex(ToolError, "by what no latch holds"):
-            clock_tree.edges_of(self.tree(gate=cell("$and", A=[2], B=[3], Y=[11])))
-
-    def test_latch_that_is_read_is_refused(self) -> None:
-        tree = self.tree(other=cell("$not", A=[10], Y=[12]))
-        with self.assertRaisesRegex(ToolError, "read outside of a gate"):
-            clock_tree.refuse_read(tree, {"held"})
-
-    def test_two_inverters_are_none(self) -> None:
-        one, two = cell("$not", A=[2], Y=[20]), cell("$_NOT_", A=[20], Y=[11])
-        edge = clock_tree.edges_of(self.tree(gate=one, two=two))["state"]
-        self.assertEqual((edge.path.root, edge.rises), (2, True))
 
 
 class PinsFile(unittest.TestCase):
@@ -280,20 +162,6 @@ class Splits(unittest.TestCase):
         self.assertEqual([lanes.Side.HIGHEST.lanes(bit, 3) for bit in range(3)], [0, 0b001, 0b011])
 
 
-def remembers() -> Plain:
-    """A module whose `fail` is what it remembers of bit 0 on `rdata`, but for what nothing drives."""
-    others = ("en", "we", "addr", "wdata", "done")
-    ports = [
-        ("input", "clk", 1),
-        ("input", "reset", 1),
-        ("input", "rdata", 2),
-        *(("output", port, 1) for port in (*others, "fail")),
-    ]
-    outputs = [*(Drive(port, 1, "1'b0", [[]]) for port in others), Drive("fail", 1, "(bad ^ lost)", [["bad", "lost"]])]
-    bad = Drive("bad", 1, "(rdata[0] & (~reset))", [["rdata", "reset"]])
-    return Plain("m", ports, [], outputs, [bad], ["lost"], {}, "clk")
-
-
 class Replays(unittest.TestCase):
     def test_signals_that_are_asked_for(self) -> None:
         self.assertEqual(replayed.signals_of(remembers()), ["dut.bad", "dut.lost"])
@@ -364,151 +232,6 @@ class Places(unittest.TestCase):
         self.assertEqual(
             cells.place_of({"netnames": {"q": {**net(5), "attributes": {"src": "m.v:2"}}}}, plain), "q, m.v:4"
         )
-
-
-class Texts(unittest.TestCase):
-    def test_default_of_a_case_comes_back(self) -> None:
-        verilog = "case (s)\n  2'b10: y <= b;\n  2'b01: y <= a;\nendcase"
-        vhdl = "with s select y <=\n  wrap_b when \"10\",\n  wrap_a when \"01\",\n  wrap_c when others;"
-        self.assertIn("default: y <= c;", with_defaults(verilog, vhdl))
-        self.assertNotIn("default", with_defaults(verilog, vhdl.replace("wrap_c", "f(c)")))
-
-    def test_places_of_vhdl(self) -> None:
-        made = "  wire bad;\n  reg n7_q;\n  wire n8_o;\n  assign bad = n7_q;\n"
-        text = placed(
-            made, {"a.vhd": "-- bad : no\nsignal go, Bad : std_logic;\n", "no name.vhd": "signal n8_o : bit;"}
-        )
-        self.assertIn('`line 2 "a.vhd" 0\n  reg n7_q;\n`line 3 "vhdl.v" 0\n  wire n8_o;', text)
-        self.assertNotIn("no name", text)
-
-    def test_what_is_in_comments_asks_nothing(self) -> None:
-        for text in blanked('a /* YOSYS\n*/ b "YOSYS" c // YOSYS\nd'):
-            self.assertEqual(text.split(), ["a", "b", "c", "d"])
-        for text in blanked('`include "x.vh" // "y.vh"', but_texts=True):
-            self.assertEqual(text.split(), ["`include", '"x.vh"'])
-
-    def test_escaped_name_hides_nothing(self) -> None:
-        for line in (
-            "wire \\x// ; `ifdef YOSYS",
-            'wire \\y" ; `ifdef YOSYS wire \\z" ;',
-            "wire \\x/* ; `ifdef YOSYS /* */",
-        ):
-            self.assertTrue(any("`ifdef YOSYS" in text for text in blanked(line)), line)
-
-    def test_source_that_means_something_else_to_yosys(self) -> None:
-        typed = "typedef struct packed { logic [1:0] a; } t; t s;"
-        with tempfile.TemporaryDirectory() as name:
-            source = pathlib.Path(name) / "a.v"
-            for text in (
-                "(* \\wand *) wire a;",
-                "(* a = (1), wor *) wire a;",
-                "(* hierconn *) wire \\u.x ;",
-                f"{typed} x = s.a[2];",
-                f"{typed} x = |s.a[2:1];",
-                "struct packed { logic [W-1:0] w; } s; x = s.w[1];",
-                "struct packed { logic [3:1] w; } s; x = s.w[0];",
-                f"{typed} logic [W:0] a; x = s.a[1]; // [9:0] a",
-            ):
-                source.write_text(text)
-                with self.assertRaises(ToolError, msg=text):
-                    source_texts.asked([str(source)])
-            for text in (
-                "always @(*) begin end wand w;",
-                "(* keep *) wire wor_x;",
-                f"{typed} sub u(.a(x[i])); x = s.a[1];",
-                "a = u.b[i];",
-                "struct packed { logic [W-1:0] w; } s; x = s.w[0];",
-            ):
-                source.write_text(text)
-                self.assertEqual(source_texts.asked([str(source)]), [], text)
-
-    def test_source_that_yosys_reads_otherwise(self) -> None:
-        with tempfile.TemporaryDirectory() as name:
-            source = pathlib.Path(name) / "a.v"
-            source.write_bytes(b"`ifdef YO\rSYS\n`endif\n")
-            with self.assertRaisesRegex(ToolError, "asks whether Yosys reads it"):
-                source_texts.asked([str(source)])
-            for content in (b"\x1f\x8bYOSYS", b"module a; endmodule \0 YOSYS"):
-                source.write_bytes(content)
-                with self.assertRaisesRegex(ToolError, "no source"):
-                    source_texts.asked([str(source)])
-
-    def test_brace_in_a_name_hides_no_driver(self) -> None:
-        wires = "module \\t\n  wire \\x}\n  attribute \\src \"a.v:3.1\"\n  wire width 2 \\y\n"
-        for first in ("{ \\x} \\y } 3'110", "{ \\y \\x} } 3'110", "\\y [1] 1'1", "{ \\x} \\y [1:0] } 3'110"):
-            for second in ("\\y 2'00", "{ \\y [1] \\x} [0] } 2'00"):
-                told = rtlil.driven_twice(f"{wires}  connect {first}\n  connect {second}\nend\n") or ""
-                self.assertIn(" has two drivers", told, (first, second))
-        self.assertIsNone(
-            rtlil.driven_twice(f"{wires}  connect {{ \\x}} \\y [0] }} 2'10\n  connect \\y [1] 1'0\nend\n")
-        )
-
-    def test_fraction_that_becomes_0_is_refused(self) -> None:
-        said = "a.v:14: Warning: converting real value {} to binary {}."
-        with self.assertRaisesRegex(ToolError, "^a.v:14: the number 4.0e-01 is no 0"):
-            yosys.refuse_rounded(["a line", said.format("4.0e-01", "0")])
-        yosys.refuse_rounded([said.format("1.5e+00", "10"), said.format("0.0e+00", "0")])
-
-    def test_top_is_the_one_that_may_be_meant(self) -> None:
-        ports = "  wire input 1 \\clk\n  wire width 2 output 2 \\q\n"
-        one = f"module \\one\n{ports}  cell $array:0:2:\\sub \\u\n    connect \\a 1'0\n  end\nend\n"
-        modules = f"{one}module \\sub\n  wire input 1 \\a\nend\nmodule \\helper\n  wire input 1 \\b\nend\n"
-        yosys.refuse_other_top(modules, "one")
-        for more, top, said in (
-            (f"module \\two\n{ports}end\n", "one", "'two' has its ports too"),
-            ("", "sub", "a part of another"),
-        ):
-            with self.assertRaisesRegex(ToolError, said):
-                yosys.refuse_other_top(modules + more, top)
-
-    def test_names_that_are_one_to_yosys(self) -> None:
-        for text in (
-            "wire \\$random = 0; x = $random;",
-            "wire \\u.x = 0; sub u(.o(o)); y = u . x;",
-            "wire \\g[0].x = 0; y = g[0].x;",
-            "wire \\p::x = 0; y = p::x;",
-        ):
-            with self.assertRaisesRegex(ToolError, "'a.v':1: .* is one with a name behind a backslash", msg=text):
-                source_texts.refuse_one_name("a.v", text)
-        for text in (
-            "sub u(.a(b), .c(d)); wire \\u1.x ; x = 1.5;",
-            'wire \\a.b ; \\$_AND_ u(.A(a)); $display("a.b"); // a.b',
-            "y = u.x;",
-        ):
-            source_texts.refuse_one_name("a.v", text)
-
-    def test_note_of_a_part_is_no_cell(self) -> None:
-        cells = {"one": cell("$not", A=[2], Y=[3]), "part": cell("$scopeinfo")}
-        with tempfile.TemporaryDirectory() as name:
-            parts = pathlib.Path(name) / "parts.json"
-            parts.write_text(json.dumps({"modules": {"t": {**module(cells), "attributes": {"top": "1"}}}}))
-            self.assertEqual(list(yosys.top_module(parts)[1]["cells"]), ["one"])
-
-    def test_judges_agree_where_both_judge(self) -> None:
-        right, differs = (0, "each port is in each cycle as it has to be"), (1, "differs in cycle 3")
-        self.assertTrue(agree((0, "audit: conforms, fail is exact"), right))
-        self.assertTrue(agree((1, "audit: conforms, fail is unknown in cycle 3"), right))
-        self.assertFalse(agree((0, "audit: conforms, fail is exact"), differs))
-        for nothing in ("audit: refused", "KeyError: 'Q'", ""):
-            self.assertFalse(agree((1, nothing), differs))
-        self.assertFalse(agree((1, "audit: differs cycle 1 port en expected 1 got 0"), (1, "formal: yosys refuses it")))
-
-    def test_literals(self) -> None:
-        found = [literal_of(text) for text in ('"010"', "'1'", "wrap_a", "n1_o", "a and b")]
-        self.assertEqual(found, ["3'b010", "1'b1", "a", "n1_o", None])
-
-    def test_save_file_of_somebody_stays(self) -> None:
-        with tempfile.TemporaryDirectory() as name:
-            save = pathlib.Path(name) / "run.gtkw"
-            for cycle in (1, 2):
-                self.assertTrue(write_save(save, f"[*] made by vidlakost audit\n*4.0 {cycle}\n"))
-            save.write_text(save.read_text() + "ports.en\n")
-            self.assertFalse(write_save(save, "[*] made by vidlakost audit\n*4.0 3\n"))
-            self.assertIn("*4.0 2\nports.en\n", save.read_text())
-
-    def test_waveform(self) -> None:
-        self.assertEqual(shown([(1, 0), (0, 1), (0, 0)]), "x01")
-        self.assertEqual(len({code_of(number) for number in range(20000)}), 20000)
 
 
 if __name__ == "__main__":
