@@ -157,7 +157,7 @@ def broken(module: Events, event: Event, code: str, what: str, values: Mapping[s
             return None
         if event.detail[0] == 64 and event.detail[1] > 64:
             return f"this concatenation has {event.detail[1]} bits, and at most 64 are taken"
-        return f"one side has {widths[0]} bits and the other {widths[1]}, and they have to be as wide as one another"
+        return f"one side has {bits(widths[0])} and the other {widths[1]}, and they have to be as wide as one another"
     if event.name != what:
         return None
     declared = module.names.get(what)
