@@ -18,7 +18,7 @@ MEMORY = parse_memory("memory 1\nname tiny\nwords 2\nbits 2\nbackgrounds 0\n")
 # Cycle 0 is that of the reset. Two words are written in the cycles 1 and 2 and read in 3 and 4. Their answers come in 4
 # and 5, and the last comparison shows in cycle 6.
 DONE = 6
-SMALL = """module small(
+SMALL = """module walker(
   input clk, input reset, input [1:0] rdata,
   output en, output we, output addr, output [1:0] wdata, output done, output fail
 );
