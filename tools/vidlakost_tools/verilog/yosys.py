@@ -237,7 +237,10 @@ def read(files: list[str], options: Mapping[str, Any], folder: pathlib.Path) -> 
 
 
 def taken_name(files: list[str]) -> str:
-    """What there is to say of a module that would take the place of one of Yosys' own cells or modules."""
+    """What there is to say of a module that would take the place of one of Yosys' own cells or modules, or of no module
+    at all, of which Yosys says the same."""
+    if not any(re.search(r"\bmodule\b", blanked(source)[0]) for _, source in with_included(files)):
+        return "the sources have no module"
     found = [
         (file, source, match)
         for file, source in with_included(files)
