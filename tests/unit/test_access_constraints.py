@@ -4,13 +4,12 @@ from __future__ import annotations
 import dataclasses
 import unittest
 
-from vidlakost_tools.access import block
-from vidlakost_tools.access.block import Target, Unit
+from vidlakost_tools.access.target import Target, Unit
 from vidlakost_tools.access.constraints import Timing, constraints
 from vidlakost_tools.texts.memory import parse_memory
 
 MEMORY = parse_memory("memory 1\nname ram\nwords 16\nbits 8\n")
-ONE = block.of_memory(MEMORY, 100)
+ONE = Target.of_memory(MEMORY, 100)
 TWO = Target("soc", "soc", [Unit(MEMORY, "_0"), Unit(MEMORY, "_1")], True, 100)
 # periods of 8, 4 and 20 ns, of which the other side takes a quarter
 TIMING = Timing(test=125, normal=250, bus=50, share=0.25, is_falling=False)
