@@ -88,7 +88,7 @@ CALLS: List[Call] = [
     Call(
         f"tools/audit {NAMES} c.m s.mem --pins twice.pins",
         status=2,
-        says="audit: twice.pins: the pin 'ck'",
+        says="audit: twice.pins: two lines name the pin 'ck'",
         needs="yosys",
     ),
     Call(
@@ -107,7 +107,7 @@ CALLS: List[Call] = [
     Call(
         f"tools/audit upside.v {WALK}",
         status=2,
-        says="audit: some of the sources are Verilog and some VHDL",
+        says="audit: some sources are Verilog and some VHDL",
         needs="ghdl",
     ),
     Call(f"tools/audit upside.v {WALK} --top upside", status=1, prints="audit: differs cycle 1 port we", needs="ghdl"),

@@ -46,7 +46,7 @@ TWO_DRIVERS = [
 # what Yosys' model checker passes over, with the words that refuse it
 GATED = "reg go; always @(posedge clk) go <= 1; wire gated = clk & go;"
 UNSEEN = [
-    ([("@(posedge clk)", "@(negedge clk)")], "it takes at the falling edge of clk"),
+    ([("@(posedge clk)", "@(negedge clk)")], "it is clocked by the falling edge of clk"),
     ([("@(posedge clk)", "@(posedge reset)")], "the registers' clock is reset"),
     (
         [("reg failed;", f"reg failed; {GATED}"), ("  always @(posedge clk)", "  always @(posedge gated)")],
@@ -74,8 +74,8 @@ OF_YOSYS = [
         "",
         "another member's bit",
     ),
-    ("wire hold = second && 0.4;", "", "is no 0, and Yosys makes one of it"),
-    ("wire [31:0] \\$random = 0; wire hold = $random != 0;", "", "is one with a name behind a backslash"),
+    ("wire hold = second && 0.4;", "", "is not 0, but Yosys rounds it to 0"),
+    ("wire [31:0] \\$random = 0; wire hold = $random != 0;", "", "is, to Yosys alone, the same as the escaped name"),
     (
         "(* hierconn *) wire \\u.x ; assign \\u.x = 0; wire hold; sub u(.zero(1'b0), .o(hold));",
         SUB_OPEN,
@@ -111,7 +111,7 @@ def controllers(bench: Bench) -> None:
         return
     judged = ["examples/mats_plus.m", "examples/foreign/four.mem"]
     controller(bench, [])
-    bench.look(["tools/formal", "edited.v", *judged], 0, "each port is in each cycle as it has to be", "")
+    bench.look(["tools/formal", "edited.v", *judged], 0, "each port is right in each cycle", "")
     for what, edits in OPEN_CONTROLLERS:
         controller(bench, edits)
         plain = bench.run(["tools/plain", "edited.plain.v", "edited.v"])

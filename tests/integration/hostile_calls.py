@@ -70,7 +70,7 @@ CALLS: List[Call] = [
     Call(
         "tools/plain plain.v 'quoted\nname.v'",
         status=2,
-        says="plain: 'quoted\\x0aname.v': a name for Yosys has",
+        says="plain: 'quoted\\x0aname.v': a name for Yosys may have",
         needs="yosys",
     ),
     Call(

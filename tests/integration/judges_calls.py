@@ -32,8 +32,7 @@ CALLS: List[Call] = [
     audited(
         "rows_meet.v",
         status=1,
-        prints="  wdata hangs on rows_that_overlap (rows_meet.v:45), of which more than one holds, "
-        "and any may be taken",
+        prints="  wdata hangs on rows_that_overlap (rows_meet.v:45): more than one holds, and a tool may take any",
     ),
     audited("comment_apart.v", prints=EXACT, says="audit: Warning: Encountered `"),
     audited(
@@ -52,13 +51,13 @@ CALLS: List[Call] = [
         prints="audit: refused",
         says="audit: 'priority_if.v':50: Yosys doesn't read `priority if`",
     ),
-    Call(f"tools/formal rows_apart.v {TEST}", prints="each port is in each cycle as it has to be\n", needs="yosys"),
+    Call(f"tools/formal rows_apart.v {TEST}", prints="each port is right in each cycle\n", needs="yosys"),
     Call(f"tools/formal rows_meet.v {TEST}", status=1, prints="differs in cycle 6\n", needs="yosys"),
     audited("cells.v", prints=EXACT, options="--liberty three_state.lib"),
     audited(
         "cells_off.v",
         status=1,
-        says="audit: 'two' (cells_off.v:13): the cell TBUF has three states",
+        says="audit: 'two' (cells_off.v:13): the cell TBUF is a three-state driver",
         options="--liberty three_state.lib",
     ),
     audited("gate_off.v", status=1, says="audit: 'gate_off.v':20: bufif1: a driver that can be off"),
@@ -85,12 +84,14 @@ CALLS: List[Call] = [
         says="audit: wrong (set_twice.v:22 and set_twice.v:38): two blocks set it",
     ),
     audited(
-        "list_short.v", prints=EXACT, says="audit: 'list_short.v':38: the block reads reset, and does not wait for it"
+        "list_short.v",
+        prints=EXACT,
+        says="audit: 'list_short.v':38: the block reads reset, which is not in its sensitivity list",
     ),
     audited(
         "list_short.v",
         status=1,
-        prints="a simulator may read the sources otherwise",
+        prints="a simulator may read the sources differently",
         says="audit: 'list_short.v':38",
         options="--strict",
     ),
@@ -104,7 +105,7 @@ CALLS: List[Call] = [
         says="formal: 'read_early.v':22: the block reads now",
         needs="yosys",
     ),
-    audited("delayed.v", prints=EXACT, says="audit: 'delayed.v':20: a delay is passed over"),
+    audited("delayed.v", prints=EXACT, says="audit: 'delayed.v':20: a delay is skipped"),
     clocked("list_short.v", status=1, prints="audit: refused", says="audit: 'list_short.v':38"),
     clocked("list_whole.v", prints=EXACT),
     clocked("read_early.v", status=1, prints="audit: refused", says="audit: 'read_early.v'"),
@@ -114,20 +115,20 @@ CALLS: List[Call] = [
         "writes.v",
         status=1,
         prints="audit: refused",
-        says="audit: 'writes.v':21: $fdisplay would reach beyond a simulation",
+        says="audit: 'writes.v':21: $fdisplay would reach out of the simulation",
     ),
-    audited("pipelined.v", status=1, prints="audit: conforms but for done, 1 cycle late, fail is exact\n"),
-    audited("pipelined.v", prints="ever after, 1 cycle later than the rule\n", options="--fail-late 1"),
+    audited("pipelined.v", status=1, prints="audit: conforms, done 1 cycle late, fail is exact\n"),
+    audited("pipelined.v", prints="ever after, 1 cycle later than the rule of the ports\n", options="--fail-late 1"),
     audited(
         "pipelined_twice.v",
         status=1,
-        prints="audit: conforms but for done, 1 cycle late, fail is ",
+        prints="audit: conforms, done 1 cycle late, fail is ",
         options="--fail-late 1",
     ),
     audited(
         "pipelined_forgets.v",
         status=1,
-        prints="audit: conforms but for done, 1 cycle late, fail is ",
+        prints="audit: conforms, done 1 cycle late, fail is ",
         options="--fail-late 1",
     ),
     audited(
@@ -156,7 +157,7 @@ CALLS: List[Call] = [
     audited("falls_late.v", prints="fail is exact to cycle 106\n"),
     audited("falls_late.v", status=1, prints="fail is exact to cycle 106\n", options="--strict"),
     audited("kept.v", prints=EXACT, options="--strict"),
-    clocked("counts.v", prints="and splitting 1 bit does, in 8 states at once\n"),
+    clocked("counts.v", prints="; splitting 1 bit settles it, with 8 states at once\n"),
     audited("counts.v", prints=EXACT),
     audited(
         "counts_on.v",
@@ -198,7 +199,7 @@ CALLS: List[Call] = [
         needs="yosys",
     ),
     clocked(
-        "member.v", prints=EXACT, says="audit: 'member.v':37: kept.expected[i] is read as a part of a word of its own"
+        "member.v", prints=EXACT, says="audit: 'member.v':37: kept.expected[i] is read as a part of its own word"
     ),
     audited(
         "member_beyond.v",
@@ -218,7 +219,7 @@ CALLS: List[Call] = [
         needs="yosys",
     ),
     Call("tools/plain out.v ram_cell.v --cells ice", status=2, says="plain: --cells knows ice40", needs="yosys"),
-    Call(f"tools/formal counts.v {TEST}", prints="each port is in each cycle as it has to be\n", needs="yosys"),
+    Call(f"tools/formal counts.v {TEST}", prints="each port is right in each cycle\n", needs="yosys"),
     # of the second word another one is expected, whose first answer comes in cycle 7; some registers become constants
     Call(
         in_shell(WRONG_WORD),
@@ -228,14 +229,14 @@ CALLS: List[Call] = [
         needs="yosys",
     ),
     Call(f"tools/formal {IDLE}", status=1, prints="differs in cycle 1\n", needs="yosys"),
-    Call(f"tools/formal pinned.v {TEST} --pins pinned.pins", prints="each port is in each cycle", needs="yosys"),
+    Call(f"tools/formal pinned.v {TEST} --pins pinned.pins", prints="each port is right in each cycle", needs="yosys"),
     Call(
         "tools/plain out.v nothing.v",
         status=1,
-        says="plain: no module of the sources has anything in it",
+        says="plain: all modules of the sources are empty",
         needs="yosys",
     ),
-    audited("nothing.v", status=1, prints="audit: refused", says="audit: no module of the sources has anything in it"),
+    audited("nothing.v", status=1, prints="audit: refused", says="audit: all modules of the sources are empty"),
     Call("tools/plain out.v dollar.v", status=1, says="plain: 'dollar.v':1: '$paramod$x", needs="yosys"),
     Call("tools/plain out.v unclosed.v", status=1, says="plain: yosys refuses it: unclosed.v:1: ERROR", needs="yosys"),
 ]

@@ -44,7 +44,7 @@ class Fail(unittest.TestCase):
     def test_right_in_each_history(self) -> None:
         found = found_of(SMALL)
         self.assertEqual((found.kind, found.short()), ("exact", "fail is exact"))
-        everywhere = "fail is exact: in every history of 4 first wrong bits and in that without one, ever after"
+        everywhere = "fail is exact: in every history with one of 4 first wrong bits, and in that with none, ever after"
         self.assertEqual(found.line(), everywhere)
 
     def test_mistakes(self) -> None:
@@ -96,7 +96,7 @@ class Fail(unittest.TestCase):
         found = found_of(turns)
         last = DONE + 1 + lanes.BEHIND - 1
         self.assertEqual((found.kind, found.cycle, found.short()), ("exact", last, f"fail is exact to cycle {last}"))
-        self.assertTrue(found.line().endswith(f"without one, to cycle {last}"))
+        self.assertTrue(found.line().endswith(f"with none, to cycle {last}"))
 
 
 @needs("yosys")
@@ -127,8 +127,8 @@ class ManyAnswers(unittest.TestCase):
         machine = Machine(gates_of(plain_of(looks)), ("fail",))
         found = lanes.look_at(machine, long, Clock(-1))
         self.assertEqual((found.kind, found.cycle), ("limit", 127))
-        self.assertEqual(found.line(), "fail is exact to cycle 127; the limit of time ended the look at it there")
-        self.assertEqual(found.short(), "fail is not known behind cycle 127")
+        self.assertEqual(found.line(), "fail is exact to cycle 127, where the time ran out")
+        self.assertEqual(found.short(), "fail is not known after cycle 127")
         apart = lanes.run_apart(machine, long, Clock(-1))
         self.assertEqual((apart.kind, apart.cycle), ("limit", 2))
 
@@ -158,7 +158,7 @@ class Lanes(unittest.TestCase):
             with mock.patch.object(lanes, "tell") as tell:
                 clock = Clock(600)
                 self.assertFalse(any(clock.is_over(cycle, 900) for cycle in (100, 200, 300)))
-        tell.assert_called_once_with("audit: fail is looked at (cycle 200 of 900), for 11 seconds by now")
+        tell.assert_called_once_with("audit: cycle 200 of 900 of fail, after 11 seconds")
 
 
 @needs("yosys")

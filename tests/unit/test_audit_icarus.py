@@ -150,7 +150,7 @@ class Calls(Sources):
             file = self.file(f"module a;\n  initial {call}(1);\nendmodule\n")
             with self.assertRaises(ToolError) as caught:
                 beside_icarus.refuse_sources([file], [])
-            self.assertEqual(str(caught.exception), f"'{file}':2: {call} would reach beyond a simulation")
+            self.assertEqual(str(caught.exception), f"'{file}':2: {call} would reach out of the simulation")
 
     @needs("iverilog", "vvp")
     def test_verilog_alone_is_clocked(self) -> None:
@@ -172,7 +172,7 @@ class Calls(Sources):
         with self.assertRaisesRegex(ToolError, two):
             beside_icarus.found_in("differs addr 12 1 0\nequal -1\n", 100)
         for said in ("", "at 100\n", "equal -1\nand more\n"):
-            with self.assertRaisesRegex(ToolError, "^the run by Icarus came to no end: "):
+            with self.assertRaisesRegex(ToolError, "^the run in Icarus did not end: "):
                 beside_icarus.found_in(said, 100)
 
     def test_cycle_of_a_run(self) -> None:

@@ -52,10 +52,10 @@ class Files(unittest.TestCase):
         ports_told = "clk, reset, rdata, en, we, addr, wdata, done, fail"
         wrong = {
             "clok ck": f"there is no line 'clok': they begin with {ports_told}, tie or open",
-            "en": "behind 'en' stands the name of one pin, with ~ where it is active low",
-            "open ~busy": "behind 'open' stands the name of one pin",
-            "tie mode": "a tied input is told by its name and a number, as 'tie scan_en 0'",
-            "tie 1mode 0": "a tied input is told by its name and a number, as 'tie scan_en 0'",
+            "en": "'en' takes the name of one pin, with ~ if it is active low",
+            "open ~busy": "'open' takes the name of one pin",
+            "tie mode": "tie takes an input and a number, as in 'tie scan_en 0'",
+            "tie 1mode 0": "tie takes an input and a number, as in 'tie scan_en 0'",
         }
         for line, message in wrong.items():
             with self.subTest(line=line), self.assertRaises(ToolError) as caught:
@@ -90,13 +90,14 @@ class Complete(unittest.TestCase):
 
     def test_what_is_refused(self) -> None:
         names = ", ".join(without("en"))
-        self.refused("the pin 'en' stands on two lines", ports(), "en en", "we en")
+        self.refused("two lines name the pin 'en'", ports(), "en en", "we en")
         self.refused(f"the module has no pin 'cen'; its pins are {names}", without("en"), "en ~cen")
         self.refused("the input mode of the module has no line, as 'tie mode 0'", ports(mode=port("input")))
         self.refused("the output busy of the module has no line, as 'open busy'", ports(busy=port("output")))
-        self.refused("no pin is told for en, done", without("en", "done"))
-        self.refused("'we' stands once", without("we", a=port("output"), b=port("output")), "we a", "we b")
-        self.refused("'clk' stands once", without("clk", a=port("input"), b=port("input")), "clk a", "clk b")
+        self.refused("no line names the pin of en, done", without("en", "done"))
+        self.refused("'we' stands in one line only", without("we", a=port("output"), b=port("output")), "we a", "we b")
+        two = without("clk", a=port("input"), b=port("input"))
+        self.refused("'clk' stands in one line only", two, "clk a", "clk b")
         self.refused("mode has 2 bits, and 4 does not fit", ports(mode=port("input", 2)), "tie mode 4")
         self.refused("go is an input of the module, and has to be an output", without("en", go=port("input")), "en go")
         self.refused("b is an output of the module, and has to be an input", ports(b=port("output")), "tie b 0")
@@ -181,12 +182,12 @@ class Modules(unittest.TestCase):
 
     def test_falling_edge_is_told_by_the_clock_s_line(self) -> None:
         falls = changed(("posedge ck", "negedge ck"), text=PINNED)
-        with self.assertRaisesRegex(ToolError, "it takes at the falling edge of ck; 'clk ~ck' in a file of pins"):
+        with self.assertRaisesRegex(ToolError, "it is clocked by the falling edge of ck; 'clk ~ck' in a file of pins"):
             plain_of(falls, pins=self.pins())
         pins = self.pins()
         pins.pins[0] = ("clk", Pin("ck", True))
         self.assertEqual(checked(plain_of(falls, pins=pins)), "conforms 7")
-        with self.assertRaisesRegex(ToolError, "it takes at the rising edge of ck$"):
+        with self.assertRaisesRegex(ToolError, "it is clocked by the rising edge of ck$"):
             plain_of(PINNED, pins=pins)
 
     def test_names_of_the_ports_are_free_without_pins(self) -> None:

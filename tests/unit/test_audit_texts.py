@@ -79,7 +79,7 @@ class Texts(unittest.TestCase):
                 source_texts.asked([str(source)])
             for content in (b"\x1f\x8bYOSYS", b"module a; endmodule \0 YOSYS"):
                 source.write_bytes(content)
-                with self.assertRaisesRegex(ToolError, "no source"):
+                with self.assertRaisesRegex(ToolError, "not a source"):
                     source_texts.asked([str(source)])
 
     def test_brace_in_a_name_hides_no_driver(self) -> None:
@@ -94,7 +94,7 @@ class Texts(unittest.TestCase):
 
     def test_fraction_that_becomes_0_is_refused(self) -> None:
         said = "a.v:14: Warning: converting real value {} to binary {}."
-        with self.assertRaisesRegex(ToolError, "^a.v:14: the number 4.0e-01 is no 0"):
+        with self.assertRaisesRegex(ToolError, "^a.v:14: the number 4.0e-01 is not 0"):
             yosys.refuse_rounded(["a line", said.format("4.0e-01", "0")])
         yosys.refuse_rounded([said.format("1.5e+00", "10"), said.format("0.0e+00", "0")])
 
@@ -117,7 +117,8 @@ class Texts(unittest.TestCase):
             "wire \\g[0].x = 0; y = g[0].x;",
             "wire \\p::x = 0; y = p::x;",
         ):
-            with self.assertRaisesRegex(ToolError, "'a.v':1: .* is one with a name behind a backslash", msg=text):
+            same = "'a.v':1: .* is, to Yosys alone, the same as the escaped name"
+            with self.assertRaisesRegex(ToolError, same, msg=text):
                 source_texts.refuse_one_name("a.v", text)
         for text in (
             "sub u(.a(b), .c(d)); wire \\u1.x ; x = 1.5;",
@@ -134,7 +135,7 @@ class Texts(unittest.TestCase):
             self.assertEqual(list(yosys.top_module(parts)[1]["cells"]), ["one"])
 
     def test_judges_agree_where_both_judge(self) -> None:
-        right, differs = (0, "each port is in each cycle as it has to be"), (1, "differs in cycle 3")
+        right, differs = (0, "each port is right in each cycle"), (1, "differs in cycle 3")
         self.assertTrue(agree((0, "audit: conforms, fail is exact"), right))
         self.assertTrue(agree((1, "audit: conforms, fail is unknown in cycle 3"), right))
         self.assertFalse(agree((0, "audit: conforms, fail is exact"), differs))

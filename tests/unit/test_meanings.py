@@ -111,7 +111,7 @@ class Words(unittest.TestCase):
         self.assertEqual(self.told([2, 3, 4]), [])
         self.assertEqual(self.told([2, 3, 4, "0", "0"]), [])
         why = (
-            "'m' (m.v:4): an address beyond its 5 words is cut to 3 bits; a simulator reads an x there, and writes"
+            "'m' (m.v:4): an address beyond its 5 words is cut to 3 bits; a simulator reads an x there and writes"
             " nothing"
         )
         self.assertEqual(self.told([2, 3, 4, 5]), [why])
@@ -185,7 +185,7 @@ class Members(unittest.TestCase):
         )
         self.assertEqual(text, f"assign y = vidlakost_part_0(x.b, $unsigned(i + 3'd1));\n{function} endmodule")
         self.assertEqual(
-            said, ["'m.sv':3: x.b[i + 3'd1] is read as a part of a word of its own, beyond which it is open"]
+            said, ["'m.sv':3: x.b[i + 3'd1] is read as a part of its own word; beyond that word it is open"]
         )
         for right in (
             "always_comb if (x.c[i]) y = 1;",
@@ -230,7 +230,7 @@ class Bounds(unittest.TestCase):
         with tempfile.TemporaryDirectory() as name, mock.patch.object(yosys, "SECONDS", 2.0):
             source = pathlib.Path(name) / "endless.v"
             source.write_text(self.ENDLESS)
-            with self.assertRaisesRegex(yosys.Slow, r"longer than 2 seconds \(.*\), and was ended; a loop without end"):
+            with self.assertRaisesRegex(yosys.Slow, r"longer than 2 seconds \(.*\), and was stopped; an endless loop"):
                 yosys.read([str(source)], {}, pathlib.Path(name))
 
     def test_last_step_of_a_log(self) -> None:
@@ -262,7 +262,8 @@ class Simulation(unittest.TestCase):
         return ends
 
     def test_list_that_is_not_whole(self) -> None:
-        self.assertEqual(self.told("always @(a) y = a & b;"), ["2: the block reads b, and does not wait for it"])
+        why = "the block reads b, which is not in its sensitivity list"
+        self.assertEqual(self.told("always @(a) y = a & b;"), [f"2: {why}"])
         for whole in ("(a or b)", "(a, b)", "*", "(*)", "(posedge clk)"):
             self.assertEqual(self.told(f"always @{whole} y = a & b;"), [], whole)
 
@@ -283,7 +284,7 @@ class Simulation(unittest.TestCase):
         first, second = "always @(posedge clk) r = a;", "always @(posedge clk) y <= r;"
         self.assertEqual(
             self.told(f"reg r;\n{first}\n{second}"),
-            ["3: the block sets r at once (=), and another block reads it at an edge"],
+            ["3: the block sets r with =, and another block reads it at the same edge"],
         )
         self.assertEqual(self.told(f"reg r;\n{first.replace('=', '<=')}\n{second}"), [])
         # each of them has its loop's number for itself
@@ -296,9 +297,9 @@ class Simulation(unittest.TestCase):
             ("always @(posedge clk) y <= #1 a;", 2),
             ("always @(posedge clk)\n  #3 y <= a;", 3),
         ):
-            self.assertEqual(self.told(text), [f"{line}: a delay is passed over"], text)
+            self.assertEqual(self.told(text), [f"{line}: a delay is skipped"], text)
         self.assertEqual(self.told("sub #(.W(2)) u(.a(a));\nsub #(3) v(.a(a));"), [])
-        self.assertEqual(self.told("// synopsys translate_off"), ["2: what stands behind translate_off is passed over"])
+        self.assertEqual(self.told("// synopsys translate_off"), ["2: what follows translate_off is skipped"])
 
     def test_any_text_comes_to_an_end(self) -> None:
         for text in (

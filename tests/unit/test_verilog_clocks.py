@@ -75,17 +75,18 @@ class Refused(unittest.TestCase):
 
     def test_falling_edge(self) -> None:
         message = (
-            r"^(step|bad), 0\.v:1\d: it takes at the falling edge of clk; 'clk ~clk' in a file of pins tells audit so$"
+            r"^(step|bad), 0\.v:1\d: it is clocked by the falling edge of clk; "
+            "'clk ~clk' in a file of pins tells audit so$"
         )
         self.refused(message, on("clk", "", edge="negedge"), on("b", "  wire b = ~clk;\n"))
 
     def test_both_edges(self) -> None:
         block = "  reg more;\n  always @(negedge clk) more <= bad;\nendmodule"
         both = changed(("reset && bad", "reset && more"), ("endmodule", block))
-        self.refused(r"^more, 0\.v:\d+: it takes at the falling edge of clk$", both)
+        self.refused(r"^more, 0\.v:\d+: it is clocked by the falling edge of clk$", both)
 
     def test_gates_that_hold_nothing(self) -> None:
-        message = r": its clock is gated at gated, 0\.v:\d+ by what no latch holds while it is high$"
+        message = r": its clock is gated at gated, 0\.v:\d+ by a signal that no latch holds while the clock is high$"
         opens_high = LATCH.replace("!clk", "clk") + GATE
         plain = ENABLE + "  wire gated = clk & enable;\n"
         rises = f"{ENABLE}  reg held;\n  always @(posedge clk) held <= enable;\n{GATE}"
@@ -101,35 +102,35 @@ class Refused(unittest.TestCase):
     def test_register_with_an_enable_of_its_own_on_a_gated_clock(self) -> None:
         cell = "  wire kept;\n  \\$_DFFE_PP_ one(.C(gated), .E(step[0]), .D(rdata[0]), .Q(kept));\n"
         text = changed(("reset && bad", "reset && (bad || kept)"), text=on("gated", LATCH + GATE + cell))
-        self.refused(r"^kept, 0\.v:\d+: a register with an enable of its own stands on a gated clock$", text)
+        self.refused(r"^kept, 0\.v:\d+: a register has a gated clock and an enable of its own$", text)
 
     def test_two_clocks(self) -> None:
         block = "  reg more;\n  always @(posedge other) more <= bad;\nendmodule"
         two = changed(
             ("input clk,", "input clk, input other,"), ("reset && bad", "reset && more"), ("endmodule", block)
         )
-        self.refused(": its clock is (clk|other), and that of other registers (clk|other); one is taken$", two)
+        self.refused(": its clock is (clk|other), but other registers have (clk|other); all need the same clock$", two)
 
     def test_clock_of_another_name_beside_clk(self) -> None:
         named = changed(("input clk,", "input clk, input ck,"), ("posedge clk", "posedge ck"))
         self.refused(
-            "^the registers' clock is ck, and clk is another port: a file of pins tells which is which$", named
+            "^the registers' clock is ck, and clk is another port: name both in a file of pins \(--pins\)$", named
         )
 
     def test_clock_that_is_a_bit_of_several(self) -> None:
         wide = changed(("input clk,", "input [1:0] ck,"), ("posedge clk", "posedge ck[0]"))
-        self.refused("^the clock is bit 0 of ck, which has several$", wide)
+        self.refused("^the clock is one bit of ck, which has several$", wide)
 
     def test_clock_that_is_made(self) -> None:
         self.refused(
-            r": its clock is made by a cell \$xor \(a, 0\.v:\d+\), and is no input$",
+            r": a cell \$xor \(a, 0\.v:\d+\) makes its clock, which has to be an input$",
             on("a", "  wire a = clk ^ reset;\n"),
         )
         self.refused(
-            r": its clock is made by a cell \$dff \(",
+            r": a cell \$dff \(",
             on("half", "  reg half;\n  always @(posedge clk) half <= ~half;\n"),
         )
-        self.refused(": its clock is no input of the module$", on("lost", "  wire lost;\n"))
+        self.refused(": its clock is not an input of the module$", on("lost", "  wire lost;\n"))
 
     def test_clock_that_is_read(self) -> None:
         self.refused(
@@ -155,9 +156,9 @@ class Warned(unittest.TestCase):
         block = "  reg low;\n  always @(posedge clk or posedge now) if (now) low <= 1'b0; else low <= bad;\n"
         lines = f"  wire now = step[0] & step[1];\n{block}"
         text = changed(("  reg bad;\n", f"  reg bad;\n{lines}"), ("reset && bad", "reset && (bad || low)"))
-        warning = "low, 0.v:9: its asynchronous reset is made by gates from registers"
+        warning = "low, 0.v:9: gates make its asynchronous reset from registers"
         self.assertEqual(
-            plain_of(text).warnings, [f"{warning}, where a short pulse may reset it; such pulses are not seen"]
+            plain_of(text).warnings, [f"{warning}, so a short pulse may reset it; such pulses are not seen"]
         )
 
     def test_reset_that_one_register_makes(self) -> None:

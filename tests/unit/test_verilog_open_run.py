@@ -174,7 +174,7 @@ class Modules(unittest.TestCase):
                 self.assertEqual(open_run.told(EXAMPLES / module, EXAMPLES / march, EXAMPLES / memory), line)
 
     def test_modules_that_are_not_run(self) -> None:
-        with self.assertRaisesRegex(ToolError, r"m\.v:8: this is no module of the subset: 'stp' is not declared"):
+        with self.assertRaisesRegex(ToolError, r"m\.v:8: this is not a module of the subset: 'stp' is not declared"):
             self.read(changed(("assign we = step", "assign we = stp")))
         with self.assertRaisesRegex(ToolError, "m.v has no port 'wdata'"):
             self.read(SMALL.replace("wdata", "wdat"))

@@ -45,10 +45,10 @@ class Refused(unittest.TestCase):
     def test_parts_that_are_missing_or_stand_twice(self) -> None:
         top = "module top(input a, output y);\n  lost u(.a(a), .y(y));\nendmodule\n"
         lost = "module lost(input a, output y);\n  assign y = a;\nendmodule\n"
-        missing = "^top has a part lost, which is no module of the files"
+        missing = "^top has a part lost, which is not a module of the files"
         self.refused(f"{missing}$", top)
         self.refused(f"{missing}, and none of the cells that are known: SB_LUT4, ", top, {"--cells": "ice40"})
-        self.refused("^lost stands twice, in the files or in the libraries$", top + lost, beside=lost)
+        self.refused("^lost is defined twice, in the files or in the libraries$", top + lost, beside=lost)
 
     def test_call_for_simulations(self) -> None:
         text = "module m(output [63:0] y);\n  assign y = $time;\nendmodule\n"
@@ -66,7 +66,7 @@ class Refused(unittest.TestCase):
         self.refused(
             r"^y \(.*0\.v:1\.\S*\) has two drivers$", f"{head}  assign y = 1'b0;\n  assign y = 1'b1;\nendmodule\n"
         )
-        two = r"^y \(0\.v:2 and 0\.v:3\): it has two drivers; one has to do so$"
+        two = r"^y \(0\.v:2 and 0\.v:3\): it has two drivers; only one may$"
         self.refused(two, f"{head}  assign y = ~a;\n  assign y = ~b;\nendmodule\n")
 
     def test_cells_outside_of_the_subset(self) -> None:
@@ -76,7 +76,7 @@ class Refused(unittest.TestCase):
         block = "  always @(posedge clk or posedge a) if (a) y <= b; else y <= ~y;\n"
         loads = f"module m(input clk, input a, input b, output reg y);\n{block}"
         self.refused(
-            r"^y, 0\.v:2: an asynchronous load is outside the subset; an asynchronous reset loads",
+            r"^y, 0\.v:2: an asynchronous load is outside the subset; let the asynchronous reset load",
             f"{loads}endmodule\n",
         )
         three = "module m(input a, input b, output y);\n  \\$_TBUF_ u(.E(a), .A(b), .Y(y));\nendmodule\n"
@@ -92,9 +92,9 @@ class Refused(unittest.TestCase):
             f"module {name}(input a, output y);\n  assign y = {value};\nendmodule\n"
             for name, value in (("one", "a"), ("two", "~a"))
         )
-        self.refused("need not be the top that is meant, since '(one|two)' has its ports too: --top names one$", two)
+        self.refused("may not be the top that you mean, since '(one|two)' has its ports too: name it with --top$", two)
         self.assertEqual([plain_of(two, {"--top": name}).top for name in ("one", "two")], ["one", "two"])
-        empty = "^no module of the sources has anything in it, so none is taken for the top; --top names one$"
+        empty = "^all modules of the sources are empty, so none is the top; name one with --top$"
         self.refused(empty, "module one;\nendmodule\n")
 
     def test_source_without_a_module(self) -> None:
@@ -115,7 +115,7 @@ class Taken(Folders):
         plain = plain_of(text)
         self.assertEqual(checked(plain), "conforms 7")
         (warning,) = plain.warnings
-        self.assertRegex(warning, r"^initial values are left out \('.*0\.v':7\)$")
+        self.assertRegex(warning, r"^initial values are ignored \('.*0\.v':7\)$")
 
     def test_contents_of_a_memory_that_is_only_read_stay(self) -> None:
         """A table that says what the word is; the one that is written too holds nothing at first."""
@@ -153,7 +153,7 @@ class Scripts(Folders):
         self.assertEqual(yosys.quoted("a b/c-1.v"), '"a b/c-1.v"')
         self.assertEqual(yosys.quoted("-x.v"), '"./-x.v"')
         for name in ('a";b.v', "a\nb.v", "a*.v", "$a.v"):
-            with self.assertRaisesRegex(ToolError, "a name for Yosys has letters, digits, blanks"):
+            with self.assertRaisesRegex(ToolError, "a name for Yosys may have letters, digits, blanks"):
                 yosys.quoted(name)
 
     def test_top_and_libraries(self) -> None:
@@ -200,7 +200,7 @@ class Files(Folders):
         file = self.file("a.v", '`include "part.vh" // `include "no.vh"\n`include "missing.vh"\n')
         self.assertEqual([name for name, _ in source_texts.with_included([file])], [file, inner])
         self.assertEqual(source_texts.included([file]), [file, inner])
-        with self.assertRaisesRegex(ToolError, "a.v': it includes '`NAME', which is no name in quotes$"):
+        with self.assertRaisesRegex(ToolError, "a.v': it includes '`NAME', which is not a name in quotes$"):
             source_texts.with_included([self.file("a.v", "`include `NAME\n")])
 
     def test_files_that_texts_name(self) -> None:
@@ -212,7 +212,7 @@ class Files(Folders):
     def test_name_of_what_never_ends(self) -> None:
         os.mkfifo(self.folder / "pipe")
         file = self.file("a.v", 'initial $readmemh("pipe", kept);\n')
-        with self.assertRaisesRegex(ToolError, "it names '.*pipe', which is no plain file, and may never end$"):
+        with self.assertRaisesRegex(ToolError, "it names '.*pipe', which is not a plain file and may never end$"):
             source_texts.asked([file])
 
     def test_source_that_is_read_as_for_synthesis(self) -> None:
@@ -325,7 +325,7 @@ endmodule
             with self.assertRaisesRegex(ToolError, "^this Yosys has no models of ice40's cells$"):
                 known_cells.cells_of({"--cells": "ice40"}, ["SB_DFF"])
         with mock.patch("shutil.which", return_value=str(self.folder / "bin" / "yosys")):
-            with self.assertRaisesRegex(ToolError, "^Yosys' share folder is not beside its program$"):
+            with self.assertRaisesRegex(ToolError, "^Yosys' share folder was not found beside its program$"):
                 known_cells.share()
 
     @needs("yosys")

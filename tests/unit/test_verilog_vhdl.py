@@ -177,7 +177,7 @@ class Texts(unittest.TestCase):
         self.assertEqual([row[0] for row in rows], list("011001100"))
 
     def test_testbench_is_of_a_self_test_alone(self) -> None:
-        with self.assertRaisesRegex(ToolError, "^walker has other ports than a self-test"):
+        with self.assertRaisesRegex(ToolError, "^walker does not have the ports of a self-test"):
             vhdl_text.bench(module_of(SMALL.replace("fail", "error")), MARCH, MEMORY)
         wide = parse_memory("memory 1\nname wide\nwords 2\nbits 8\n")
         with self.assertRaisesRegex(ToolError, "^the ports of walker are not as wide as those of wide$"):
@@ -227,7 +227,7 @@ class Sources(Ghdl):
         (wire,), (output,) = plain.wires, plain.outputs
         self.assertEqual((wire.value, output.value), ("(~a)", wire.name))
         with self.assertRaisesRegex(
-            ToolError, "some of the sources are Verilog and some VHDL, so --top has to name the top"
+            ToolError, "some sources are Verilog and some VHDL, so name the top with --top"
         ):
             front_end.plain_of(sources, {})
 
@@ -237,12 +237,12 @@ class Sources(Ghdl):
 
     def test_time_of_ghdl_is_bounded(self) -> None:
         slow = mock.patch.object(confined, "run", side_effect=subprocess.TimeoutExpired(["ghdl"], vhdl.SECONDS))
-        with slow, self.assertRaisesRegex(ToolError, "^ghdl took longer than 600 seconds, and was ended$"):
+        with slow, self.assertRaisesRegex(ToolError, "^ghdl took longer than 600 seconds and was stopped$"):
             self.line(read_text(self.STYLES / "walk.vhd"))
 
     def test_ghdl_is_needed(self) -> None:
         with mock.patch("shutil.which", return_value=None), self.assertRaisesRegex(
-            ToolError, "ghdl, which makes Verilog of it"
+            ToolError, "ghdl, which turns it into Verilog"
         ):
             vhdl.verilog_of(["a.vhd"], {}, self.folder)
 

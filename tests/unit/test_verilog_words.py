@@ -178,8 +178,8 @@ class Names(unittest.TestCase):
     def test_what_the_subset_has_not(self) -> None:
         refused = {
             "the port y goes both ways, which the subset has not": "inout y, output z);\n  assign z = a & y;",
-            "the port y has 65 bits, and a word of the subset at most 64": "output [64:0] y);\n  assign y = 65'd1;",
-            "the port .* is no simple identifier": "output \\y+ );\n  assign \\y+ = a;",
+            "the port y has 65 bits; a word of the subset has at most 64": "output [64:0] y);\n  assign y = 65'd1;",
+            "the port .* is not a simple identifier": "output \\y+ );\n  assign \\y+ = a;",
         }
         for message, rest in refused.items():
             with self.subTest(message=message), self.assertRaisesRegex(ToolError, message):

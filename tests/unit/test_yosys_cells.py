@@ -74,11 +74,11 @@ class Clocks(unittest.TestCase):
 
     def test_latch_of_the_wrong_level_gates_nothing(self) -> None:
         wrong = cell("$dlatch", {"EN_POLARITY": "1"}, EN=[2], D=[3], Q=[10])
-        with self.assertRaisesRegex(ToolError, "by what no latch holds"):
+        with self.assertRaisesRegex(ToolError, "by a signal that no latch holds"):
             clock_tree.edges_of(self.tree(held=wrong))
 
     def test_clock_gated_by_a_plain_signal_is_refused(self) -> None:
-        with self.assertRaisesRegex(ToolError, "by what no latch holds"):
+        with self.assertRaisesRegex(ToolError, "by a signal that no latch holds"):
             clock_tree.edges_of(self.tree(gate=cell("$and", A=[2], B=[3], Y=[11])))
 
     def test_latch_that_is_read_is_refused(self) -> None:

@@ -133,8 +133,8 @@ def refuse_sources(files: list[str], libraries: list[str]) -> None:
         if found:
             raise ToolError(
                 (
-                    f"{shown(file)}:{source.count(chr(10), 0, found.start()) + 1}: {found[0]} would reach beyond a"
-                    " simulation"
+                    f"{shown(file)}:{source.count(chr(10), 0, found.start()) + 1}: {found[0]} would reach out"
+                    " of the simulation"
                 ),
                 1,
             )
@@ -162,8 +162,8 @@ def call(words: list[str], folder: pathlib.Path) -> tuple[int, str]:
                 check=False,
             )
         except subprocess.TimeoutExpired as error:
-            why = "a block that wakes itself without end would look so"
-            raise ToolError(f"Icarus took longer than {SECONDS} seconds, and was ended; {why}", 1) from error
+            why = "a block that wakes itself for ever looks like this"
+            raise ToolError(f"Icarus took longer than {SECONDS} seconds and was stopped; {why}", 1) from error
     said = out.read_bytes().decode("utf-8", "replace")
     return done.returncode, re.sub(rf"{re.escape(str(folder))}/(?:given\d+/)?", "", said)
 
@@ -231,6 +231,6 @@ def found_in(said: str, cycles: int) -> str:
         raise ToolError(f"the sources mean two things, from random registers and with random resets: {why}", 1)
     equal = re.fullmatch(r"equal (-?\d+)", last)
     if equal is None:
-        raise ToolError(f"the run by Icarus came to no end: {shown(last)}", 1)
+        raise ToolError(f"the run in Icarus did not end: {shown(last)}", 1)
     open_at = "" if equal[1] == "-1" else f"; from cycle {equal[1]} on a port is unknown to Icarus in some of them"
     return f"beside Icarus: equal in {cycles} cycles{open_at}"

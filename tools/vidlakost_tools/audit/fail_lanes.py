@@ -70,10 +70,11 @@ class Found:
     def line(self) -> str:
         """The finding as a sentence."""
         if self.kind == "exact":
-            behind = "ever after" if self.cycle < 0 else f"to cycle {self.cycle}"
-            return f"fail is exact: in every history of {self.lanes} first wrong bits and in that without one, {behind}"
+            until = "ever after" if self.cycle < 0 else f"to cycle {self.cycle}"
+            histories = f"in every history with one of {self.lanes} first wrong bits, and in that with none"
+            return f"fail is exact: {histories}, {until}"
         if self.kind == "limit":
-            return f"fail is exact to cycle {self.cycle}; the limit of time ended the look at it there"
+            return f"fail is exact to cycle {self.cycle}, where the time ran out"
         if self.got == "open":
             return f"fail is unknown in cycle {self.cycle} where {self.case()}: it has to be {self.wanted}"
         return f"fail is {self.got} in cycle {self.cycle} though {self.case()}"
@@ -90,7 +91,7 @@ class Found:
         """The finding, as the last line has it."""
         if self.kind == "exact":
             return "fail is exact" if self.cycle < 0 else f"fail is exact to cycle {self.cycle}"
-        return f"fail is not known behind cycle {self.cycle}" if self.kind == "limit" else self.line()
+        return f"fail is not known after cycle {self.cycle}" if self.kind == "limit" else self.line()
 
 
 class Clock:
@@ -107,7 +108,7 @@ class Clock:
         now = time.monotonic()
         if now > self.next:
             self.next = now + 10
-            tell(f"audit: fail is looked at (cycle {cycle} of {cycles}), for {now - self.begin:.0f} seconds by now")
+            tell(f"audit: cycle {cycle} of {cycles} of fail, after {now - self.begin:.0f} seconds")
         return now > self.end
 
 

@@ -32,26 +32,27 @@ def look_at(machine: Machine, plan: Plan, plain: Plain, clock: Clock) -> Told:
     found = lanes.look_at(machine, plan, clock)
     if found.got != "open":
         return Told(found, plan)
-    lost = f"three values do not tell fail in cycle {found.cycle}"
+    lost = f"three values leave fail open in cycle {found.cycle}"
     split = splits.look_at(machine, plan, plain, clock)
     if split is not None:
-        how = f"{lost}, and splitting {counted(split.bits, 'bit')} does, in {counted(split.states, 'state')} at once"
+        bits, states = counted(split.bits, "bit"), counted(split.states, "state")
+        how = f"{lost}; splitting {bits} settles it, with {states} at once"
         return Told(split.found, plan, how, history_told(machine, plan, plain, split))
     if is_undriven(machine, plan, plain, found):
         return Told(found, plan)
-    tell("audit: fail: Yosys' model checker is asked")
+    tell("audit: asking Yosys' model checker about fail")
     checked = model_checker.fail_of(plain, plan, len(machine.order) + len(machine.registers), clock.left())
     if checked is None:
-        why = "splitting is too much, and so it is for Yosys' model checker in the time that is left"
+        why = "splitting takes too much, and Yosys' model checker has too little time left"
         return Told(found, plan, f"{lost}; {why}", is_bounded=True)
     if not checked.is_replayed:
-        why = "and that doesn't come out where the module is clocked by itself from there, so it is no finding"
+        why = "but the module, clocked by itself from there, does not show it, so it is no finding"
         return Told(found, plan, f"{lost}; Yosys' model checker says that {checked.found.line()}, {why}")
     words = [f"{word:0{plan.bits}b}" for word in checked.words]
     return Told(
         checked.found,
         plan,
-        f"{lost}, and Yosys' model checker does",
+        f"{lost}; Yosys' model checker settles it",
         told_words(plan, checked.found, words) if words else "",
     )
 

@@ -22,7 +22,7 @@ from vidlakost_tools.tool import Refused, ToolError, refuse_inputs, tell, tellin
 from vidlakost_tools.verilog import known_cells, open_run, source_texts
 from vidlakost_tools.verilog.front_end import ALL_GATES, Plain, plain_of
 
-FEWER_GATES = "a controller in words, before it is made gates of, is far shorter"
+FEWER_GATES = "a source that is not yet a netlist gives a far shorter one"
 
 
 @dataclasses.dataclass
@@ -69,11 +69,13 @@ class Verdict:
 
     def told(self) -> str:
         """The finding, as the last line begins."""
-        late = f" from {self.delay} cycle{'s' if self.delay > 1 else ''} later on" if self.delay else ""
+        late = f"{cycles(self.delay)} late" if self.delay else ""
         if not self.conforms:
-            return (f"{late[1:]} " if late else "") + self.line
-        end = f" but for done, {cycles(self.end_late)} late" if self.end_late else ""
-        return "conforms" + late + end + (f" but for {', '.join(self.in_reset)} in the reset" if self.in_reset else "")
+            return f"starts {late}: {self.line}" if late else self.line
+        found = [f"conforms {late}" if late else "conforms"]
+        found += [f"done {cycles(self.end_late)} late"] if self.end_late else []
+        found += [f"{' and '.join(self.in_reset)} not 0 in the reset"] if self.in_reset else []
+        return ", ".join(found)
 
 
 def cycles(count: int) -> str:
@@ -164,7 +166,8 @@ def late_end_found(audit: Audit, found: Verdict) -> Verdict | None:
     line = checked(audit, late_end.in_time(found.plain, end)) if late else ""
     if not late or not line.startswith("conforms "):
         return None
-    print(f"late end: the commands are right, and done comes {cycles(late)} late, as behind a comparison in a pipeline")
+    print(f"late end: the commands are right, and done comes {cycles(late)} late")
+    print("  so it does where the words are compared in a pipeline")
     return Verdict(line, found.plain, end_late=late)
 
 
@@ -177,17 +180,18 @@ def late_found(audit: Audit, found: Verdict) -> Verdict | None:
         return None
     late = late_start.late(found.plain, first)
     if late is None:
-        print("no late start: within 8 cycles there is none up to which en and done are 0 and in which en is 1")
+        print("no late start: in the first 8 cycles en doesn't rise, or done is 1 before it does")
         return None
     line = checked(audit, late.module)
     verdict = Verdict(line, found.plain, late.cycles, late.in_reset)
-    if not verdict.conforms:
-        print(f"late start: {verdict.told()}, where cycle 0 is cycle {late.cycles}")
-    elif late.cycles:
-        begin = "behind the reset" if late.in_reset else "in the reset and"
-        print(f"late start: {verdict.told()}, en and done being 0 {begin} until then")
-    else:
-        print(f"behind the reset: {line}")
+    if not late.cycles:
+        print(f"after the reset: {line}")
+        return verdict
+    print(f"late start: the test begins {cycles(late.cycles)} late; counted from there: {line}")
+    if verdict.conforms:
+        print(f"  before it, en and done are 0{' after the reset' if late.in_reset else ''}")
+        if late.in_reset:
+            print(f"  in the reset, {' and '.join(late.in_reset)} {'is' if len(late.in_reset) == 1 else 'are'} not 0")
     return verdict
 
 
@@ -234,7 +238,7 @@ def end_found(audit: Audit, found: Verdict) -> tuple[str, int]:
         for port, (one, zero), wanted in zip(("done", "en"), told, ((1, 0), (0, 1))):
             if cycle >= end and (one, zero) != wanted:
                 got = "1" if one else "0" if zero else "open"
-                return f"{port} is {got} in cycle {cycle}, behind the end", cycle
+                return f"{port} is {got} in cycle {cycle}, after the end", cycle
         if cycle > end and state == before:
             return "", -1
         cycle += 1
@@ -258,7 +262,7 @@ def fail_found(audit: Audit, found: Verdict, limit: int) -> lanes.Found:
             break
     if told.how:
         print(told.how)
-    told_late = f", {cycles(late)} later than the rule" if late and told.found.kind == "exact" else ""
+    told_late = f", {cycles(late)} later than the rule of the ports" if late and told.found.kind == "exact" else ""
     print(told.found.line() + told_late)
     if told.history:
         print(visible(told.history))
@@ -273,7 +277,7 @@ def why_fail_open(audit: Audit, found: Verdict, machine: Machine, told: fail_sea
     values = why_unknown.values_of(machine, words, told.found.cycle)
     tell_reasons(why_unknown.Search(machine, values, found.plain), machine, "fail", told.found.cycle)
     if told.is_bounded and not found.delay and not found.end_late and "--liberty" not in audit.options:
-        print(f"with more time and memory the model checker may know: {formal_call(audit)}")
+        print(f"with more time and memory Yosys' model checker may know: {formal_call(audit)}")
 
 
 def formal_call(audit: Audit) -> str:

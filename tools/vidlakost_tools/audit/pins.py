@@ -60,7 +60,7 @@ class Pins:
         told = [pin.name for _, pin in self.pins] + [*self.ties, *self.opens]
         twice = next((name for name in told if told.count(name) > 1), None)
         if twice:
-            raise ToolError(f"{self.file}: the pin '{twice}' stands on two lines")
+            raise ToolError(f"{self.file}: two lines name the pin '{twice}'")
         given = {port for port, _ in self.pins}
         own = [port for port in (*INPUTS, *OUTPUTS) if port not in given and port in ports and port not in told]
         whole = dataclasses.replace(self, pins=[*self.pins, *((port, Pin(port, False)) for port in own)])
@@ -80,10 +80,10 @@ class Pins:
         given = [port for port, _ in self.pins]
         missing = [port for port in (*INPUTS, *OUTPUTS) if port not in given]
         if missing:
-            raise ToolError(f"{self.file}: no pin is told for {', '.join(missing)}")
+            raise ToolError(f"{self.file}: no line names the pin of {', '.join(missing)}")
         double = next((port for port in OUTPUTS if given.count(port) > 1), None)
         if double or given.count("clk") > 1:
-            raise ToolError(f"{self.file}: '{double or 'clk'}' stands once")
+            raise ToolError(f"{self.file}: '{double or 'clk'}' stands in one line only")
 
     def refuse_directions(self, ports: dict[str, Any]) -> None:
         wanted = [(pin.name, "input") for _, pin in self.inputs()] + [(pin.name, "output") for _, pin in self.outputs()]
@@ -126,7 +126,7 @@ def take_line(pins: Pins, words: list[str]) -> str | None:
     if kind == "tie":
         value = number_in(rest[1]) if len(rest) == 2 else None
         if value is None or not PIN.fullmatch(rest[0]):
-            return "a tied input is told by its name and a number, as 'tie scan_en 0'"
+            return "tie takes an input and a number, as in 'tie scan_en 0'"
         if rest[0] in pins.ties:
             return "the pin is tied twice"
         pins.ties[rest[0]] = value
@@ -135,8 +135,8 @@ def take_line(pins: Pins, words: list[str]) -> str | None:
         return f"there is no line '{kind}': they begin with {', '.join((*INPUTS, *OUTPUTS))}, tie or open"
     name = rest[0].lstrip("~") if len(rest) == 1 else ""
     if not PIN.fullmatch(name) or rest[0] not in (name, f"~{name}") or kind == "open" and rest[0] != name:
-        return f"behind '{kind}' stands the name of one pin" + (
-            "" if kind == "open" else ", with ~ where it is active low"
+        return f"'{kind}' takes the name of one pin" + (
+            "" if kind == "open" else ", with ~ if it is active low"
         )
     if kind == "open":
         pins.opens.append(name)

@@ -14,7 +14,7 @@ from vidlakost_tools.verilog.front_end import Plain
 KEPT = 8_000_000
 
 # what there is to do about rows of a case
-OVERLAP = ", of which more than one holds, and any may be taken; without the word that denies it the first is"
+OVERLAP = ": more than one holds, and a tool may take any; without the word that denies it, the first is taken"
 
 
 @dataclasses.dataclass
@@ -33,7 +33,7 @@ def values_of(machine: Machine, words: dict[int, list[tuple[int, int]]], last: i
     state = [(0, 0)] * len(machine.registers)
     nothing = [(0, 0)] * len(machine.words)
     kept: collections.deque[Any] = collections.deque(maxlen=max(256, KEPT // max(1, len(bits))))
-    for cycle in progress(range(last + 1), "what it hangs on is looked for"):
+    for cycle in progress(range(last + 1), "looking for what it hangs on"):
         state, told = step(state, [*words.get(cycle, nothing), (1, 0) if cycle == 0 else (0, 1)], 1)
         pairs = list(zip(bits, told))
         opens = {bit for bit, (one, zero) in pairs if not one and not zero}

@@ -82,23 +82,23 @@ def verdict_of(audit: Audit) -> tuple[str, int]:
         return found.told(), 1
     end, until = end_found(audit, found)
     if end or until >= 0:
-        print(end or f"behind the end done is 1 and en 0 to cycle {until}")
+        print(end or f"after the end done is 1 and en 0 to cycle {until}")
     told = fail_found(audit, found, number_of(audit.options.get("--limit", "600"), "--limit", 1))
     wave(audit, found, told.cycle if told.kind != "exact" else len(audit.commands()) - 1)
     limited = [f"done and en are right to cycle {until}"] if until >= 0 else []
     parts = [found.told(), *([end] if end else limited), told.short()]
     in_reset = found.in_reset and "--reset-open" not in audit.options
     if in_reset:
-        print("in the cycle of the reset they have to be 0; with --reset-open they may be anything there")
+        print("in the cycle of the reset they have to be 0; --reset-open allows anything there")
     is_late = found.end_late > number_of(audit.options.get("--fail-late", "0"), "--fail-late")
     if is_late and told.kind == "exact":
-        print(f"the rule of the ports has no late end; with --fail-late {found.end_late} it may be")
+        print(f"the rule of the ports allows no late end; --fail-late {found.end_late} does")
     is_bounded = "--strict" in audit.options and (until >= 0 or told.kind == "exact" and told.cycle >= 0)
     if is_bounded:
-        print("something still changes where the look ends, so that it may be wrong later")
+        print("something still changes in the last cycle that was looked at, so it may go wrong later")
     is_untried = "--strict" in audit.options and is_otherwise(audit, found.plain)
     if is_untried:
-        print("a simulator may read the sources otherwise, as is warned; with --simulate Icarus tells")
+        print("a simulator may read the sources differently, as the warning says; --simulate asks Icarus")
     return ", ".join(parts), (
         0
         if not end and not is_bounded and not is_untried and not is_late and not in_reset and told.kind == "exact"
@@ -119,7 +119,7 @@ def wave(audit: Audit, found: Verdict, cycle: int) -> None:
         save = (
             "a save file for GTKWave beside it"
             if is_new
-            else f"{save_of(file)}, which is none of audit's, stays as it is"
+            else f"{save_of(file)} is not audit's, and stays as it is"
         )
         tell(f"audit: the run is in {file}, and {save}")
 
@@ -151,7 +151,7 @@ def main(arguments: list[str]) -> int:
     named += [("what is read", file) for file in [*options.get("--liberty", []), *([pins.file] if pins else [])]]
     refuse_inputs(options.get("--vcd"), named)
     if pathlib.Path(options.get("--vcd", "")).suffix == ".gtkw":
-        raise ToolError(f"{shown(options['--vcd'])} is the name of the save file, which stands beside the waveform")
+        raise ToolError(f"{shown(options['--vcd'])} is the name of the save file beside the waveform")
     elements, memory = march_of(march)[1], read_memory(memory_file)
     audit = Audit(files, options, pins, march, memory_file, elements, memory)
     try:

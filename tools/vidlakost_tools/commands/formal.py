@@ -11,7 +11,7 @@ Every register is open in cycle 0, the one of the reset, and so is every word on
 to the end of the test, and three behind it, all ports have to be as the list of `vectors` says, and `fail` as these
 words say. With --resets the reset may come again in any cycle, and each begins the test anew; that takes longer, and is
 for the smallest memories; the first of the dozen is judged so too. That list is all that is shared with the program.
-What nothing drives is open in every cycle, and initial values are left out. A signal with two drivers, a register that
+What nothing drives is open in every cycle, and initial values are ignored. A signal with two drivers, a register that
 does not take at the rising edge of clk, a latch and a port of another width are refused, and what Yosys warns of is
 handed on. A case that the model checker finds is clocked once more by plain Python, from the module as a text of the
 subset that `check` reads; where no port is wrong in it the line says `not known`. It ends with 1 where a module
@@ -186,7 +186,7 @@ def judge(
             return f"not known: a case in cycle {cycle} can't be clocked by itself, since {error}"
         if is_replayed(asked, plain, cycle):
             return f"differs in cycle {cycle}"
-    return f"not known: a case in cycle {cycle} doesn't come out where the module is clocked by itself from there"
+    return f"not known: the module, clocked by itself, does not show the case in cycle {cycle}"
 
 
 # ---- modules of the program
@@ -262,10 +262,10 @@ def main(arguments: list[str]) -> int:
     yosys.want()
     if len(files) >= 3 and set(options) <= {"--resets", "--top", "--pins", "--cells"}:
         difference = judge(files[:-2], files[-2], files[-1], options)
-        print(difference or "each port is in each cycle as it has to be")
+        print(difference or "each port is right in each cycle")
         return 1 if difference else 0
     if files:
-        raise ToolError(f"three files and more, or none\n{usage_of(__doc__)}")
+        raise ToolError(f"name three files or more, or none\n{usage_of(__doc__)}")
     if "--wrong" in options:
         return judge_wrong()
     if "--random" in options:

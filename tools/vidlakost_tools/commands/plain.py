@@ -35,5 +35,5 @@ def main(arguments: list[str]) -> int:
     write_whole(out, plain.text())
     for warning in plain.warnings:
         tell(f"plain: {warning}")
-    tell(f"plain: {out} is what Yosys makes of the sources; what is found of it holds of them as far as Yosys is right")
+    tell(f"plain: Yosys made {out} of the sources; what is found of it holds of them if Yosys is right")
     return 0

@@ -30,7 +30,7 @@ def read_module(path: str) -> Module:
         module = Reader(text).module()
     except Unread as error:
         line = len(lines_of(text[: error.at] + "."))
-        raise ToolError(f"{path}:{line}: this is no module of the subset: {error}") from error
+        raise ToolError(f"{path}:{line}: this is not a module of the subset: {error}") from error
     identifier(module.name, "the name of the module")
     return module
 

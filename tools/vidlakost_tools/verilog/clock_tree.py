@@ -107,7 +107,7 @@ class Tree:
             return Path(bit, False)
         cell = self.cells.get(self.drivers.get(bit, ""))
         if cell is None or depth > 64:
-            self.refuse(register, "its clock is no input of the module")
+            self.refuse(register, "its clock is not an input of the module")
         if cell["type"] in (*INVERTERS, *BUFFERS) and len(cell["connections"]["A"]) == 1:
             path = self.path(cell["connections"]["A"][0], register, depth + 1)
             return dataclasses.replace(path, is_inverted=path.is_inverted ^ (cell["type"] in INVERTERS))
@@ -117,7 +117,7 @@ class Tree:
                     return self.path(cell["connections"][one][0], register, depth + 1)
             return self.gated(self.drivers[bit], register, depth)
         self.refuse(
-            register, f"its clock is made by a cell {cell['type']} ({place_of(self.module, cell)}), and is no input"
+            register, f"a cell {cell['type']} ({place_of(self.module, cell)}) makes its clock, which has to be an input"
         )
         raise AssertionError
 
@@ -137,7 +137,8 @@ class Tree:
                 return dataclasses.replace(path, enables=[*path.enables, bit], holders=[*path.holders, holder])
         self.refuse(
             register,
-            f"its clock is gated at {place_of(self.module, self.cells[name])} by what no latch holds while it is high",
+            f"its clock is gated at {place_of(self.module, self.cells[name])} by a signal that no latch holds while the"
+                " clock is high",
         )
         raise AssertionError
 
@@ -195,7 +196,7 @@ def settled(sources: source_texts.Sources, pins: Pins | None, folder: pathlib.Pa
             falling = "falling" if wanted else "rising"
             is_one = len({other.rises for other in registers.values()}) == 1
             hint = f"; 'clk ~{port}' in a file of pins tells audit so" if is_one and wanted else ""
-            tree.refuse(tree.cells[name], f"it takes at the {falling} edge of {port}{hint}")
+            tree.refuse(tree.cells[name], f"it is clocked by the {falling} edge of {port}{hint}")
     clock = Clock(port, resets_of(tree))
     if all(edge.rises and not edge.path.enables and not edge.path.is_inverted for edge in registers.values()):
         return sources.script, clock
@@ -216,16 +217,17 @@ def clock_of(tree: Tree, registers: dict[str, Edge], pins: Pins | None) -> str |
         first = first or port
         if port != (told or first):
             tree.refuse(
-                tree.cells[name], f"its clock is {port}, and that of other registers {told or first}; one is taken"
+                tree.cells[name],
+                f"its clock is {port}, but other registers have {told or first}; all need the same clock",
             )
     chosen = told or first
     ports = tree.module["ports"]
     if not pins and chosen not in (None, "clk") and "clk" in ports:
         raise ToolError(
-            f"the registers' clock is {chosen}, and clk is another port: a file of pins tells which is which", 1
+            f"the registers' clock is {chosen}, and clk is another port: name both in a file of pins (--pins)", 1
         )
     if chosen and len(ports[chosen]["bits"]) != 1:
-        raise ToolError(f"the clock is bit 0 of {chosen}, which has several", 1)
+        raise ToolError(f"the clock is one bit of {chosen}, which has several", 1)
     return chosen
 
 
@@ -263,7 +265,7 @@ def rewrite(tree: Tree, registers: dict[str, Edge], holders: set[str]) -> None:
             tree.cells[f"$enables${count}${place}"] = both(enable, bit, fresh)
             enable = fresh
         if enable is not None and cell["type"] not in BARE and not (fine and fine[1] in BARE_FINE):
-            tree.refuse(cell, "a register with an enable of its own stands on a gated clock")
+            tree.refuse(cell, "a register has a gated clock and an enable of its own")
         set_kind(cell, fine, enable)
     for holder in holders:
         del tree.cells[holder]
@@ -304,8 +306,8 @@ def resets_of(tree: Tree) -> list[str]:
         for pin in ("ARST", "SET", "CLR", "R", "S"):
             bits = cell["connections"].get(pin, []) if re.match(r"\$(adff|dffsr)|\$_DFF", cell["type"]) else []
             if any(is_mixed(tree, bit) for bit in bits):
-                what = f"{place_of(tree.module, cell)}: its asynchronous reset is made by gates from registers"
-                warnings.append(f"{what}, where a short pulse may reset it; such pulses are not seen")
+                what = f"{place_of(tree.module, cell)}: gates make its asynchronous reset from registers"
+                warnings.append(f"{what}, so a short pulse may reset it; such pulses are not seen")
     return list(dict.fromkeys(warnings))[:8]
 
 

@@ -116,9 +116,9 @@ def sources_of(files: list[str], options: dict[str, Any], folder: pathlib.Path) 
             cells = ", and no cell with a function for each output in the libraries" if "--liberty" in options else ""
             cells += f", and none of the cells that are known: {known_cells.KNOWN}" if "--cells" in options else ""
             where = f"the files{cells}"
-            raise ToolError(f"{missing[2]} has a part {missing[1]}, which is no module of {where}", 1) from error
+            raise ToolError(f"{missing[2]} has a part {missing[1]}, which is not a module of {where}", 1) from error
         if twice:
-            raise ToolError(f"{twice[1]} stands twice, in the files or in the libraries", 1) from error
+            raise ToolError(f"{twice[1]} is defined twice, in the files or in the libraries", 1) from error
         raise
 
 
@@ -127,13 +127,13 @@ def refuse_calls(warnings: list[str]) -> None:
     for warning in warnings:
         found = re.match(r"(.*?):? ?Warning: Identifier `\\?(\$\w+)' is implicitly declared", warning)
         if found:
-            raise ToolError(f"{found[1]}: {found[2]} is a call for simulations, and no logic", 1)
+            raise ToolError(f"{found[1]}: {found[2]} is a call for simulations, not logic", 1)
 
 
 def refuse_names(ports: dict[str, Any]) -> None:
     for port in ports:
         if not re.fullmatch(r"[A-Za-z_][\w$]{0,63}", port, re.ASCII):
-            raise ToolError(f"the port {shown(port)} is no simple identifier", 1)
+            raise ToolError(f"the port {shown(port)} is not a simple identifier", 1)
 
 
 def written(name: str, module: dict[str, Any], pins: Pins | None, clock: clock_tree.Clock) -> Plain:

@@ -27,7 +27,7 @@ def share() -> pathlib.Path:
         place = folder.parent / "share" / "yosys"
         if place.is_dir():
             return place
-    raise ToolError("Yosys' share folder is not beside its program")
+    raise ToolError("Yosys' share folder was not found beside its program")
 
 
 def taken_lines(text: str) -> list[str]:
@@ -59,7 +59,7 @@ def taken_lines(text: str) -> list[str]:
 
 
 def models(text: str) -> dict[str, str]:
-    """Of each module of the models its text, with the macros in it written out; initial values are left out."""
+    """Of each module of the models its text, with the macros in it written out; initial values are ignored."""
     macros: dict[str, tuple[str, str]] = {}
     lines = []
     for line in taken_lines(text):

@@ -212,7 +212,7 @@ def rewritten(file: str, source: str, blank: str, sources: Sources) -> tuple[str
         edits.append((select.begin, select.end, f"{name}({select.word}, $unsigned({select.index})){lines}"))
         edits.append((end, end, function_of(name, select, span)))
         said = " ".join(source[select.begin : select.end].split())
-        told.append(f"{place}: {said} is read as a part of a word of its own, beyond which it is open")
+        told.append(f"{place}: {said} is read as a part of its own word; beyond that word it is open")
     text = source
     for begin, last, body in sorted(edits, reverse=True):
         text = text[:begin] + body + text[last:]

@@ -118,7 +118,7 @@ class NamedBits:
 
     def fitting(self, port: str, width: int) -> int:
         if width > WIDEST:
-            raise ToolError(f"the port {port} has {width} bits, and a word of the subset at most {WIDEST}", 1)
+            raise ToolError(f"the port {port} has {width} bits; a word of the subset has at most {WIDEST}", 1)
         return width
 
     def take(self, name: str, bits: list[Any]) -> None:

@@ -332,7 +332,7 @@ def read_module(path: Path) -> Run:
             run.take(item)
     except (Unread, KeyError) as error:
         line = text.count("\n", 0, getattr(error, "at", len(text))) + 1
-        raise ToolError(f"{path}:{line}: this is no module of the subset: {error}") from error
+        raise ToolError(f"{path}:{line}: this is not a module of the subset: {error}") from error
     missing = [port for port in ("reset", "rdata", *PORTS) if port not in run.widths]
     if missing:
         raise ToolError(f"{path} has no port '{missing[0]}'")

@@ -89,7 +89,7 @@ def fault_of(options: Mapping[str, Any], march: str, memory_file: str, memory: M
     refused here as it is there."""
     if "--fault" not in options:
         if "--victim" in options or "--aggressor" in options:
-            raise ToolError("--victim and --aggressor are the cells of a --fault, and there is none")
+            raise ToolError("--victim and --aggressor need a --fault")
         return None
     if "--victim" not in options:
         raise ToolError("--fault needs the cell of its victim: --victim W.B")
@@ -103,5 +103,5 @@ def fault_of(options: Mapping[str, Any], march: str, memory_file: str, memory: M
     cells = [place_of(text) for text in (options["--victim"], aggressor) if text != "none"]
     is_within = all(word < memory.words and bit < memory.bits for word, bit in cells)
     if not is_within or len({word for word, _ in cells}) < len(cells):
-        raise ToolError("a cell of the fault lies outside the memory, or both are in one word", 11)
+        raise ToolError("a cell of the fault is outside the memory, or both are in one word", 11)
     return Fault(memory, primitive, cells[0], cells[1] if cells[1:] else None)

@@ -64,7 +64,7 @@ def driven_constant(module: Mapping[str, Any]) -> str | None:
         for pin, bits in cell["connections"].items():
             outward = cell.get("port_directions", {}).get(pin) == "output"
             if outward and any(bit in ("0", "1", "x", "z") for bit in bits):
-                return f"what is driven at {cell['attributes'].get('src', 'no place')} is a constant elsewhere"
+                return f"what is driven at {cell['attributes'].get('src', 'no place')} is also tied to a constant"
     return None
 
 

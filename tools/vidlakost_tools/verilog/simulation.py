@@ -239,7 +239,7 @@ def of_blocks(text: str) -> Iterator[tuple[int, str]]:
             continue
         missing = [name for name in first if block.waits is not None and name not in block.waits]
         if missing:
-            yield block.at, f"the block reads {told(missing)}, and does not wait for it"
+            yield block.at, f"the block reads {told(missing)}, which is not in its sensitivity list"
         early = [name for name in first if name in block.sets(True)]
         if early:
             yield first[early[0]], f"the block reads {told(early)} before it sets it"
@@ -248,7 +248,7 @@ def of_blocks(text: str) -> Iterator[tuple[int, str]]:
         names = sorted(block.sets(True))
         raced = [name for name in names if any(other is not own and name in other for _, other in clocked)]
         if raced:
-            yield block.at, f"the block sets {told(raced)} at once (=), and another block reads it at an edge"
+            yield block.at, f"the block sets {told(raced)} with =, and another block reads it at the same edge"
 
 
 def warnings_of(file: str, source: str, text: str) -> list[str]:
@@ -259,15 +259,15 @@ def warnings_of(file: str, source: str, text: str) -> list[str]:
         found += [(module.start() + at, why) for at, why in of_blocks(module[0])]
     delay = DELAY.search(text)
     if delay:
-        found.append((delay.end(), "a delay is passed over"))
+        found.append((delay.end(), "a delay is skipped"))
     hidden = HIDDEN.search(source)
     if hidden:
-        found.append((hidden.start(), "what stands behind translate_off is passed over"))
+        found.append((hidden.start(), "what follows translate_off is skipped"))
     wild = re.search(r"\bcasex\b", text)
     if wild:
-        found.append((wild.start(), "casex takes an x of what it looks at for any number"))
+        found.append((wild.start(), "casex matches an x in its operand with anything"))
     return [
-        f"{shown(file)}:{text.count(chr(10), 0, at) + 1}: {why}; a simulator reads it otherwise"
+        f"{shown(file)}:{text.count(chr(10), 0, at) + 1}: {why}; a simulator reads it differently"
         for at, why in sorted(found)[:8]
     ]
 

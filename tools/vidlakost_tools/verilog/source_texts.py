@@ -71,7 +71,7 @@ def plain_text(file: str) -> str:
     a byte 0 for the end: such a file is refused."""
     content = read_bytes(file, SOURCE_BYTES)
     if content.startswith(b"\x1f\x8b") or b"\0" in content:
-        raise ToolError(f"{shown(file)} is packed, or has a byte 0, and is no source", 1)
+        raise ToolError(f"{shown(file)} is packed or has a byte 0, so it is not a source", 1)
     return content.decode("utf-8", "replace").replace("\r", "")
 
 
@@ -87,7 +87,7 @@ def with_included(files: list[str]) -> list[tuple[str, str]]:
         for match in (match for text in blanked(found[file], but_texts=True) for match in INCLUDED.finditer(text)):
             name = match[1].strip('"')
             if match[1] != f'"{name}"':
-                raise ToolError(f"{shown(file)}: it includes {shown(match[1])}, which is no name in quotes", 1)
+                raise ToolError(f"{shown(file)}: it includes {shown(match[1])}, which is not a name in quotes", 1)
             places = [pathlib.Path(name), pathlib.Path(file).parent / name]
             waiting += [str(place) for place in places if place.is_file()][:1]
     return list(found.items())
@@ -161,7 +161,7 @@ def asked(files: list[str]) -> list[str]:
         endless = next((place for place in named_in(file, source) if not place.is_file() and not place.is_dir()), None)
         if endless:
             raise ToolError(
-                f"{shown(file)}: it names {shown(str(endless))}, which is no plain file, and may never end", 1
+                f"{shown(file)}: it names {shown(str(endless))}, which is not a plain file and may never end", 1
             )
     for file, source in sources:
         refuse_attributes(file, source)
@@ -173,7 +173,7 @@ def asked(files: list[str]) -> list[str]:
         for match in (match for text in blanked(source) for match in ASKED.finditer(text)):
             place = f"{shown(file)}:{source.count(chr(10), 0, match.start()) + 1}"
             if match[1] == "YOSYS":
-                raise ToolError(f"{place}: it asks whether Yosys reads it, and any other tool reads something else", 1)
+                raise ToolError(f"{place}: it asks whether Yosys reads it, so other tools read something else", 1)
             warnings.append(f"{place}: it is read as with SYNTHESIS; a simulator may read something else")
     return list(dict.fromkeys(warnings))
 
@@ -228,4 +228,4 @@ def refuse_one_name(file: str, source: str) -> None:
         for match in ELSEWHERE.finditer(text) if escaped else ():
             if re.sub(r"\s", "", match[0]) in escaped:
                 place = f"{shown(file)}:{source.count(chr(10), 0, match.start()) + 1}"
-                raise ToolError(f"{place}: {shown(match[0])} is one with a name behind a backslash to Yosys alone", 1)
+                raise ToolError(f"{place}: {shown(match[0])} is, to Yosys alone, the same as the escaped name", 1)

@@ -161,7 +161,7 @@ def refuse_two_blocks(module: dict[str, Any]) -> None:
             both = [module["cells"][other], cell]
             what = "two blocks set it" if all("Q" in one["connections"] for one in both) else "it has two drivers"
             signal = place_of(module, cell).split(", ")[0]
-            raise ToolError(f"{signal} ({' and '.join(sorted(map(where, both)))}): {what}; one has to do so", 1)
+            raise ToolError(f"{signal} ({' and '.join(sorted(map(where, both)))}): {what}; only one may", 1)
         driven.update((bit, name) for bit in bits if isinstance(bit, int))
     refuse_writers(module)
 
@@ -181,8 +181,8 @@ def refuse_writers(module: dict[str, Any]) -> None:
         for later, earlier in ((later, earlier) for later in cells for earlier in cells):
             if is_open_order(later, earlier) and any(meets(module, driver, later, earlier)):
                 lines = " and ".join(sorted(map(where, (earlier, later))))
-                why = "two blocks write this memory, and which of them is the last the language leaves open"
-                raise ToolError(f"{shown(memory.lstrip(chr(92)))} ({lines}): {why}; one block has to write it", 1)
+                why = "two blocks write this memory, and the language does not say which is last"
+                raise ToolError(f"{shown(memory.lstrip(chr(92)))} ({lines}): {why}; let one block write it", 1)
 
 
 def is_open_order(later: dict[str, Any], earlier: dict[str, Any]) -> bool:
@@ -234,12 +234,12 @@ def beyond_words(module: dict[str, Any]) -> Iterator[str]:
         if any(bit != "0" for bit in cell["connections"].get("ADDR", [])[bits:]):
             name = shown(cell["parameters"]["MEMID"].lstrip(chr(92)))
             why = f"an address beyond its {said['size']} words is cut to {bits} bits"
-            yield f"{name} ({where(cell)}): {why}; a simulator reads an x there, and writes nothing"
+            yield f"{name} ({where(cell)}): {why}; a simulator reads an x there and writes nothing"
 
 
 # ---- drivers that can be off
 
-CAN_BE_OFF = "a driver that can be off is outside the subset; a multiplexer says which driver is taken"
+CAN_BE_OFF = "a driver that can be off is outside the subset; use a multiplexer"
 TOKEN = re.compile(r'/\*.*?\*/|"(?:\\.|[^"\\])*"|[{}]|\bcell\s*\(\s*"?([^")\s]*)"?\s*\)|\b(three_state)\b', re.DOTALL)
 
 
@@ -265,9 +265,10 @@ def refuse_off(libraries: list[str], rtlil: str) -> None:
             place = short(line.split('"')[1])
         found = re.fullmatch(r"  cell \\(\S+) \\?(\S+)", line)
         if found and found[1] in off:
-            raise ToolError(f"{shown(found[2])} ({place}): the cell {found[1]} has three states; {CAN_BE_OFF}", 1)
+            what = f"the cell {found[1]} is a three-state driver"
+            raise ToolError(f"{shown(found[2])} ({place}): {what}; {CAN_BE_OFF}", 1)
         if found is None and line.startswith("  cell $pmux "):
-            raise ToolError(f"{place}: a cell $pmux, which says something else to Yosys where two of its rows hold", 1)
+            raise ToolError(f"{place}: a cell $pmux, which Yosys reads differently if two of its rows hold", 1)
 
 
 # gates of the language whose driver can be off, of which Yosys inverts some

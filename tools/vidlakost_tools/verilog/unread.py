@@ -10,7 +10,7 @@ from vidlakost_tools.text import shown
 FORMS = [
     (
         r"\b(?:unique0?|priority)\s+if\b",
-        "Yosys doesn't read `{0}`; without the first word it says the same to a simulator",
+        "Yosys doesn't read `{0}`; without the first word it means the same to a simulator",
     ),
     (r"\bimport\s+\w+\s*::", "Yosys doesn't read `{0}`; write the package before each name, as pkg::NAME"),
     (r"\b(?:tri[01]|trireg)\b", "Yosys has no net that pulls ({0}); a choice says what it is while nothing drives it"),

@@ -31,7 +31,7 @@ def verilog_of(files: list[str], options: dict[str, Any], folder: pathlib.Path) 
     if not vhdl:
         return files, options
     if shutil.which("ghdl") is None:
-        raise ToolError(f"{vhdl[0]} is VHDL, and ghdl, which makes Verilog of it, is not on the PATH")
+        raise ToolError(f"{vhdl[0]} is VHDL, and ghdl, which turns it into Verilog, is not on the PATH")
     texts = [read_described(file, SOURCE_BYTES) for file in vhdl]
     for file, text in zip(vhdl, texts):
         refuse_reaching(file, text)
@@ -42,7 +42,7 @@ def verilog_of(files: list[str], options: dict[str, Any], folder: pathlib.Path) 
         raise ToolError(f"{vhdl[-1]} has no entity")
     is_mixed = len(vhdl) < len(files)
     if is_mixed and "--top" not in options:
-        raise ToolError("some of the sources are Verilog and some VHDL, so --top has to name the top")
+        raise ToolError("some sources are Verilog and some VHDL, so name the top with --top")
     top = identifier(options.get("--top", entities[-1]), "the top")
     # a top in Verilog has the last entity as a part
     entity = entities[-1] if is_mixed and top.lower() not in map(str.lower, entities) else top
@@ -66,7 +66,7 @@ def synthesized(form: str, names: list[str], top: str, folder: pathlib.Path) -> 
             with telling(f"GHDL makes {form} of {top}", lambda: f"{out.stat().st_size:,} bytes by now"):
                 done = confined.run(words, pathlib.Path(own), SECONDS, out)
         except subprocess.TimeoutExpired as error:
-            raise ToolError(f"ghdl took longer than {SECONDS} seconds, and was ended", 1) from error
+            raise ToolError(f"ghdl took longer than {SECONDS} seconds and was stopped", 1) from error
         text = out.read_bytes().decode("utf-8", "replace")
     if done.returncode:
         said = lines_of(done.stderr.decode("utf-8", "replace"))

@@ -20,7 +20,7 @@ EITHER = rf"""'["\\%]'{REST}|["\\%]{REST}"""
 PIECE = re.compile(rf"(?P<comment>{COMMENT})|(?P<quoted>{QUOTED})|(?P<either>{EITHER})", re.DOTALL)
 BEYOND = re.compile(r"\b(file|file_open|file_close|\w*textio|foreign)\b", re.ASCII | re.IGNORECASE)
 OPENS = "GHDL would open a file of the system when it elaborates this"
-FOREIGN = "a function that is not VHDL would be run"
+FOREIGN = "it would run a function that is not VHDL"
 TWICE = "a comment begins here, or a text with these letters: part the line"
 
 

@@ -238,7 +238,7 @@ def bench(module: Module, elements: list[Element], memory: Memory) -> str:
     """The testbench of a self-test module."""
     wanted = ["clk", "reset", "rdata", "en", "we", "addr", "wdata", "done", "fail"]
     if sorted(port.token.text for port in module.ports) != sorted(wanted):
-        raise ToolError(f"{module.name} has other ports than a self-test, so no testbench is made for it")
+        raise ToolError(f"{module.name} does not have the ports of a self-test, so it gets no testbench")
     widths = {port.token.text: port.width for port in module.ports}
     if (widths["addr"], widths["rdata"], widths["wdata"]) != (memory.width, memory.bits, memory.bits):
         raise ToolError(f"the ports of {module.name} are not as wide as those of {memory.name}")

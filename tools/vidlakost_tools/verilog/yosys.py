@@ -27,7 +27,7 @@ def quoted(path: Path) -> str:
     """A file's name as a script carries it. What a script would read as more than a name is refused."""
     name = str(path)
     if not re.fullmatch(r"[\w./ +=,@%:-]+", name) or not name.isprintable():
-        raise ToolError(f"{shown(name)}: a name for Yosys has letters, digits, blanks and ./_+=,@%:- alone")
+        raise ToolError(f"{shown(name)}: a name for Yosys may have letters, digits, blanks and ./_+=,@%:- only")
     return f'"./{name}"' if name[0] in "-+" else f'"{name}"'
 
 
@@ -98,16 +98,17 @@ def run(script: str, folder: pathlib.Path, *flags: str, seconds: float | None = 
                 check=False,
             )
         except subprocess.TimeoutExpired as error:
-            why = "a loop without end in the sources would look so"
-            raise Slow(f"Yosys took longer than {bound:g} seconds ({how_far(log)}), and was ended; {why}", 1) from error
+            why = "an endless loop in the sources looks like this"
+            told = f"Yosys took longer than {bound:g} seconds ({how_far(log)}), and was stopped"
+            raise Slow(f"{told}; {why}", 1) from error
     # what a reader can't find says nothing to him
     lines = [
         re.sub(rf"{re.escape(str(folder))}/(?:given\d+/)?", "", line)
         for line in lines_of(done.stdout.decode("utf-8", "replace"))
     ]
     if done.returncode and any("bad_alloc" in line for line in lines[-9:]):
-        why = "a loop without end in the sources would look so"
-        raise Slow(f"Yosys took more than {MEMORY >> 30} GB of memory ({how_far(log)}), and was ended; {why}", 1)
+        why = "an endless loop in the sources looks like this"
+        raise Slow(f"Yosys took more than {MEMORY >> 30} GB of memory ({how_far(log)}), and was stopped; {why}", 1)
     if done.returncode:
         errors = [line for line in lines if "ERROR" in line] or lines[-1:] or ["no reason is given"]
         raise ToolError("\n".join([f"yosys refuses it: {errors[0]}", *warnings_in(lines)]), 1)
@@ -225,7 +226,7 @@ def read(files: list[str], options: Mapping[str, Any], folder: pathlib.Path) -> 
     dropped = written_contents(module)
     if had or dropped:
         places = [place for file, source in own for place in simulation.initial_places(file, blanked(source)[0])]
-        warnings.append("initial values are left out" + (f" ({', '.join(places[:4])})" if places else ""))
+        warnings.append("initial values are ignored" + (f" ({', '.join(places[:4])})" if places else ""))
     beyond, far, zero = folder / "beyond.v", folder / "far.v", folder / "zero.v"
     beyond.write_text(BEYOND)
     far.write_text(FAR)
@@ -263,7 +264,7 @@ def refuse_rounded(said: list[str]) -> None:
     for line in said:
         found = re.match(r"(.*?):? ?Warning: converting real value (\S+) to binary 0+\.", line)
         if found and float(found[2]):
-            raise ToolError(f"{found[1]}: the number {found[2]} is no 0, and Yosys makes one of it", 1)
+            raise ToolError(f"{found[1]}: the number {found[2]} is not 0, but Yosys rounds it to 0", 1)
 
 
 def refuse_other_top(rtlil: str, top: str) -> None:
@@ -278,7 +279,7 @@ def refuse_other_top(rtlil: str, top: str) -> None:
     same = [name for name in ports if name not in parts | {chosen} and ports[name] >= ports.get(chosen, set())]
     if chosen in parts or same:
         other = f"{shown(same[0][1:])} has its ports too" if same else "it is a part of another module"
-        raise ToolError(f"{shown(top)} need not be the top that is meant, since {other}: --top names one")
+        raise ToolError(f"{shown(top)} may not be the top that you mean, since {other}: name it with --top")
 
 
 def top_module(path: pathlib.Path) -> tuple[str, dict[str, Any]]:
@@ -286,7 +287,7 @@ def top_module(path: pathlib.Path) -> tuple[str, dict[str, Any]]:
     modules = json.loads(path.read_bytes().decode("utf-8", "replace"))["modules"]
     name = next((name for name, module in modules.items() if "top" in module["attributes"]), None)
     if name is None:
-        raise ToolError("no module of the sources has anything in it, so none is taken for the top; --top names one", 1)
+        raise ToolError("all modules of the sources are empty, so none is the top; name one with --top", 1)
     module = modules[name]
     cells = {label: cell for label, cell in module["cells"].items() if cell["type"] != "$scopeinfo"}
     return name, {**module, "cells": cells}

@@ -14,9 +14,9 @@ REFUSED = [
 ]
 HINTS = {
     "a latch": (
-        "set the signal in every branch, or give it a default first; a latch is taken where it gates the clock alone"
+        "set the signal in every branch, or give it a default first; a latch is allowed only in a clock gate"
     ),
-    "an asynchronous load": "an asynchronous reset loads a constant",
+    "an asynchronous load": "let the asynchronous reset load a constant",
     "a tri-state driver": "a multiplexer says which driver is taken",
 }
 

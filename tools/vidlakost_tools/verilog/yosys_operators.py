@@ -134,7 +134,7 @@ class Writer(NamedBits):
         """What a cell drives whose bits hang on all of its operands."""
         kind, pins = cell["type"], cell["connections"]
         if len(cell["parts"]) > 1:
-            raise NotWords(f"a word of {len(pins['Y'])} bits is wider than those of the subset, which has {WIDEST}")
+            raise NotWords(f"a word of {len(pins['Y'])} bits is wider than the {WIDEST} bits of the subset")
         if kind in SUMS:
             texts = [self.signal(self.operand(cell, pin, width, self.both(cell))) for pin in "AB"]
             return f"({texts[0]} {SUMS[kind]} {texts[1]})"
@@ -208,7 +208,7 @@ class Writer(NamedBits):
         if inner > WIDEST or len(by) > WIDEST:
             raise NotWords(f"a shift of {inner} bits is wider than the words of the subset")
         if kind == "$shiftx" and (1 << len(by)) - 1 + width > len(pins["A"]):
-            raise NotWords("a part that is selected may lie outside of its word")
+            raise NotWords("a selected part may be outside its word")
         text = f"({self.signal(self.operand(cell, 'A', inner))} {SHIFTS[kind]} {self.signal(by)})"
         if inner == width:
             return text
