@@ -131,7 +131,7 @@ CALLS: List[Call] = [
     Call(f"{COLLAR} vendor --model 'no such.v'", status=2, says="collar: --model: 'no such.v' is no file"),
     Call(f"{COLLAR} vendor --model shown.v", prints="vendor/files.f", says="collar: not tested: ce: whether"),
     Call(f"{COLLAR} open --open", prints="open/s_collar.v\nopen/ram4x1.v\n", says="collar: not tested: ce: whether"),
-    Call(f"{COLLAR} open --open --through apb", status=2, says="collar: --open and --through exclude one another"),
+    Call(f"{COLLAR} open --open --through apb", status=2, says="collar: use --open or --through, not both"),
     Call(
         "tools/collar s.mem --macro clash.pins none",
         status=2,

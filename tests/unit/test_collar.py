@@ -89,14 +89,14 @@ class Lines(unittest.TestCase):
         self.assertEqual(self.refusal([*PINS, *PORT[:3]]), ": no line for port we or port write")
 
     def test_what_is_twice(self) -> None:
-        self.assertIn(":8: 'addr' stands once, and line 5 has it; of a macro", self.refusal([*PINS, "addr b"]))
-        self.assertIn(":8: the pin 'a' stands twice: line 5 has it", self.refusal([*PINS, "open a"]))
-        self.assertIn(":8: 'raddr' stands in place of 'addr'", self.refusal([*PINS, "raddr r", "waddr w"]))
+        self.assertIn(":8: 'addr' may stand in one line only, and line 5 has it; a macro", self.refusal([*PINS, "addr b"]))
+        self.assertIn(":8: two lines name the pin 'a': line 5 has it", self.refusal([*PINS, "open a"]))
+        self.assertIn(":8: 'raddr' replaces 'addr'", self.refusal([*PINS, "raddr r", "waddr w"]))
 
     def test_parameters(self) -> None:
         self.assertEqual(read([*PINS, "parameter P 1", "parameter Q 1"]).parameters, [("P", "1"), ("Q", "1")])
-        self.assertIn(": the parameter 'P' stands twice", self.refusal([*PINS, "parameter P 1", "parameter P 2"]))
-        self.assertIn(":5: 'a' is a parameter too", self.refusal([*PINS, "parameter a 1"]))
+        self.assertIn(": two lines name the parameter 'P'", self.refusal([*PINS, "parameter P 1", "parameter P 2"]))
+        self.assertIn(":5: 'a' is also a parameter", self.refusal([*PINS, "parameter a 1"]))
 
     def test_too_many(self) -> None:
         for line in ("parameter p{} 1", "mask p{} 1", "pins p{} 0 1023"):

@@ -63,7 +63,7 @@ class Libraries(unittest.TestCase):
         self.assertEqual(told, "l.lib:5: word_width is 8, and 'd' on line 9 has 4 bits")
 
     def test_what_is_no_ram(self) -> None:
-        self.assertEqual(self.refusal("type : ram", "type : rom"), "l.lib:5: the memory is a 'rom', and no ram")
+        self.assertEqual(self.refusal("type : ram", "type : rom"), "l.lib:5: the memory is a 'rom', not a ram")
 
     def test_two_of_one_name(self) -> None:
         more = "cell(other) { ff(IQ)"
@@ -71,18 +71,18 @@ class Libraries(unittest.TestCase):
         self.assertEqual(told, "l.lib:3: the type 'word' has 8 bits by line 2, and 9 here")
         memory_cell("l.lib", CELL.replace(more, f"type(word) {{ bit_width : 8; }} {more}"), "ram")
         self.assertIn("has a bit_width of 8, and bits from 6 to 0", self.refusal("bit_from : 7", "bit_from : 6"))
-        self.assertIn("'csb' stands twice; line 14 has it", self.refusal("pin(cen)", "pin(csb)"))
+        self.assertIn("line 14 already has the pin 'csb'", self.refusal("pin(cen)", "pin(csb)"))
         self.assertIn(
             "word_width is 8 by line 5, and 9 here", self.refusal("word_width : 8;", "word_width : 8; word_width : 9;")
         )
         self.assertIn(
-            "a second group memory(); the first stands on line 5",
+            "a second group memory(); the first is on line 5",
             self.refusal("bus(q)", "memory() { type : ram; } bus(q)"),
         )
 
     def test_an_address_that_is_no_pin(self) -> None:
         told = self.refusal("memory_write() { address : a;", "memory_write() { address : b;")
-        self.assertEqual(told, "l.lib:9: the address of 'd' is 'b', which is no pin")
+        self.assertEqual(told, "l.lib:9: the address of 'd' is 'b', which is not a pin")
 
     def test_names_alone_wait(self) -> None:
         for name in ("me", "mea", "meb", "MEA"):

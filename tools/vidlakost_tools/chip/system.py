@@ -199,7 +199,7 @@ def give_collars(system: System, files: list[str]) -> None:
     for placed in system.collars:
         first = placed.parts[0].unit.elements
         if any([one.text for one in part.unit.elements] != [one.text for one in first] for part in placed.parts):
-            raise ToolError(f"{placed.macro.path}: its two parts have different marches, and both go in step")
+            raise ToolError(f"{placed.macro.path}: its two parts have different marches, but the two run in step")
 
 
 # ---- the chip files of a list

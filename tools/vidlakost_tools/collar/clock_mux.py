@@ -50,7 +50,7 @@ def clock_mux(text: str) -> ClockMux:
     names = text.split(":")
     is_plain = all(is_name(name) and name not in RESERVED for name in names)
     if len(names) != 5 or len(set(names)) != 5 or not is_plain:
-        raise ToolError(f"--clock-mux is {FORM}, five names, and not {shown(text)}")
+        raise ToolError(f"--clock-mux is {FORM}, five names, not {shown(text)}")
     return ClockMux(*names)
 
 

@@ -122,7 +122,7 @@ class Reader:
             elif self.peek() == "(":
                 self.statement(group, name, depth)
             else:
-                raise self.fail(f"'{name[:40]}' is no attribute and no group")
+                raise self.fail(f"'{name[:40]}' is neither an attribute nor a group")
         self.take("}")
 
     def say(self, group: Group, name: str, line: int) -> None:
@@ -231,13 +231,13 @@ def memory_of(path: str, text: str, cell: str) -> tuple[Group, Group, Group]:
     if not cells:
         raise ToolError(f"{path}: there is no cell '{cell}'")
     if len(cells) > 1:
-        raise ToolError(f"{path}: the cell {cell} stands {len(cells)} times")
+        raise ToolError(f"{path}: there are {len(cells)} cells {cell}")
     memories = list(cells[0].of("memory"))
     if not memories:
         raise ToolError(f"{path}: the cell {cell} has no group memory()")
     if len(memories) > 1:
         raise ToolError(
-            f"{path}:{memories[1].line}: a second group memory(); the first stands on line {memories[0].line}"
+            f"{path}:{memories[1].line}: a second group memory(); the first is on line {memories[0].line}"
         )
     return library, cells[0], memories[0]
 
@@ -246,14 +246,14 @@ def refuse_memory(path: str, memory: Group, groups: list[Group], pins: list[Foun
     """Refuses what is no memory that is written, and what contradicts itself: the widths of the memory and of its
     buses, and addresses that are no pins."""
     if memory.said.get("type", "ram") != "ram":
-        raise ToolError(f"{path}:{memory.lines['type']}: the memory is a {shown(memory.said['type'])}, and no ram")
+        raise ToolError(f"{path}:{memory.lines['type']}: the memory is a {shown(memory.said['type'])}, not a ram")
     lines = {group.name: group.line for group in groups}
     widths = {pin.name: pin.width for pin in pins}
     for pin in pins:
         for address in {pin.writes_at, pin.reads_at} - {""}:
             if address not in widths:
                 raise ToolError(
-                    f"{path}:{lines[pin.name]}: the address of {shown(pin.name)} is {shown(address)}, which is no pin"
+                    f"{path}:{lines[pin.name]}: the address of {shown(pin.name)} is {shown(address)}, which is not a pin"
                 )
             refuse_width(path, memory, "address_width", address, widths[address], lines[address])
         if pin.writes_at or pin.reads_at:
@@ -277,12 +277,12 @@ def memory_cell(path: str, text: str, cell: str) -> tuple[int, int, list[Found]]
     first: dict[str, int] = {}
     for one in groups:
         if one.name in first:
-            raise ToolError(f"{path}:{one.line}: the pin {shown(one.name)} stands twice; line {first[one.name]} has it")
+            raise ToolError(f"{path}:{one.line}: line {first[one.name]} already has the pin {shown(one.name)}")
         first[one.name] = one.line
     pins = [pin_of(one, types) for one in groups]
     address, word = number(memory.said.get("address_width", "")), number(memory.said.get("word_width", ""))
     if not 1 <= address <= 16 or not 1 <= word <= WIDEST:
-        told = f"has an address of {address} bits and a word of {word}, which no description has"
+        told = f"has an address of {address} bits and a word of {word}; no description can have these"
         raise ToolError(f"{path}: the cell {cell} {told}")
     refuse_memory(path, memory, groups, pins)
     return address, word, pins

@@ -62,7 +62,7 @@ def own_ports(macro: Macro, word: Word, kind: str) -> list[Port]:
         ]
     if kind != "open":
         if len(word.memories) > 1 or macro.masks or macro.has_second:
-            raise macro.refuse(0, "--through is of one memory, without masks and port")
+            raise macro.refuse(0, "--through is for one memory without masks and port")
         return [Port("input", "clk"), *scan, *collar_bus.bus_of(Target.of_memory(word.first, None), kind)]
     found = [Port("input", "clk"), Port("input", "test"), *scan]
     found += [Port("input", "second")] if macro.has_second else []
@@ -91,13 +91,13 @@ def refuse_names(macro: Macro, word: Word, own: list[Port]) -> None:
     for pin in macro.of("tie"):
         if literal(pin.value) is None and pin.value not in inputs:
             told = "a literal with its size, as 2'b01, or the name of an input of the collar"
-            raise macro.refuse(pin.line, f"what an input is tied to is {told}, and not '{pin.value}'")
+            raise macro.refuse(pin.line, f"an input is tied to {told}, and not '{pin.value}'")
     made = [f"{memory.name}_bist" for memory in word.memories]
     made += [f"{word.name}_{what}" for what in ("collar", "collar_tb", "lanes", "access", "apb", "tap", "cross")]
     if macro.clock_cell and macro.clock_cell.cell.lower() in [name.lower() for name in [*made, macro.name]]:
-        raise macro.refuse(0, f"'{macro.clock_cell.cell}' is a module that stands beside the macro, so it is no cell")
+        raise macro.refuse(0, f"'{macro.clock_cell.cell}' is a module beside the macro, so it can't be a cell")
     if macro.name.lower() in [name.lower() for name in made]:
-        raise macro.refuse(macro.name_line, f"'{macro.name}' is a module that stands beside the macro")
+        raise macro.refuse(macro.name_line, f"'{macro.name}' is a module beside the macro")
 
 
 def planted_names() -> set[str]:

@@ -85,12 +85,12 @@ class Lines:
         if kind not in FORMS:
             raise self.macro.refuse(line, f"there is no line {shown(kind)} here")
         if second and kind not in OF_PORT:
-            raise self.macro.refuse(line, f"of the other port a line tells one of {', '.join(OF_PORT)}")
+            raise self.macro.refuse(line, f"a line of the other port begins with one of {', '.join(OF_PORT)}")
         told = f"{'port ' if second else ''}{kind}"
         if (kind in ONCE or kind == "registers") and self.once(told, rest) in self.seen:
-            more = "; of a macro with an address for each way, raddr and waddr" if kind == "addr" else ""
+            more = "; a macro with an address for reads and one for writes has raddr and waddr" if kind == "addr" else ""
             raise self.macro.refuse(
-                line, f"'{told}' stands once, and line {self.seen[self.once(told, rest)]} has it{more}"
+                line, f"'{told}' may stand in one line only, and line {self.seen[self.once(told, rest)]} has it{more}"
             )
         self.seen[self.once(told, rest)] = line
         if not self.taken(line, kind, rest, second):
@@ -131,7 +131,7 @@ class Lines:
         if not is_name(name):
             why = "has letters, digits and _ alone, no digit first, and at most 64 of them"
             raise self.macro.refuse(
-                line, f"the name of a pin is missing, or is none: a name {why}, and this is {shown(name)}"
+                line, f"the name of a pin is missing or wrong: a name {why}, and this is {shown(name)}"
             )
         if name in RESERVED:
             raise self.macro.refuse(line, f"'{name}' is a reserved word of Verilog or SystemVerilog")
@@ -149,7 +149,7 @@ class Lines:
             return False
         low, high = map(int, rest)
         if name in self.buses or low > high or high - low >= WIDEST:
-            raise self.macro.refuse(line, "a bus is told once, from its lowest bit to its highest")
+            raise self.macro.refuse(line, "a bus has one line, from its lowest bit to its highest")
         self.buses[name] = line, [f"{name}{bit}" for bit in range(low, high + 1)]
         return True
 
@@ -194,10 +194,10 @@ class Lines:
                 line, pin.bits = self.buses.pop(pin.name)
                 if pin.kind in ("tie", "open", "clock2", "power", "clk", "read", "write"):
                     raise self.macro.refuse(
-                        pin.line, f"{pin.name} is a bus by line {line}: tell each of its pins by itself"
+                        pin.line, f"{pin.name} is a bus by line {line}: give each of its pins a line"
                     )
         for name, (line, _) in self.buses.items():
-            raise self.macro.refuse(line, f"no line tells what the bus {name} is")
+            raise self.macro.refuse(line, f"no line says what the bus {name} is")
 
 
 def is_value(text: str) -> bool:
@@ -212,7 +212,7 @@ def read_macro(path: str, word: Word) -> Macro:
     odd = next((memory.name for memory in word.memories if "$" in memory.name), None)
     if odd:
         raise macro.refuse(
-            0, f"the memory {odd} has a $ in its name, which lists of files and makefiles read otherwise"
+            0, f"the memory {odd} has a $ in its name, which means something else in lists of files and makefiles"
         )
     refuse_missing(macro)
     refuse_halves(macro, word)
@@ -222,7 +222,7 @@ def read_macro(path: str, word: Word) -> Macro:
     first: dict[str, int] = {}
     for name, pin in names:
         if name in first:
-            raise macro.refuse(pin.line, f"the pin '{name}' stands twice: line {first[name]} has it")
+            raise macro.refuse(pin.line, f"two lines name the pin '{name}': line {first[name]} has it")
         first[name] = pin.line
     refuse_parameters(macro, first)
     return macro
@@ -233,9 +233,9 @@ def refuse_parameters(macro: Macro, pins: dict[str, int]) -> None:
     told: set[str] = set()
     for name, _ in macro.parameters:
         if name in told:
-            raise macro.refuse(0, f"the parameter '{name}' stands twice")
+            raise macro.refuse(0, f"two lines name the parameter '{name}'")
         if name in pins:
-            raise macro.refuse(pins[name], f"'{name}' is a parameter too, and a module has no port of that name then")
+            raise macro.refuse(pins[name], f"'{name}' is also a parameter, so no port can have that name")
         told.add(name)
 
 
@@ -263,14 +263,14 @@ def refuse_missing(macro: Macro) -> None:
         for one, other in (("we", "write"), ("addr", "raddr"), ("addr", "waddr")):
             if macro.has(one, second=second) and macro.has(other, second=second):
                 line = macro.of(other, second=second)[0].line
-                raise macro.refuse(line, f"'{other}' stands in place of '{one}', not beside it")
+                raise macro.refuse(line, f"'{other}' replaces '{one}', so only one of them may be there")
 
 
 def refuse_halves(macro: Macro, word: Word) -> None:
     """The low and the high part are the two memories, and do the same in each cycle."""
     if not macro.halves:
         if len(word.memories) > 1:
-            raise macro.refuse(0, "two memories make one word: the lines low and high tell which part each is")
+            raise macro.refuse(0, "two memories make one word: add the lines low and high, which say which part each is")
         return
     if set(macro.halves) != {"low", "high"}:
         raise macro.refuse(0, f"no line for {'high' if 'low' in macro.halves else 'low'}")
@@ -284,10 +284,10 @@ def refuse_halves(macro: Macro, word: Word) -> None:
     for what in ("words", "latency", "pause", "rows"):
         if getattr(low, what) != getattr(high, what):
             raise macro.refuse(
-                macro.halves["high"][1], f"{high.name} has other {what} than {low.name}, and both go in step"
+                macro.halves["high"][1], f"{high.name} has other {what} than {low.name}, but the two run in step"
             )
     if len(low.backgrounds) != len(high.backgrounds):
-        raise macro.refuse(macro.halves["high"][1], f"{high.name} has another number of backgrounds than {low.name}")
+        raise macro.refuse(macro.halves["high"][1], f"{high.name} does not have as many backgrounds as {low.name}")
 
 
 def give_widths(macro: Macro, word: Word) -> None:
@@ -321,4 +321,4 @@ def refuse_shapes(macro: Macro, word: Word) -> None:
             what = "a mask" if pin.kind == "mask" else f"the lanes of {pin.name}"
             raise macro.refuse(pin.line, f"{what} does not divide the word: {pin.width} parts of {word.bits} bits")
     if macro.masks and not macro.lane_pins():
-        raise macro.refuse(macro.masks, "no pin has lanes that 'masks' could try")
+        raise macro.refuse(macro.masks, "'masks' needs a pin with lanes")

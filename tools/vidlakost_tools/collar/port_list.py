@@ -34,7 +34,7 @@ class Ports:
         if not starts:
             raise ToolError(f"{path}: there is no module {module}")
         if len(starts) > 1:
-            raise ToolError(f"{path}: the module {module} stands twice")
+            raise ToolError(f"{path}: the module {module} is defined twice")
         self.here = starts[0] + 2
         self.end = next(
             (at for at in range(self.here, len(self.words)) if self.words[at] == "endmodule"), len(self.words)

@@ -12,7 +12,7 @@ FURTHER = {
     "open": "left open",
     "out": "the chip's",
     "pass": "the chip's",
-    "clock2": "a further clock, of which the model knows nothing",
+    "clock2": "a further clock, which the model ignores",
     "power": "a supply",
 }
 

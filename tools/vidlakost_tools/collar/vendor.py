@@ -20,7 +20,7 @@ TOKEN = re.compile(rf"(?P<skip>{SKIPPED})|(?P<name>\\\S+|[A-Za-z_][\w$]*)", re.D
 def named(path: str) -> str:
     """A file of the vendor's as a list of files can have it: a whole path, without what a list would read otherwise."""
     if not pathlib.Path(path).is_file():
-        raise ToolError(f"--model: {shown(path)} is no file")
+        raise ToolError(f"--model: {shown(path)} is not a file")
     whole = str(pathlib.Path(path).resolve())
     if not re.fullmatch(r"/[A-Za-z0-9_./+@-]+", whole):
         raise ToolError(

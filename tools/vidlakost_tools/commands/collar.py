@@ -76,7 +76,7 @@ def kind_of(options: dict[str, str]) -> str:
     if "--through" not in options:
         return "open" if "--open" in options else "bist"
     if "--open" in options:
-        raise ToolError("--open and --through exclude one another")
+        raise ToolError("use --open or --through, not both")
     if options["--through"] not in KINDS:
         raise ToolError(f"--through is one of {', '.join(KINDS)}, and not {shown(options['--through'])}")
     return KINDS[options["--through"]]
@@ -105,7 +105,7 @@ def main(arguments: list[str]) -> int:
     )
     *memory_files, folder = words
     if "--macro" not in options:
-        raise ToolError(f"--macro names the file of the pins\n{usage_of(__doc__)}")
+        raise ToolError(f"name the file of the pins with --macro\n{usage_of(__doc__)}")
     kind, word = kind_of(options), Word([read_memory(path) for path in memory_files])
     macro = read_macro(options["--macro"], word)
     has_choice = bool(chosen_clocks(macro))
@@ -127,7 +127,7 @@ def main(arguments: list[str]) -> int:
     path = out / f"{macro.name}.v"
     if vendor is None and path.exists() and not is_own(path):
         refuse_other_ports(macro, str(path))
-        tell(f"collar: {path} is there and was not written by this tool, so it stays")
+        tell(f"collar: {path} exists and this tool did not write it, so it stays")
         refuse_strangers(out, list(texts)[:-1])
         del texts[path.name]
     write_own(out, texts, [*memory_files, options["--macro"], *([vendor] if vendor else [])])

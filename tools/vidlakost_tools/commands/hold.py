@@ -29,7 +29,7 @@ def main(arguments: list[str]) -> int:
     elements, memory = march_of(march)[1], read_memory(path)
     holds = hold_text.holds_of(elements, memory)
     if not holds:
-        raise ToolError(f"{march}: the march has no pause, so there is nothing to hold")
+        raise ToolError(f"{march}: the march has no pause, so nothing can be held")
     texts = {
         f"{memory.name}_hold.v": hold_text.text(elements, memory, holds),
         f"{memory.name}_hold.md": hold_text.table(elements, memory, holds),

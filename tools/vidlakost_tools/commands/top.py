@@ -89,7 +89,7 @@ def models(system: System, given: Mapping[str, str], folder: pathlib.Path) -> di
         found[macro.name] = text, macro.path
     kept = [name for name in found if (folder / f"{name}.v").exists() and not is_own(folder / f"{name}.v")]
     for name in kept:
-        tell(f"top: {folder / name}.v is there and was not written by this tool, so it stays")
+        tell(f"top: {folder / name}.v exists and this tool did not write it, so it stays")
     texts = {f"{name}.v": text for name, (text, _) in found.items() if name not in kept}
     for cell in {
         placed.macro.clock_cell.cell: placed.macro.clock_cell for placed in system.collars if placed.macro.clock_cell
