@@ -88,7 +88,7 @@ class Place:
                 return Outcome.RUN
             if not self.is_linted(folder, power):
                 return Outcome.LINT
-            if self.is_same(damage, folder):
+            if self.is_same(damage, folder, []) or self.is_same(damage, folder, ["flatten"]):
                 return Outcome.PROVED
         return Outcome.REASON if reason_of(self.told(damage)) else Outcome.UNTOLD
 
@@ -98,14 +98,14 @@ class Place:
         lint = ["verilator", "--lint-only", "-Wall", "-Wno-DECLFILENAME", "-Wno-TIMESCALEMOD", *power]
         return called([*lint, "--top-module", self.top, *files], folder)
 
-    def is_same(self, damage: Damage, folder: pathlib.Path) -> bool:
-        """Whether Yosys proves that the module does what it did, whatever stands round it."""
+    def is_same(self, damage: Damage, folder: pathlib.Path, passes: List[str]) -> bool:
+        """Whether Yosys proves, after these passes, that the module does what it did, whatever stands round it."""
         others = " ".join(f"{self.folder / path.name}" for path in self.modules() if path.name != damage.file)
         lines = []
         for side, source in (("gold", self.folder / damage.file), ("gate", folder / damage.file)):
             read = f"read_verilog -D{POWER}" if damage.is_power else "read_verilog"
             lines += [f"{read} -lib {others}", f"{read} {source}", f"hierarchy -top {damage.module}"]
-            lines += ["proc", "opt_clean", f"select {damage.module}", "expose -evert", "select -clear"]
+            lines += ["proc", *passes, "opt_clean", f"select {damage.module}", "expose -evert", "select -clear"]
             lines += [f"rename {damage.module} {side}"]
             lines += [f"design -stash {side}"]
         lines += [f"design -copy-from {side} -as {side} {side}" for side in ("gold", "gate")]

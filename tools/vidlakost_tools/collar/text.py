@@ -272,7 +272,9 @@ class Collar(Nets):
         phase, kept = self.names.of("phase"), self.names.of("kept")
         bad = [kept, self.net("run_fail"), *([self.net("lanes_fail")] if macro.masks else [])]
         if macro.masks:
-            self.lines.append(f"  assign {self.net('lanes_go')} = test & {phase}[0] & {phase} != 3'd{last};")
+            # the lanes have the odd phases, and the last phase may be one
+            more = f" & {phase} != 3'd{last}" if last % 2 else ""
+            self.lines.append(f"  assign {self.net('lanes_go')} = test & {phase}[0]{more};")
         if macro.has_second:
             self.lines.append(f"  assign {self.second()} = test & {phase} >= 3'd2;")
         behind = self.net("lanes_over") if macro.masks else "1'b1"
