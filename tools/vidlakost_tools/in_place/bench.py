@@ -61,9 +61,11 @@ class PlaceBench(Bench):
 
     def faults(self) -> str:
         places = some_of(self.word.name, self.bits)
-        words = [sum((bit >> place & 1) << bit for bit in range(CYCLE)) for place in range(5)]
-        begins = [0, *words, *((1 << CYCLE) - 1 - word for word in words)]
-        pairs = [(places[at % len(places)], begin) for at, begin in enumerate(begins)]
-        lines = [f"  first_failure(7'd{place}, 32'h{begin:x});" for place, begin in pairs]
+        lines = [f"  first_failure(7'd{places[0]}, 32'h0, 0);"]
+        for count in range(5):
+            # each two bits differ in one of these words, and in its inverse, which comes a cycle later
+            word = sum((bit >> count & 1) << bit for bit in range(CYCLE))
+            for begin, later in ((word, 0), ((1 << CYCLE) - 1 - word, 1)):
+                lines.append(f"  first_failure(7'd{places[count % len(places)]}, 32'h{begin:x}, {later});")
         lines.append(f'  $display("{self.word.name}: the first failure is read");')
         return "\n".join([super().faults(), f"`ifndef {GATES}", *map(indented, map(indented, lines)), "`endif"])
