@@ -41,9 +41,9 @@ class Grammar(WithoutProgram):
                 Row("module ‸1", "L1 byte 7", "'1' can't stand here"),
                 Row("‸modul m(input clk);", "L1 byte 5", "'modul' can't stand here; did you mean 'module'?"),
                 Row(
-                    f"{HEAD}  ‸asign y = a;",
-                    f"L1 byte {len(HEAD) + 3}",
-                    "'asign' can't stand here; did you mean 'assign'?",
+                    f"{HEAD}  ‸assigm y = a;",
+                    f"L1 byte {len(HEAD) + 7}",
+                    "'assigm' can't stand here; did you mean 'assign'?",
                 ),
                 Row(" \n", "L2", "the file is empty"),
                 Row(f"{HEAD}assign y =‸ \n", "L2", "the module stops here, and is not whole"),

@@ -274,7 +274,7 @@ class Chips(WithoutProgram):
                 Row("# nothing\n", "C2", "no line of the chip file says anything"),
                 Row("chip‸", "C2", "the last line stops here, and is not whole"),
                 Row("‸name c\n", "C1 line 1 byte 0", "the first line that says anything has to be 'chip 1'"),
-                Row("chip 1\n‸nmae c\n", "C1 line 2 byte 1", "'nmae' can't stand here; did you mean 'name'?"),
+                Row("chip 1\n‸namw c\n", "C1 line 2 byte 3", "'namw' can't stand here; did you mean 'name'?"),
                 Row("chip ‸2\n", "C7", "there is no version 2: write 'chip 1'"),
             ],
         )
@@ -360,7 +360,7 @@ class Places(unittest.TestCase):
         self.assertEqual(caret(text, at), ["  ⇕(w0)", "    ^"])
 
     def test_line_is_shown_around_its_place(self) -> None:
-        text, at = split(f"{'a' * 100}\x1b‸b\tc\r\nd")
+        text, at = split(f"{'a' * 100}\x1b‸b\tc\r\nx")
         assert at is not None
         shown, under = caret(text, at)
         self.assertEqual(shown, f"  {'a' * 59}?b c")
