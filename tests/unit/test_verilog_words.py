@@ -117,7 +117,11 @@ class Words(unittest.TestCase):
                     self.assertEqual(found[f"y{count}"], word.of(a, b) & (1 << word.width) - 1)
 
     def test_values(self) -> None:
-        self.agree(plain_of(source(WORDS)), WORDS)
+        """What is rare becomes gates, and the other operators stay."""
+        words = [word for word in WORDS if "wide +" not in word.text]
+        plain = plain_of(source(words), front_end.TRIES[1:2])
+        self.agree(plain, words)
+        self.assertEqual({1, 4, 5} - {wire.width for wire in plain.wires}, set())
 
     def test_values_of_words_alone(self) -> None:
         """What has an operator in the subset stays a word of as many bits."""
@@ -141,9 +145,10 @@ class Opens(unittest.TestCase):
         return values(plain_of(module), **inputs)["y"]
 
     def test_division_by_0(self) -> None:
-        self.assertEqual(self.value("a / b == 4'd2", a=8, b=4), 1)
-        self.assertIsNone(self.value("a / b == 4'd2", a=8, b=0))
-        self.assertIsNone(self.value("a % b == 4'd2", a=8, b=0))
+        module = "module m(input [1:0] a, input [1:0] b, output [1:0] y);\n  assign y = {};\nendmodule\n"
+        divided, rest = (plain_of(module.format(text)) for text in ("a / b", "a % b"))
+        self.assertEqual([values(plain, a=3, b=2)["y"] for plain in (divided, rest)], [1, 1])
+        self.assertEqual([values(plain, a=3, b=0)["y"] for plain in (divided, rest)], [None, None])
 
     def test_bit_beyond_its_word(self) -> None:
         self.assertEqual(self.value("a[b]", a=8, b=3), 1)
