@@ -1,0 +1,105 @@
+"""A stand-in for the program: it takes right texts alone, and answers as FORMATS has it from the tools' own readers."""
+from __future__ import annotations
+
+import contextlib
+import importlib
+import io
+import pathlib
+import subprocess
+import tempfile
+import unittest
+from typing import Any, Sequence
+from unittest import mock
+
+from vidlakost_tools import program
+from vidlakost_tools.text import read_text, statements
+from vidlakost_tools.texts.chip import units_of
+from vidlakost_tools.texts.march import elements_of
+from vidlakost_tools.texts.memory import Memory, parse_memory
+from vidlakost_tools.verilog import open_run
+
+
+def printed_march(file: str) -> str:
+    elements = elements_of(read_text(file))
+    texts = ["del" if it.is_pause else f"{it.order}({','.join(it.operations)})" for it in elements]
+    return "{" + ";".join(texts) + "}"
+
+
+def printed_memory(memory: Memory) -> str:
+    """The printed form of a memory, of version 2 where version 1 has no line for what it says."""
+    values = {"latency": memory.latency, "polarity": memory.digits(memory.polarity), "pause": memory.pause}
+    is_plain = (memory.latency, memory.polarity, memory.pause) == (1, 0, 1)
+    lines = [f"memory {1 if is_plain else 2}", f"name {memory.name}", f"words {memory.words}", f"bits {memory.bits}"]
+    lines += [] if is_plain else [f"{word} {value}" for word, value in values.items()]
+    for row, (bits, constant) in enumerate(memory.rows or []):
+        terms = [*(f"p{bit}" for bit in bits), *(["1"] if constant or not bits else [])]
+        lines.append(f"scramble a{row} = {' ^ '.join(terms)}")
+    return "\n".join([*lines, f"backgrounds {' '.join(map(memory.digits, memory.backgrounds))}"])
+
+
+def printed_chip(file: str) -> str:
+    said = statements(read_text(file))
+    values = {word: rest for _, word, rest in said}
+    units = [f"unit {weight} {march} {memory}" for _, weight, march, memory in units_of(said)]
+    return "\n".join(["chip 1", f"name {values['name']}", f"budget {values['budget']}", *units])
+
+
+def vectors(march: str, memory_file: str, out: str) -> str:
+    """Writes the commands of a test, a line each."""
+    memory = parse_memory(read_text(memory_file))
+    commands = [it for it in open_run.commands_of(elements_of(read_text(march)), memory) if it]
+    lines = [f"{'w' if writes else 'r'} {address} {memory.digits(word)}" for writes, address, word in commands]
+    pathlib.Path(out).write_text("\n".join([*lines, ""]))
+    return f"commands {len(lines)}"
+
+
+def answer(command: str, *words: str) -> tuple[int, str]:
+    """The status and the line of a call."""
+    if command == "show":
+        kind, file = words
+        shown = {"march": printed_march, "memory": lambda path: printed_memory(parse_memory(read_text(path)))}
+        return 0, {**shown, "chip": printed_chip}[kind](file)
+    if command == "vectors":
+        return 0, vectors(*words)
+    if command == "check":
+        line = open_run.told(*words)
+        return int(not line.startswith("conforms ")), line
+    if command == "chip":
+        pathlib.Path(words[1]).write_text("")
+        return 0, "chip"
+    raise AssertionError(f"the stand-in has no command {command}")
+
+
+class Calls:
+    """Stands for `subprocess` where the program is called."""
+
+    PIPE, DEVNULL, TimeoutExpired = subprocess.PIPE, subprocess.DEVNULL, subprocess.TimeoutExpired
+
+    def run(self, words: Sequence[Any], **_: Any) -> subprocess.CompletedProcess[bytes]:
+        status, said = answer(*map(str, words[1:]))
+        return subprocess.CompletedProcess(words, status, f"{said}\n".encode())
+
+
+class Tools(unittest.TestCase):
+    """Calls of tools beside the stand-in, in a folder of their own; `@` in a word is the folder's name."""
+
+    def setUp(self) -> None:
+        folder = tempfile.TemporaryDirectory()
+        self.addCleanup(folder.cleanup)
+        self.folder = pathlib.Path(folder.name)
+        patch = mock.patch.object(program, "subprocess", Calls())
+        patch.start()
+        self.addCleanup(patch.stop)
+
+    def put(self, **texts: str) -> None:
+        """Writes some texts; `_` in a name stands for a full stop."""
+        for name, text in texts.items():
+            (self.folder / name.replace("_", ".")).write_text(text)
+
+    def tool(self, name: str, *words: str) -> tuple[int, list[str]]:
+        """The status of a tool and its lines."""
+        out = io.StringIO()
+        main = importlib.import_module(f"vidlakost_tools.commands.{name}").main
+        with contextlib.redirect_stdout(out), contextlib.redirect_stderr(io.StringIO()):
+            status = main([word.replace("@", str(self.folder)) for word in words])
+        return status or 0, out.getvalue().replace(str(self.folder), "@").splitlines()
