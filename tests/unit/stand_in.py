@@ -53,31 +53,39 @@ def vectors(march: str, memory_file: str, out: str) -> str:
     return f"commands {len(lines)}"
 
 
-def answer(command: str, *words: str) -> tuple[int, str]:
-    """The status and the line of a call."""
-    if command == "show":
-        kind, file = words
-        shown = {"march": printed_march, "memory": lambda path: printed_memory(parse_memory(read_text(path)))}
-        return 0, {**shown, "chip": printed_chip}[kind](file)
-    if command == "vectors":
-        return 0, vectors(*words)
-    if command == "check":
-        line = open_run.told(*words)
-        return int(not line.startswith("conforms ")), line
-    if command == "chip":
-        pathlib.Path(words[1]).write_text("")
-        return 0, "chip"
-    raise AssertionError(f"the stand-in has no command {command}")
-
-
 class Calls:
-    """Stands for `subprocess` where the program is called."""
+    """Stands for `subprocess` where the program is called; the modules that it writes are told by a test."""
 
     PIPE, DEVNULL, TimeoutExpired = subprocess.PIPE, subprocess.DEVNULL, subprocess.TimeoutExpired
 
+    def __init__(self) -> None:
+        # of a memory the module of its self-test, and of all chips theirs
+        self.modules: dict[str, str] = {}
+        self.chip = ""
+
     def run(self, words: Sequence[Any], **_: Any) -> subprocess.CompletedProcess[bytes]:
-        status, said = answer(*map(str, words[1:]))
+        status, said = self.answer(*map(str, words[1:]))
         return subprocess.CompletedProcess(words, status, f"{said}\n".encode())
+
+    def answer(self, command: str, *words: str) -> tuple[int, str]:
+        """The status and the line of a call."""
+        if command == "show":
+            kind, file = words
+            shown = {"march": printed_march, "memory": lambda path: printed_memory(parse_memory(read_text(path)))}
+            return 0, {**shown, "chip": printed_chip}[kind](file)
+        if command == "vectors":
+            return 0, vectors(*words)
+        if command == "check":
+            line = open_run.told(*words)
+            return int(not line.startswith("conforms ")), line
+        if command == "chip":
+            pathlib.Path(words[1]).write_text(self.chip)
+            return 0, "chip"
+        if command == "compile":
+            memory = parse_memory(read_text(words[1]))
+            pathlib.Path(words[3]).write_text(self.modules[memory.name])
+            return 0, "compile"
+        raise AssertionError(f"the stand-in has no command {command}")
 
 
 class Tools(unittest.TestCase):
@@ -87,7 +95,8 @@ class Tools(unittest.TestCase):
         folder = tempfile.TemporaryDirectory()
         self.addCleanup(folder.cleanup)
         self.folder = pathlib.Path(folder.name)
-        patch = mock.patch.object(program, "subprocess", Calls())
+        self.calls = Calls()
+        patch = mock.patch.object(program, "subprocess", self.calls)
         patch.start()
         self.addCleanup(patch.stop)
 
