@@ -61,7 +61,8 @@ module {name}_places_tb;
       end
       to_probe = {to_width}'d0;
       of_probe = {of_width}'d0;
-      #1 is_probed = 1'b0;
+      // at an edge of a clock a bit of a bundle may have begun a test, which ends before it is looked at
+      #{settle} is_probed = 1'b0;
     end
   endtask
 {watched}{tasks}
