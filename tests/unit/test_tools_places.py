@@ -1,0 +1,139 @@
+"""A board whose two memories stay in their places: the testbench of its bundles in Icarus, and the proof of its use."""
+from __future__ import annotations
+
+import subprocess
+import unittest
+
+from tests.unit.controllers import needs
+from tests.unit.test_tools_chips import NAMES, Chips
+from vidlakost_tools.tool import ToolError
+
+USE = "input [1:0] a, input [1:0] d, input ce, input [1:0] wen"
+LINKS = ".a(a), .d(d), .ce(ce), .wen(wen)"
+# the memory `four` stands in a part, and `other` in the top
+BEFORE = f"""module core(input clk, {USE}, output [1:0] q);
+  ram_four bank(.ck(clk), {LINKS}, .q(q));
+endmodule
+module board(input clk, {USE}, output [1:0] q, output reg [1:0] sum);
+  wire [1:0] p;
+  core one(.clk(clk), {LINKS}, .q(q));
+  ram_other two(.ck(clk), {LINKS}, .q(p));
+  always @(posedge clk) sum <= sum ^ p;
+endmodule
+"""
+AFTER = f"""module core(input clk, {USE}, output [1:0] q, input [1:0] to, output [2:0] of);
+  four_in_place bank(.ck(clk), {LINKS}, .q(q), .bist_in(to), .bist_out(of));
+endmodule
+module board(input clk, {USE}, output [1:0] q, output reg [1:0] sum,
+  input start, output done, output [1:0] fail);
+  wire [1:0] p, to_0, to_1;
+  wire [2:0] of_0, of_1;
+  core one(.clk(clk), {LINKS}, .q(q), .to(to_0), .of(of_0));
+  other_in_place two(.ck(clk), {LINKS}, .q(p), .bist_in(to_1), .bist_out(of_1));
+  always @(posedge clk) sum <= sum ^ p;
+  wire test, seen, unit;
+  wire [31:0] cycle;
+  wire [1:0] expected, returned;
+  soc_access tested(.clk(clk), .start(start), .ignore(2'd0), .to_0(to_0), .of_0(of_0), .to_1(to_1), .of_1(of_1),
+    .test(test), .done(done), .fail(fail), .seen(seen), .cycle(cycle), .expected(expected), .returned(returned),
+    .unit(unit));
+endmodule
+"""
+PLACES = """# where the memories of the board stand
+places 1
+chip board
+source @/after.v
+at four one.bank
+at other two
+access tested
+clock clk 10
+start start
+done done
+fail fail
+"""
+
+
+class Placed(Chips):
+    def setUp(self) -> None:
+        super().setUp()
+        (self.folder / "before.v").write_text(BEFORE)
+        (self.folder / "after.v").write_text(AFTER)
+
+    def places(self, text: str = PLACES, after: str = AFTER) -> tuple[int, list[str]]:
+        """What the tool says of a text of places, and its status."""
+        (self.folder / "after.v").write_text(after)
+        (self.folder / "board.places").write_text(text.replace("@", str(self.folder)))
+        self.write("top", "--in-place")
+        return self.tool("places", "@/board.places", "@/soc.chip", *(f"@/{name}.pins" for name in NAMES), "@/out")
+
+
+@needs("iverilog", "vvp")
+class Runs(Placed):
+    def test_bundles_and_the_test(self) -> None:
+        """Word 0 is read in cycle 5 of a memory's own test, and comes in cycle 6."""
+        status, files = self.places()
+        self.assertEqual((status, files), (0, ["@/out/soc_places_tb.sv", "@/out/soc_places.f"]))
+        said = self.said("soc_places_tb", "soc_places.f")
+        self.assertEqual(said[-1], "soc_places_tb: passed")
+        self.assertIn("soc: passes once more", said)
+        for name in NAMES:
+            said = self.said("soc_places_tb", "soc_places.f", f"+planted={name}")
+            self.assertTrue(any(f"{name} is found, first in cycle 6" in line for line in said), said)
+            self.assertEqual(said[-1], "soc_places_tb: passed")
+
+    def test_bundles_that_changed_places(self) -> None:
+        """Each test passes still, but the bits of a bundle are another memory's."""
+        bundles = ".to_0(to_{0}), .of_0(of_{0}), .to_1(to_{1}), .of_1(of_{1})"
+        crossed = AFTER.replace(bundles.format(0, 1), bundles.format(1, 0))
+        self.assertNotEqual(crossed, AFTER)
+        self.places(after=crossed)
+        made = ["iverilog", "-g2012", "-s", "soc_places_tb", "-o", "run", "-c", "soc_places.f"]
+        subprocess.run(made, cwd=self.folder / "out", check=True, capture_output=True)
+        call = ["vvp", "-n", "run"]
+        done = subprocess.run(call, cwd=self.folder / "out", stdout=subprocess.PIPE, text=True, check=False)
+        self.assertNotIn("soc_places_tb: passed", done.stdout)
+
+
+@needs("yosys")
+class Proofs(Placed):
+    PROVED = PLACES + "before @/before.v\n"
+
+    def differences(self, old: str = "", new: str = "") -> tuple[int, list[str]]:
+        """The status, and what the proof tells, where a text of the board is another."""
+        self.assertIn(old, AFTER)
+        status, lines = self.places(self.PROVED, AFTER.replace(old, new) if old else AFTER)
+        return status, [line for line in lines if "not what it was" in line]
+
+    def test_use_is_what_it_was(self) -> None:
+        self.assertEqual(self.differences(), (0, []))
+
+    def test_use_is_another(self) -> None:
+        turned = LINKS.replace(".d(d)", ".d({d[0], d[1]})")
+        swapped = self.differences(f"two(.ck(clk), {LINKS}", f"two(.ck(clk), {turned}")
+        self.assertEqual(swapped, (1, [f"soc: in use d[{bit}] of other is not what it was" for bit in (1, 0)]))
+        status, lines = self.differences("sum <= sum ^ p", "sum <= sum ^ ~p")
+        self.assertEqual((status, len(lines) > 0), (1, True))
+        self.assertTrue(all("sum" in line for line in lines), lines)
+
+
+class Texts(Placed):
+    def test_texts_that_are_refused(self) -> None:
+        refused = {
+            "no line tells where other stands": PLACES.replace("at other two\n", ""),
+            "four stands there too": PLACES.replace("at other two", "at other one.bank"),
+            "no memory is named third": PLACES + "at third x\n",
+            "four stands in line 5 too": PLACES + "at four two\n",
+            "nobody is no input of board": PLACES + "clock nobody 10\n",
+            "a has 2 bits": PLACES + "set a 1'b0\n",
+            "no source has the module board": PLACES.replace("after.v", "four.pins"),
+            "is started by the lines start, done and fail, or by the line tap": PLACES.replace("done done\n", ""),
+            "begins with 'places 1'": PLACES.replace("places 1\n", ""),
+            "a line is at MEMORY PATH": PLACES.replace("at other two", "at other two;"),
+        }
+        for message, text in refused.items():
+            with self.subTest(message=message), self.assertRaisesRegex(ToolError, message):
+                self.places(text)
+
+
+if __name__ == "__main__":
+    unittest.main()
