@@ -75,6 +75,12 @@ class Calls:
             return 0, {**shown, "chip": printed_chip}[kind](file)
         if command == "vectors":
             return 0, vectors(*words)
+        if command in ("check", "benchfile") and not pathlib.Path(words[1]).exists():
+            # a module is read when the march behind it is missed
+            return 10, "absent 2"
+        if command == "benchfault":
+            # where the fault is one, and its cells are there
+            return 1, "fail 1"
         if command == "check":
             line = open_run.told(*words)
             return int(not line.startswith("conforms ")), line
