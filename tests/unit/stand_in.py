@@ -4,7 +4,9 @@ from __future__ import annotations
 import contextlib
 import importlib
 import io
+import itertools
 import pathlib
+import re
 import subprocess
 import tempfile
 import unittest
@@ -14,7 +16,8 @@ from unittest import mock
 from vidlakost_tools import program
 from vidlakost_tools.text import read_text, statements
 from vidlakost_tools.texts.chip import units_of
-from vidlakost_tools.texts.march import elements_of
+from vidlakost_tools.texts.faults import Array, read_primitive
+from vidlakost_tools.texts.march import Element, elements_of
 from vidlakost_tools.texts.memory import Memory, parse_memory
 from vidlakost_tools.verilog import open_run
 
@@ -53,6 +56,48 @@ def vectors(march: str, memory_file: str, out: str) -> str:
     return f"commands {len(lines)}"
 
 
+def primitives() -> dict[str, str]:
+    """The static primitives of FORMATS, each with its class, in the order of the table."""
+    rows = re.findall(r"^\| (\w+) \| (`<.*>`) \|$", read_text(program.FORMATS), re.MULTILINE)
+    return {text: name for name, listed in rows for text in re.findall(r"`(<[^`]*>)`", listed)}
+
+
+def escape_of(primitive: str, elements: list[Element]) -> str | None:
+    """The least array of two cells in which a march passes; None where there is none."""
+    read = read_primitive(primitive)
+    alone, both = [(None, 0), (None, 1)], [(0, 1), (1, 0)]
+    places: list[tuple[int | None, int]] = [*alone] if read.aggressor is None else [*both]
+    ways = [{"up": "u", "down": "d", "del": "u"}.get(it.order, "ud") for it in elements]
+    contents = ["".join(bits) for bits in itertools.product("01", repeat=2)]
+    for (aggressor, victim), content, way in itertools.product(places, contents, itertools.product(*ways)):
+        directions = "".join(way)
+        if not any(step.differs for step in Array(read, aggressor, victim, content).march(elements, directions)):
+            told = "none" if aggressor is None else aggressor
+            return f"aggressor {told} victim {victim} content {content} directions {directions}"
+    return None
+
+
+def report_of(march: str, listed: str) -> list[str]:
+    """The lines of a report of `judge`, of a list of classes, of `all` and of static primitives."""
+    known, elements = primitives(), elements_of(read_text(march))
+    groups = {"all": [text for text, name in known.items() if name != "DRF"]}
+    for text, name in known.items():
+        groups.setdefault(name, []).append(text)
+    items = [text for line in read_text(listed).split() for text in groups.get(line, [line])]
+    escapes = {text: escape_of(text, elements) for text in dict.fromkeys(items)}
+    lines = [f"march {printed_march(march)}"]
+    for text in items:
+        lines.append(
+            f"escape {text} {known[text]} {escapes[text]}" if escapes[text] else f"covered {text} {known[text]}"
+        )
+    for name in dict.fromkeys(known.values()):
+        own = [text for text in items if known[text] == name]
+        covered = sum(escapes[text] is None for text in own)
+        lines += [f"class {name} {len(own)} covered {covered}"] if own else []
+    covered = sum(escapes[text] is None for text in items)
+    return [*lines, f"total {len(items)} covered {covered} escapes {len(items) - covered}"]
+
+
 class Calls:
     """Stands for `subprocess` where the program is called; the modules that it writes are told by a test."""
 
@@ -87,6 +132,10 @@ class Calls:
         if command == "chip":
             pathlib.Path(words[1]).write_text(self.chip)
             return 0, "chip"
+        if command == "judge":
+            lines = report_of(*words[:2])
+            pathlib.Path(words[2]).write_text("\n".join([*lines, ""]))
+            return int(not lines[-1].endswith(" escapes 0")), lines[-1]
         if command == "compile":
             memory = parse_memory(read_text(words[1]))
             pathlib.Path(words[3]).write_text(self.modules[memory.name])
