@@ -20,8 +20,7 @@ module player;
   initial forever #5 clk = ~clk;
   reg tck = 1'b0, tms = 1'b1, tdi = 1'b0, trst_n = 1'b1, planted;
   wire tdo, tdo_en, test;
-  late_board board(.clk(clk), .tck(tck), .tms(tms), .tdi(tdi), .trst_n(trst_n), .tdo(tdo), .tdo_en(tdo_en), .test(test),
-    .planted(planted), .at_unit(10'd0), .at_address(16'd3), .at_bit(6'd0), .at_value(1'b1));
+  BOARD
   integer file, got, new_tms, new_tdi, new_trst_n, times, compared = 0, wrong = 0;
   reg [7:0] wanted;
   initial begin
@@ -44,6 +43,9 @@ module player;
   end
 endmodule
 """
+PINS_OF_TAP = ".clk(clk), .tck(tck), .tms(tms), .tdi(tdi), .trst_n(trst_n), .tdo(tdo), .tdo_en(tdo_en), .test(test)"
+LATE_BOARD = f"""late_board board({PINS_OF_TAP},
+    .planted(planted), .at_unit(10'd0), .at_address(16'd3), .at_bit(6'd0), .at_value(1'b1));"""
 WAYS: list[list[str]] = [[], ["--log", "3"], ["--sib"], ["--sib", "--log", "3", "--idcode", "2468ACE1"]]
 CALLS: List[Call] = [
     Call("tools/access late.mem acc --sib", status=2, says="access: --sib is of a TAP, and stands beside --jtag"),
@@ -130,7 +132,7 @@ def in_icarus(bench: Bench, folder: str, cycles: list[Cycle], more: str = "") ->
 def compiled(bench: Bench, folder: str, words: list[str]) -> None:
     """A folder with a TAP, and the player compiled for it."""
     stands(bench, folder, words)
-    (bench.folder / folder / "player.v").write_text(PLAYER)
+    (bench.folder / folder / "player.v").write_text(PLAYER.replace("BOARD", LATE_BOARD))
     files = [f"late_{part}.v" for part in ("board", "tap", "cross", "access", "model", "bist", "sib", "log")]
     here = " ".join(name for name in files if (bench.folder / folder / name).exists())
     done = bench.run(["bash", "-c", f"cd {folder} && iverilog -g2012 -o player.vvp player.v {here}"])

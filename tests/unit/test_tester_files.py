@@ -5,7 +5,7 @@ import dataclasses
 import unittest
 
 from vidlakost_tools.access import ijtag, network, standards, stil, tap_run, wgl
-from vidlakost_tools.access.target import Target
+from vidlakost_tools.access.target import Target, Unit
 from vidlakost_tools.tester_files import bsdl, icl, pdl, scan_path, stil as stil_reader, wgl as wgl_reader
 from vidlakost_tools.tester_files.cycles import Cycle, joined, listing
 from vidlakost_tools.tester_files.retarget import Session
@@ -84,6 +84,23 @@ class Retargeting(unittest.TestCase):
         wanted = [*instruction, *shifted("1", "0"), *shifted("011", "1X1"), Cycle(0, 0, 1, "X", 3)]
         self.assertEqual(list(joined(found)), list(joined(wanted)))
 
+    def test_a_call_gives_what_is_written_and_read(self) -> None:
+        """The same cycles as with the numbers in the text."""
+        text = PROCEDURES.replace("set { }", "set { first second }")
+        text = text.replace("0b01", "$first").replace("low 1", "low $second")
+        found = [
+            list(Session(icl.read(SMALL), bsdl.read(ENTITY)).run(pdl.read(told), "two", "set", *given))
+            for told, given in ((text, ("0b01", "1")), (PROCEDURES, ()))
+        ]
+        self.assertEqual(found[0], found[1])
+        session = Session(icl.read(SMALL), bsdl.read(ENTITY))
+        for given in ((), ("1",), ("1", "$first"), ("1", "1", "1"), ("7", "1")):
+            with self.assertRaises(ToolError, msg=given):
+                list(session.run(pdl.read(text), "two", "set", *given))
+        for new in ("{ first }", "{ first first }", "{ 1st second }", "first second"):
+            with self.assertRaises(ToolError, msg=new):
+                pdl.read(text.replace("{ first second }", new))
+
     def test_a_length_that_bsdl_does_not_tell(self) -> None:
         with self.assertRaisesRegex(ToolError, "has 1 bits by ICL"):
             Session(icl.read(SMALL), bsdl.read(ENTITY.replace("NETREG[1]", "NETREG[3]")))
@@ -159,6 +176,25 @@ class Runs(unittest.TestCase):
         plain = dataclasses.replace(self.target, depth=3)
         self.assertEqual(set(icl.read(ijtag.icl(plain))["m_tap"].links), {"BIST", "LOG"})
         self.assertNotIn("sib", standards.bsdl(plain) + ijtag.icl(plain) + standards.svf(plain, None))
+
+    def test_the_first_failure_of_each_memory(self) -> None:
+        """Four digits of state, the cycle, two words, the unit and three fails stand below the highest part, ignore."""
+        memories = [dataclasses.replace(self.target.units[0].memory, name=name) for name in "abc"]
+        units = [Unit(memory, f"_{number}") for number, memory in enumerate(memories)]
+        target = dataclasses.replace(Target("m", "m", units, True, 41), each=True)
+        size = 4 + 32 + 2 * 4 + 2 + 3 + 3
+        self.assertEqual(network.choosing(target, size), "{ignored, 49'd1}")
+        behind = dataclasses.replace(target, has_sib=True)
+        self.assertEqual(network.choosing(behind, size), "{1'd1, ignored, 49'd1}")
+        self.assertEqual(network.choosing(dataclasses.replace(behind, depth=3), size), "{2'd1, ignored, 49'd1}")
+        told = icl.read(ijtag.icl(behind))
+        parts = told["m_register"].aliases["ignore"][1]
+        self.assertEqual([(part.name, part.bits) for part in parts], [("data", (51, 49))])
+        self.assertEqual(pdl.read(ijtag.pdl(behind))["m_register"]["read_first"].arguments, ["others"])
+        self.assertIn("behind done it may change", ijtag.icl(behind))
+        plain = dataclasses.replace(behind, each=False)
+        self.assertNotIn("read_first", ijtag.pdl(plain))
+        self.assertIn("it stays as it is while start is 1", ijtag.icl(plain))
 
 
 if __name__ == "__main__":

@@ -39,6 +39,14 @@ def opened(target: Target, size: int, word: int, is_log_open: bool = False) -> i
     return word | 1 << size | int(is_log_open) << size + 1
 
 
+def choosing(target: Target, size: int) -> str:
+    """In a testbench the word of a scan that keeps `start` and writes `ignored` to the highest part of the register,
+    which stays in the path."""
+    word = f"ignored, {size - target.count}'d1"
+    if not target.has_sib:
+        return f"{{{word}}}"
+    return f"{{{len(segments(target))}'d{opened(target, size, 0) >> size}, {word}}}"
+
 
 def whole(target: Target, size: int) -> int:
     """How many bits a scan has while the register alone is in the path."""

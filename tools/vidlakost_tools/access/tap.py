@@ -202,7 +202,7 @@ def bench(target: Target) -> str:
     )
     whose = extended(f"heard{at['unit']}", target.unit_bits, 10) if target.is_chip else "10'd0"
     read = READ.format(wanted=at["expected"], got=at["returned"], whose=whose)
-    again = f"            shift({length(target)}, {{ignored, {length(target) - target.count}'d1}});\n" * 2
+    again = f"            shift({scan}, {network.choosing(target, size)});\n" * 2
     body = BENCH.format(
         read=read,
         each=target.read_each("tap", read).replace("        shift_ignored;\n", again),

@@ -34,8 +34,8 @@ then; the files of each testbench are listed in NAME_access.f, NAME_apb.f or NAM
 each word that memory U answers:
     cd FOLDER && iverilog -g2012 -o tb -c NAME_tap.f && vvp -n tb && vvp -n tb +planted +unit=3 +bit=1
 With --each the first failure of each memory is kept: behind done each change of ignore tells that of another one,
-without a new run, and +each in place of +planted tries that. A second register of each word of each memory is what it
-costs.
+without a new run, as the procedure read_first of NAME.pdl has it, and +each in place of +planted tries that. A second
+register of each word of each memory is what it costs.
 With --in-place it is of the memories that `vidlakost top --in-place` left in their places: NAME_access is there, and
 its ports to_I and of_I are those of the bus and the TAP too. Behind done each change of ignore brings the first failure
 of another memory, without a new run. In the testbenches what stands at each bundle is no memory; those are in that of
@@ -228,8 +228,6 @@ def main(arguments: list[str]) -> int:
     alone = [name for name in ("--sib", "--idcode") if name in options and "--jtag" not in options]
     if alone:
         raise ToolError(f"{alone[0]} is of a TAP, and stands beside --jtag\n{usage_of(__doc__)}")
-    if {"--sib", "--each"} <= set(options):
-        raise ToolError(f"--each and --sib exclude one another\n{usage_of(__doc__)}")
     if pins or is_list(path) or {"--in-place", "--each"} & set(options):
         of_whole(path, pins, pathlib.Path(folder), options)
         return 0

@@ -3,16 +3,18 @@ from __future__ import annotations
 
 import dataclasses
 import re
-from typing import Dict, List, Tuple
+from typing import Dict, List, Sequence, Tuple
 
 from vidlakost_tools.tool import ToolError
 
 LEXEME = re.compile(r'[ \t]+|#[^\n]*|(?P<text>"[^"\n]*")|(?P<end>[;\n])|(?P<mark>[{}])|(?P<word>[^\s{};"]+)')
 NUMBER = re.compile(r"0b([01_]+)|0x([0-9a-fA-F_]+)|([0-9]+)")
+# what stands for a word that a call gives
+ARGUMENT = r"\$[A-Za-z]\w*"
 # of each command the forms of its words
 COMMANDS: Dict[str, List[str]] = {
-    "iWrite": [r"[A-Za-z][\w.]*", "0b[01_]+|0x[0-9a-fA-F_]+|[0-9]+"],
-    "iRead": [r"[A-Za-z][\w.]*", f"({NUMBER.pattern})?"],
+    "iWrite": [r"[A-Za-z][\w.]*", f"0b[01_]+|0x[0-9a-fA-F_]+|[0-9]+|{ARGUMENT}"],
+    "iRead": [r"[A-Za-z][\w.]*", f"({NUMBER.pattern}|{ARGUMENT})?"],
     "iApply": [],
     "iRunLoop": ["[1-9][0-9]*", "-tck"],
     "iNote": ["-(comment|status)", '".*"'],
@@ -34,8 +36,30 @@ class Command:
         return int(digits, {"0b": 2, "0x": 16}.get(self.words[1][:2], 10))
 
 
+@dataclasses.dataclass
+class Procedure:
+    """The names of what a call gives, and the commands."""
+
+    arguments: List[str]
+    commands: List[Command] = dataclasses.field(default_factory=list)
+
+    def take(self, command: Command) -> None:
+        """Takes a command, which names nothing that no call gives."""
+        unknown = [word for word in command.words if re.fullmatch(ARGUMENT, word) and word[1:] not in self.arguments]
+        if unknown:
+            raise ToolError(f"PDL: {unknown[0]} is no argument of the procedure")
+        self.commands.append(command)
+
+    def given(self, words: Sequence[str]) -> List[Command]:
+        """The commands of a call with these words, each of which has to be a number."""
+        if len(words) != len(self.arguments) or not all(map(NUMBER.fullmatch, words)):
+            raise ToolError(f"PDL: a call gives numbers for {', '.join(self.arguments) or 'nothing'}, and not {words}")
+        values = {f"${name}": word for name, word in zip(self.arguments, words)}
+        return [Command(one.name, tuple(values.get(word, word) for word in one.words)) for one in self.commands]
+
+
 # of each module its procedures, by their names
-Procedures = Dict[str, Dict[str, List[Command]]]
+Procedures = Dict[str, Dict[str, Procedure]]
 
 
 def tokens(text: str) -> list[str]:
@@ -77,26 +101,35 @@ def command_of(words: list[str]) -> Command:
     return Command(name, tuple(rest))
 
 
+def is_head(words: Sequence[str]) -> bool:
+    """Whether these words stand between the name of a procedure and its commands: the names of its arguments in
+    braces, no two alike."""
+    if len(words) < 3 or (words[0], *words[-2:]) != ("{", "}", "{"):
+        return False
+    names = words[1:-2]
+    return len(set(names)) == len(names) and all(re.fullmatch(r"[A-Za-z]\w*", name) for name in names)
+
+
 def read(text: str) -> Procedures:
     """The procedures of a text."""
     found: Procedures = {}
     given = commands(text)
     if not given or given[0] != ["iPDLLevel", "0", "-version", "STD_1687_2014"]:
         raise ToolError("PDL: the text does not begin with iPDLLevel 0 -version STD_1687_2014")
-    module, proc = "", None  # type: str, List[Command] | None
+    module, proc = "", None  # type: str, Procedure | None
     for words in given[1:]:
         if proc is not None:
             if words == ["}"]:
                 proc = None
             else:
-                proc.append(command_of(words))
+                proc.take(command_of(words))
         elif words[0] == "iProcsForModule" and len(words) == 2:
             module = words[1]
             if module in found:
                 raise ToolError(f"PDL: the procedures of {module} are there twice")
             found[module] = {}
-        elif words[0] == "iProc" and words[2:] == ["{", "}", "{"] and module and words[1] not in found[module]:
-            proc = found[module].setdefault(words[1], [])
+        elif words[0] == "iProc" and is_head(words[2:]) and module and words[1] not in found[module]:
+            proc = found[module].setdefault(words[1], Procedure(words[3:-2]))
         else:
             raise ToolError(f"PDL: {' '.join(words)} can't stand where it does")
     if proc is not None:

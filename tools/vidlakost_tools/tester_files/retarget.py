@@ -84,14 +84,14 @@ class Session:
             raise ToolError(f"{module} stands {len(found)} times in {self.top}")
         return found[0]
 
-    def run(self, procedures: Procedures, module: str, name: str) -> Iterator[Cycle]:
-        """The cycles of a procedure."""
+    def run(self, procedures: Procedures, module: str, name: str, *given: str) -> Iterator[Cycle]:
+        """The cycles of a procedure, where a call gives these words."""
         if name not in procedures.get(module, {}):
             raise ToolError(f"PDL: {module} has no procedure {name}")
         where, it = self.places(module), self.modules[module]
         writes: Dict[Bit, str] = {}
         reads: Dict[Bit, str] = {}
-        for command in procedures[module][name]:
+        for command in procedures[module][name].given(given):
             if command.name in ("iWrite", "iRead"):
                 take(writes if command.name == "iWrite" else reads, asked(where, it, command))
             elif command.name == "iRunLoop":
