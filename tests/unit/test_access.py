@@ -119,11 +119,11 @@ class Bits(unittest.TestCase):
 
 
 class Logs(unittest.TestCase):
-    def read(self, text: str) -> tuple[list[Entry], bool]:
+    def read(self, text: str, unit: int | None = None) -> tuple[list[Entry], bool]:
         with tempfile.TemporaryDirectory() as folder:
             path = pathlib.Path(folder) / "log"
             path.write_text(text)
-            return read_log(str(path), memory())
+            return read_log(str(path), memory(), unit)
 
     def test_entries_and_more(self) -> None:
         entries, more = self.read("note\ncycle 7 expected 0 returned 4\nread cycle 9 expected 5 returned D\nmore\n")
@@ -137,6 +137,17 @@ class Logs(unittest.TestCase):
         )
         with self.assertRaises(ToolError):
             self.read("cycle 7 expected 0 returned 4\n" + first)
+
+    def test_the_log_of_a_chip(self) -> None:
+        """A line `unit U more` is of one unit, and a line `more` of all."""
+        text = "unit 0 cycle 7 expected 0 returned 4\nunit 0 more\nunit 1 cycle 3 expected 0 returned 8\n"
+        self.assertEqual(self.read(text, 0), ([Entry(7, 0, 4)], True))
+        self.assertEqual(self.read(text, 1), ([Entry(3, 0, 8)], False))
+        self.assertEqual(self.read(text + "more\n", 1), ([Entry(3, 0, 8)], True))
+        behind = text + "unit 0 cycle 9 expected 0 returned 8\n"
+        for wrong, unit in ((text, 2), (text, None), ("unit 0 more\n", None), (behind, 0)):
+            with self.assertRaises(ToolError):
+                self.read(wrong, unit)
 
     def test_the_last_word_of_a_log_is_whole(self) -> None:
         with tempfile.TemporaryDirectory() as folder:

@@ -2,11 +2,12 @@
 from __future__ import annotations
 
 import unittest
-from typing import Dict
+from typing import Dict, List, Tuple
 
 from vidlakost_tools.access.log import Entry
 from vidlakost_tools.diagnosis.addressing import Groups
 from vidlakost_tools.diagnosis.answer import answer_of, groups_of
+from vidlakost_tools.diagnosis.asked import Asked, Run, of_run
 from vidlakost_tools.diagnosis.cells import Aggressors, Fault, Instance
 from vidlakost_tools.diagnosis.evidence import Evidence, Test, Wrong, evidence_of
 from vidlakost_tools.texts.march import elements_of
@@ -48,6 +49,29 @@ class Reads(unittest.TestCase):
         self.assertEqual((evidence.wrong, evidence.last), ({0: {0: 1}}, 11))
         self.assertTrue(evidence.is_known(0, 0))
         self.assertFalse(evidence.is_known(0, 1))
+
+
+class Runs(unittest.TestCase):
+    """A test that runs in the cycles 1 to 60, and again in the cycles 101 to 160."""
+
+    def of(self, run: int, cycles: List[int], more: bool) -> Tuple[List[int], bool]:
+        asked = Asked("m", MARCH, memory(), 100 * run, [], 0, [Run(1, 60), Run(101, 160)], run)
+        entries, is_full = of_run("log", asked, [Entry(cycle, 0, 1) for cycle in cycles], more)
+        return [entry.cycle for entry in entries], is_full
+
+    def test_a_log_of_both(self) -> None:
+        self.assertEqual(self.of(0, [9, 60, 101], True), ([9, 60], False))
+        self.assertEqual(self.of(1, [9, 60, 101], True), ([101], True))
+        self.assertEqual(self.of(0, [9], True), ([9], True))
+        self.assertEqual(self.of(1, [9, 110], False), ([110], False))
+
+    def test_what_tells_nothing_of_a_run(self) -> None:
+        for run, cycles, more, why in (
+            (1, [9], True, "full before the second run"), (1, [9], False, "no read of the second run was wrong"),
+            (0, [110], True, "no read of the first run was wrong"), (0, [9, 61, 110], False, "in cycle 61 the test of m"),
+        ):
+            with self.assertRaisesRegex(ToolError, why):
+                self.of(run, cycles, more)
 
 
 class Cells(unittest.TestCase):

@@ -152,7 +152,7 @@ def bench(target: Target, depth: int) -> str:
 MOST = 1 << 20
 LOG_BYTES = 1 << 26
 # the start of an entry is short, so that a long line is looked at once
-OF_UNIT = re.compile(r"\bunit ([0-9]{1,9}) cycle ")
+OF_UNIT = re.compile(r"\bunit ([0-9]{1,9}) (?:cycle |more\s*$)")
 ENTRY = re.compile(r"\bcycle ([0-9]{1,10}) expected ([0-9a-fA-F]{1,16}) returned ([0-9a-fA-F]{1,16})\b")
 
 
@@ -176,44 +176,70 @@ def entry_in(line: str) -> re.Match[str] | None:
     return match
 
 
-def read_log(path: str, memory: Memory, unit: int | None = None) -> tuple[list[Entry], bool]:
-    """The entries of a log, of a chip those of a unit, and whether more came. A line has `cycle C expected X returned
-    W`; other lines are left. They come in the order of their cycles, and the last one may be cut off where a run was
-    ended."""
-    entries: list[Entry] = []
-    more = False
+def entry_of(match: re.Match[str], line: str, memory: Memory) -> Entry:
+    """The entry that a line has, whose words are whole and are some of the memory."""
+    entry = Entry(int(match[1]), int(match[2], 16), int(match[3], 16))
+    for word in match.group(2, 3):
+        if int(word, 16) >> memory.bits:
+            raise ToolError(f"{word} is no word of {memory.bits} bits")
+    if entry.expected == entry.word:
+        raise ToolError("the word that was read is the one that was expected")
+    if line.endswith(match[3]) and len(match[3]) < len(memory.digits(0)):
+        raise ToolError(f"the text ends within the word {match[3]}")
+    return entry
+
+
+@dataclasses.dataclass
+class Heard:
+    """What the lines of a log have said until now of a memory, or of a unit of a chip."""
+
+    memory: Memory
+    unit: int | None
+    entries: list[Entry] = dataclasses.field(default_factory=list)
+    more: bool = False
+    # whether the last entry was said to be the last one
+    is_over: bool = False
     # a testbench of a bus says the first failure in front of the log
     said_before: Entry | None = None
+
+    def take(self, line: str) -> None:
+        match, whose = entry_in(line), OF_UNIT.search(line)
+        if whose and self.unit is None:
+            raise ToolError(f"this is the log of a chip: give its chip file, with --unit {whose[1]}")
+        if whose and int(whose[1]) != self.unit:
+            return
+        if match:
+            self.take_entry(entry_of(match, line, self.memory), line.startswith("fail "))
+        own = "more" if self.unit is None else f"unit {self.unit} more"
+        self.is_over = self.is_over or line.strip() == own
+        self.more = self.more or line.strip() in ("more", own)
+
+    def take_entry(self, entry: Entry, is_first_failure: bool) -> None:
+        entries = self.entries
+        if self.is_over:
+            raise ToolError("an entry stands behind 'more': is this the log of two runs?")
+        if len(entries) == 1 and entry == self.said_before:
+            return
+        self.said_before = entry if is_first_failure and not entries else None
+        if entries and entry.cycle <= entries[-1].cycle:
+            told = f"cycle {entry.cycle} stands behind cycle {entries[-1].cycle}"
+            raise ToolError(f"{told}: is this the log of two runs?")
+        entries.append(entry)
+        if len(entries) > MOST:
+            raise ToolError(f"these are more than {MOST:,} wrong reads")
+
+
+def read_log(path: str, memory: Memory, unit: int | None = None) -> tuple[list[Entry], bool]:
+    """The entries of a log, of a chip those of a unit, and whether more came, which a line `more` says of all units and
+    `unit U more` of one. A line has `cycle C expected X returned W`; other lines are left. They come in the order of
+    their cycles, and the last one may be cut off where a run was ended."""
+    heard = Heard(memory, unit)
     for count, line in enumerate(stream(path, LOG_BYTES), 1):
         try:
-            match, whose = entry_in(line), OF_UNIT.search(line)
+            heard.take(line)
         except ToolError as error:
             raise ToolError(f"{path}:{count}: {error}") from error
-        if whose and unit is None:
-            raise ToolError(f"{path}:{count}: this is the log of a chip: give its chip file, with --unit {whose[1]}")
-        if whose and int(whose[1]) != unit:
-            continue
-        if match:
-            if more and unit is None:
-                raise ToolError(f"{path}:{count}: an entry stands behind 'more': is this the log of two runs?")
-            entry = Entry(int(match[1]), int(match[2], 16), int(match[3], 16))
-            for word in match.group(2, 3):
-                if int(word, 16) >> memory.bits:
-                    raise ToolError(f"{path}:{count}: {word} is no word of {memory.bits} bits")
-            if entry.expected == entry.word:
-                raise ToolError(f"{path}:{count}: the word that was read is the one that was expected")
-            if len(entries) == 1 and entry == said_before:
-                continue
-            said_before = entry if line.startswith("fail ") and not entries else None
-            if entries and entry.cycle <= entries[-1].cycle:
-                told = f"cycle {entry.cycle} stands behind cycle {entries[-1].cycle}: is this the log of two runs?"
-                raise ToolError(f"{path}:{count}: {told}")
-            if line.endswith(match[3]) and len(match[3]) < len(memory.digits(0)):
-                raise ToolError(f"{path}:{count}: the text ends within the word {match[3]}")
-            entries.append(entry)
-            if len(entries) > MOST:
-                raise ToolError(f"{path}:{count}: these are more than {MOST:,} wrong reads")
-        more = more or line.strip() == "more"
-    if not entries:
-        raise ToolError(f"{path}: no line has 'cycle C expected X returned W'")
-    return entries, more
+    if not heard.entries:
+        whose = "" if unit is None else f"unit {unit} "
+        raise ToolError(f"{path}: no line has '{whose}cycle C expected X returned W'")
+    return heard.entries, heard.more

@@ -2,16 +2,21 @@
 
 usage: vidlakost bitmap LOG MARCH MEMORY [--mux M] [--svg PICTURE] [--csv TABLE] [--list FAULTS]
        vidlakost bitmap LOG CHIPFILE --unit U [--mux M] [--svg PICTURE] [--csv TABLE] [--list FAULTS]
+       vidlakost bitmap LOG LIST|CHIPFILE PINS.. --unit U [--second] [--mux M] [--svg PICTURE] [--csv TABLE]
+                        [--list FAULTS]
        vidlakost bitmap --help
 
 LOG has a line `cycle C expected X returned W` for each wrong read, as the testbench NAME_log_tb.sv of `vidlakost access
---log` prints, and a line `more` where others came that it had no room for; other lines are left. It has at most 64 MiB.
-Where another word was expected than this march expects of this memory, the log is of others, and is refused. The cycles
-count as for `vidlakost locate`; of a chip they are those of the chip. With M words in a row of the array the row of a
-word is its physical index by M, and its bit B lies in column B * M + index modulo M; M is 1 where nothing is said. It
-prints the shape (cell, pair, row, column, other), then of each wrong cell row, column, index, address and bit and how
-often it was wrong. With a list it prints what gives exactly this log, of its primitives and of lines, bits and
-addresses, as `vidlakost diagnosis` tells it."""
+--log` prints, and a line `more` where others came that it had no room for; other lines are left. In that of a chip each
+of both begins with `unit U`. It has at most 64 MiB. Where another word was expected than this march expects of this
+memory, the log is of others, and is refused. The cycles count as for `vidlakost locate`; of a chip they are those of
+the chip. With PINS the log is of the whole chip that `vidlakost top` joined, and the cycles are those of the whole.
+Where the test of a memory runs twice there, since the chip has second ports, the log is read as that of the first run,
+and with --second as that of the second one. With M words in a row of the array the row of a word is its physical index
+by M, and its bit B lies in column B * M + index modulo M; M is 1 where nothing is said. It prints the shape (cell,
+pair, row, column, other), then of each wrong cell row, column, index, address and bit and how often it was wrong. With
+a list it prints what gives exactly this log, of its primitives and of lines, bits and addresses, as `vidlakost
+diagnosis` tells it."""
 from __future__ import annotations
 
 import pathlib
@@ -85,8 +90,8 @@ def lines_of_cells(cells: Counter[tuple[int, int]], memory: Memory, mux: int) ->
 
 
 def main(arguments: list[str]) -> int:
-    allowed = {"--mux": 1, "--svg": 1, "--csv": 1, "--list": 1, "--unit": 1}
-    words, options = words_of(__doc__, arguments, allowed, 2, 3)
+    allowed = {"--mux": 1, "--svg": 1, "--csv": 1, "--list": 1, "--unit": 1, "--second": 0}
+    words, options = words_of(__doc__, arguments, allowed, 2)
     asked = asked_of(words, options, __doc__)
     memory = asked.memory
     mux = number_of(options.get("--mux", "1"), "--mux", 1)

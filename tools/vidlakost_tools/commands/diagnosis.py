@@ -2,16 +2,17 @@
 
 usage: vidlakost diagnosis LOG MARCH MEMORY [--mux M] [--list FAULTS] [--with MARCH]..
        vidlakost diagnosis LOG CHIPFILE --unit U [--mux M] [--list FAULTS] [--with MARCH]..
+       vidlakost diagnosis LOG LIST|CHIPFILE PINS.. --unit U [--second] [--mux M] [--list FAULTS] [--with MARCH]..
        vidlakost diagnosis --help
 
-LOG, the cycles and --mux are as for `vidlakost bitmap`. The log is that of a whole test: a read that it does not have
-was right, but behind its last entry where it ends with `more`. It prints of each class how many candidates there are,
-then each candidate. These are the primitives of FAULTS (all static ones and DRF where no list is given) at each cell
-and with each aggressor; columns, rows, words, data bits, parts of a bit line or of a word line, which are read as one
-value; two data bits that are bridged; address bits that are open, stuck, bridged, or select no word or two; and words
-or rows that reach another one instead of their own or beside it. Aggressors that act alike stand in one line, with
-how many there are. A candidate that gives the log only from some contents of the memory says from how many. The first
-ones are those that explain most by least.
+LOG, PINS, --second, the cycles and --mux are as for `vidlakost bitmap`. The log is that of a whole test: a read that it
+does not have was right, but behind its last entry where it ends with `more`. It prints of each class how many
+candidates there are, then each candidate. These are the primitives of FAULTS (all static ones and DRF where no list is
+given) at each cell and with each aggressor; columns, rows, words, data bits, parts of a bit line or of a word line,
+which are read as one value; two data bits that are bridged; address bits that are open, stuck, bridged, or select no
+word or two; and words or rows that reach another one instead of their own or beside it. Aggressors that act alike stand
+in one line, with how many there are. A candidate that gives the log only from some contents of the memory says from how
+many. The first ones are those that explain most by least.
 
 Where no single defect gives the log, it prints what each of up to 8 wrong cells tells by itself. With --with (or,
 from the sources, of the marches of the gallery) it tells which march that is run next sets most candidates apart: in
@@ -77,7 +78,8 @@ def next_march(candidates: list[Candidate], options: dict[str, Any], memory: Mem
 
 
 def main(arguments: list[str]) -> int:
-    words, options = words_of(__doc__, arguments, {"--mux": 1, "--list": 1, "--unit": 1, "--with": ["MARCH"]}, 2, 3)
+    allowed: dict[str, int | list[str]] = {"--mux": 1, "--list": 1, "--unit": 1, "--second": 0, "--with": ["MARCH"]}
+    words, options = words_of(__doc__, arguments, allowed, 2)
     asked = asked_of(words, options, __doc__)
     mux = number_of(options.get("--mux", "1"), "--mux", 1)
     check_mux(asked.memory, mux)

@@ -4,7 +4,8 @@ from __future__ import annotations
 import dataclasses
 from typing import Any, List, Sequence, Tuple
 
-from vidlakost_tools.access.log import read_log
+from vidlakost_tools.access.log import Entry, read_log
+from vidlakost_tools.access.target import is_list
 from vidlakost_tools.diagnosis.cells import Fault
 from vidlakost_tools.diagnosis.evidence import Evidence, Test, evidence_of
 from vidlakost_tools.diagnosis.tester import check_expected
@@ -21,9 +22,21 @@ from vidlakost_tools.tool import ToolError, number_of, usage_of
 USUAL = "all\nDRF\n"
 
 
+@dataclasses.dataclass(frozen=True)
+class Run:
+    """The cycles of a run of a test, those from `first` to `last`; a whole chip may run a test twice."""
+
+    first: int
+    last: int
+
+    def has(self, cycle: int) -> bool:
+        return self.first <= cycle <= self.last
+
+
 @dataclasses.dataclass
 class Asked:
-    """A march's file, its elements, the memory, the cycle in which its test begins, and the files that are read."""
+    """A march's file, its elements, the memory, the cycle in which its test begins, and the files that are read; of a
+    chip the unit, and of a whole chip all runs of its test, and the number of the one that is asked about."""
 
     march: Path
     elements: List[Element]
@@ -31,21 +44,49 @@ class Asked:
     begin: int
     files: List[str]
     unit: int | None = None
+    runs: List[Run] = dataclasses.field(default_factory=list)
+    run: int = 0
 
 
 def asked_of(words: list[str], options: dict[str, Any], doc: str | None) -> Asked:
     """What stands behind the log in the words of a call."""
     if "--unit" not in options:
-        if len(words) != 3:
+        if len(words) != 3 or "--second" in options:
             raise ToolError(f"a log, a march and a memory are wanted\n{usage_of(doc)}")
         return Asked(words[1], march_of(words[1])[1], read_memory(words[2]), 0, words)
-    if len(words) != 2:
-        raise ToolError(f"--unit is of a chip file\n{usage_of(doc)}")
-    chip, number = read_chip(words[1]), number_of(options["--unit"], "--unit")
+    number = number_of(options["--unit"], "--unit")
+    if len(words) > 2:
+        return of_whole(words, number, "--second" in options)
+    if "--second" in options or is_list(words[1]):
+        raise ToolError(f"--second and a list are of a whole chip: give the files of its pins, too\n{usage_of(doc)}")
+    chip = read_chip(words[1])
     if number >= len(chip.units):
         raise ToolError(f"--unit is 0 to {len(chip.units) - 1}, and not {number}")
     unit = chip.units[number]
     return Asked(unit.march, unit.elements, unit.memory, unit.start, [*words, *chip.files], number)
+
+
+def of_whole(words: list[str], number: int, is_second: bool) -> Asked:
+    """A memory of a whole chip that `top` joined. The chip file that tests it runs in one step or in two, in the second
+    one by a second port."""
+    from vidlakost_tools.chip import system as soc
+    from vidlakost_tools.chip.steps import turns_of
+
+    path, pins = words[1], words[2:]
+    system = soc.read_system(path)
+    soc.give_collars(system, pins)
+    soc.planned(system, path)
+    if number >= len(system.parts):
+        raise ToolError(f"--unit is 0 to {len(system.parts) - 1}, and not {number}")
+    part = system.parts[number]
+    turns = [turn for turn in turns_of(system) if turn.step.kind == "chips" and part.chip in turn.step.numbers]
+    if is_second and len(turns) < 2:
+        raise ToolError(f"the test of {part.name} runs once: leave --second out")
+    unit, turn = system.chips[part.chip].units[part.place], turns[is_second]
+    runs = [Run(turn.first + 1, turn.first + turn.length) for turn in turns]
+    files = [*words, *(name for one in system.parts for name in (one.unit.march, one.unit.memory_file))]
+    begin = turn.first + unit.start
+    return Asked(part.unit.march, unit.elements, part.memory, begin, files, number, runs, int(is_second))
 
 
 @dataclasses.dataclass
@@ -57,9 +98,27 @@ class Logged:
     more: bool
 
 
+def of_run(path: str, asked: Asked, entries: list[Entry], more: bool) -> Tuple[List[Entry], bool]:
+    """The entries of the run that is asked about, and whether it had more of them. A log that was full before a run
+    says nothing of it, and one that was full in a later run has all of it."""
+    for entry in entries:
+        if not any(run.has(entry.cycle) for run in asked.runs):
+            raise ToolError(f"{path}: in cycle {entry.cycle} the test of {asked.memory.name} does not run")
+    run = asked.runs[asked.run]
+    found = [entry for entry in entries if run.has(entry.cycle)]
+    if more and entries[-1].cycle < run.first:
+        raise ToolError(f"{path}: the log was full before the second run, of which it tells nothing")
+    if not found:
+        which = ("first", "second")[asked.run]
+        raise ToolError(f"{path}: no read of the {which} run was wrong, and of the other one {len(entries)} were")
+    return found, more and run.has(entries[-1].cycle)
+
+
 def logged(path: str, asked: Asked) -> Logged:
     """What a log says of a test; one of another march or memory is refused."""
     entries, more = read_log(path, asked.memory, asked.unit)
+    if asked.runs:
+        entries, more = of_run(path, asked, entries, more)
     evidence, reads = evidence_of(Test(asked.elements, asked.memory, asked.begin), entries, more)
     for entry, read in zip(entries, reads):
         check_expected(read, asked.memory, entry.expected, f"in cycle {entry.cycle} ")
