@@ -155,13 +155,6 @@ CALLS = [
     ("", ["tools/access", "examples/joins/many.list", "acc5"], 2, "", "access: of a list the files of pins are wanted"),
     (
         "",
-        ["tools/access", JOINS, *PINS, "acc5", "--log", "4"],
-        2,
-        "",
-        "access: --log is of a memory or a chip file alone",
-    ),
-    (
-        "",
         ["tools/top", CAMERA, *PLACED, "placed1", "--in-place"],
         0,
         "placed1/camera_access.v",

@@ -121,7 +121,7 @@ def tools(bench: Bench) -> None:
     calls = [Call(f"tools/{name} --help", prints=f"usage: vidlakost {name}") for name in names]
     calls += [Call(f"./vidlakost help {name}", prints=f"usage: vidlakost {name}") for name in names]
     calls += [Call(f"tools/{name} --nothing", status=2, says=f"{name}: there is no option --nothing") for name in names]
-    for table in (report_calls, tool_calls, audit, judges_calls, hostile_calls, tester, collar_calls):
+    for table in (report_calls, tool_calls, audit, judges_calls, hostile_calls, tester, joined, collar_calls):
         calls += table.CALLS
     calls += [Call(shlex.join(words), status, prints, says, needs) for needs, words, status, prints, says in access.CALLS]
     for need in sorted({need for call in calls for need in call.missing()}):

@@ -3,7 +3,7 @@ from __future__ import annotations
 
 import dataclasses
 
-from vidlakost_tools.access import log_window
+from vidlakost_tools.access import log_window, logs
 from vidlakost_tools.access.bench import most, testbench
 from vidlakost_tools.access.block import inside
 from vidlakost_tools.access.target import Port, Target, extended, header, links, zero
@@ -166,7 +166,7 @@ def block(target: Target) -> str:
         "  reg is_there;",
         "  wire access_phase;",
         "  wire unused;",
-        (inside(target, "pclk", "presetn") + log_window.inside(target)).rstrip("\n"),
+        (inside(target, "pclk", "presetn") + logs.inside(target)).rstrip("\n"),
         *(["  assign log_pick = paddr[10:5];"] if target.depth else []),
         f"  assign unused = &{{1'b0, pwdata[31:{used}]}};" if used < 32 else "  assign unused = 1'b0;",
         "  assign access_phase = psel & penable;",

@@ -2,6 +2,7 @@
 read."""
 from __future__ import annotations
 
+from vidlakost_tools.access import logs
 from vidlakost_tools.access.target import Port, Target, extended, links, zero
 from vidlakost_tools.text import template
 from vidlakost_tools.verilog.bench_end import FINISH, over, planted
@@ -68,7 +69,7 @@ ACCESS_BODY = """
       failing = fail;
 {read}
       told(round);
-{each}      #3 start = 1'b0;
+{each}{log}      #3 start = 1'b0;
       repeat (8) @(posedge clk);
       if (done !== 1'b0 || seen !== 1'b0 || fail !== {none}) $fatal(1, "{name}: the state stays when start falls");
     end
@@ -84,17 +85,19 @@ def access_bench(target: Target) -> str:
     choice = f", .ignore({zero(target.count)})" if target.is_chip else ""
     if target.each:
         choice = ", .ignore(ignored)"
+    declared += logs.bench_declared(target)
     read = READ.format(whose=extended("unit", target.unit_bits, 10) if target.is_chip else "10'd0")
     link = (
         f"  {target.name}_access dut({target.bench_links()}.clk(clk), .start(start){choice}, {links(target.ports())},\n"
     )
-    link += f"    .test(test), {links(state)});\n"
+    link += f"    .test(test), {links([*state, *logs.ports(target)])});\n"
     body = ACCESS_BODY.format(
         name=target.name,
         most=most(target) + 100,
         any=f"fail != {zero(target.count)}",
         read=read,
         each=target.read_each("access", f"        #1;\n{read}\n"),
+        log=logs.bench_reads(target),
         none=zero(target.count),
     )
     return testbench(target, "access", "by a signal of another clock", 5, declared, link, body)

@@ -4,6 +4,7 @@ from __future__ import annotations
 
 from typing import Callable
 
+from vidlakost_tools.access import logs
 from vidlakost_tools.access.target import Port, Target, Unit, extended, header, links, zero
 from vidlakost_tools.text import template
 from vidlakost_tools.verilog.syntax import ranged
@@ -151,9 +152,11 @@ def access(target: Target) -> str:
             about = about.replace(
                 "whose failure it is", "whose failure it is: the first one, by its number, that failed"
             )
+    about += logs.about(target)
     state = [Port("output", name) for name in ("test", "done", "fail", "seen")]
     state[2].width = target.count
     ports = [Port("input", "clk"), Port("input", "start"), *target.choice(), *target.ports(), *state, *target.result()]
+    ports += logs.ports(target)
     kept = ("done",) if target.each else ("done", "seen", *(port.name for port in target.result()))
     declared, moved = [], []
     for unit in target.units:
@@ -178,6 +181,7 @@ def access(target: Target) -> str:
         *moved,
         "  end",
         *capture(target),
+        *logs.beside(target),
         "endmodule",
     ]
     return header(about, f"{target.name}_access", ports, kept, target.conditional()) + "\n".join(lines) + "\n"
@@ -208,13 +212,14 @@ def inside(target: Target, clock: str, reset_n: str) -> str:
     ]
     found = ["test", "done", "fail", "seen"]
     names = [Port("", name) for name in (*found, "start", "has_test", "is_done", "has_failed", "is_seen")]
-    lines = [f"  wire {ranged(width)}{name};" for name, width in wires]
+    lines = [f"  wire {ranged(width)}{name};" for name, width in wires] + logs.behind(target)
     behind = [*target.choice(), *target.ports(), *(Port("", name) for name in found), *target.result()]
+    told = "".join(f",\n    {link}" for link in logs.told(target))
     lines += [
         f"  {target.name}_cross crossing(.clock({clock}), .reset_n({reset_n}), .want(want),",
         f"    {links(names)});",
         "\n".join([f"  {target.name}_access tested(", *target.handed_on(), "    "]).replace("(\n    ", "(")
-        + f".clk(clk), .start(start), {links(behind)});",
+        + f".clk(clk), .start(start), {links(behind)}{told});",
     ]
     return "\n".join(lines) + "\n"
 

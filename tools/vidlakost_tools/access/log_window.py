@@ -1,63 +1,17 @@
-"""The way of a log to a tester: the log of each memory behind a bus, the window of an APB3 bus, and the register of a
-TAP that tells one entry in each scan."""
+"""The way of a log to a tester: the window of an APB3 bus, and the register of a TAP that tells one entry in each
+scan."""
 from __future__ import annotations
 
 import dataclasses
 
 from vidlakost_tools.access import network
-from vidlakost_tools.access.target import Port, Target, extended, zero
+from vidlakost_tools.access.logs import PICK_BITS, depth_of
+from vidlakost_tools.access.target import Target, extended, zero
 from vidlakost_tools.text import template
 from vidlakost_tools.verilog.syntax import ranged
 
-# where the window stands, how many bytes an entry has in it, and the bits of the number of an entry
-WINDOW, ENTRY_BYTES, PICK_BITS = 0x800, 0x20, 6
-
-
-def depth_of(target: Target) -> int:
-    """How many entries a log has."""
-    assert target.depth is not None
-    return target.depth
-
-
-def result(target: Target) -> list[Port]:
-    """What of an entry a bus reads."""
-    words = [Port("", name, target.word) for name in ("log_expected", "log_returned")]
-    return [Port("", "log_count", 7), Port("", "log_more"), Port("", "log_cycle", 32), *words]
-
-
-def declared(target: Target) -> list[str]:
-    """The wires of all logs, and of the one that is chosen."""
-    lines = [f"  wire [{PICK_BITS - 1}:0] log_pick;", "  wire log_here;"]
-    lines += [f"  wire {ranged(port.width)}{port.name};" for port in result(target)]
-    size, counts = max(1, (depth_of(target) - 1).bit_length()), depth_of(target).bit_length()
-    for unit in target.units:
-        it, s = unit.memory, unit.suffix
-        wires = [Port("", "count", counts), Port("", "more"), Port("", "cycle", 32)]
-        wires += [Port("", "expected", it.bits), Port("", "word", it.bits)]
-        lines += [f"  wire {ranged(port.width)}log_{port.name}_of{s};" for port in wires]
-        pick = f"log_pick[{size - 1}:0]" if size > 1 else "log_pick[0]"
-        own = "".join(f" .{name}({name}{s})," for name in ("en", "we", "wdata", "rdata"))
-        told = ", ".join(f".{port.name}(log_{port.name}_of{s})" for port in wires)
-        lines += [f"  {it.name}_log log{s}(.clk(clk), .test(test),{own}", f"    .pick({pick}), {told});"]
-    return lines
-
-
-def chosen(target: Target) -> list[str]:
-    """What a bus reads: it stands when the test is done, since the log changes by then no more."""
-    counts = depth_of(target).bit_length()
-    sources = {"log_count": ("count", counts), "log_more": ("more", 1), "log_cycle": ("cycle", 32)}
-    lines = []
-    for port in result(target):
-        name, width = sources.get(port.name, ("expected" if port.name == "log_expected" else "word", 0))
-        of = [extended(f"log_{name}_of{unit.suffix}", width or unit.memory.bits, port.width) for unit in target.units]
-        choice = "".join(f"log_unit == {target.unit_bits}'d{number} ? {one} : " for number, one in enumerate(of[:-1]))
-        lines.append(f"  assign {port.name} = is_done ? ({choice}{of[-1]}) : {zero(port.width)};")
-    return [*lines, "  assign log_here = {1'b0, log_pick} < log_count;"]
-
-
-def inside(target: Target) -> str:
-    """The logs beside the self-test, where there are some."""
-    return "" if target.depth is None else "\n".join([*declared(target), *chosen(target), ""])
+# where the window stands, and how many bytes an entry has in it
+WINDOW, ENTRY_BYTES = 0x800, 0x20
 
 
 # ---- the window of an APB3 bus
@@ -152,15 +106,38 @@ def apb_reads(target: Target) -> str:
         lines.append(
             f"          get(12'h{WINDOW + cell.at:03x} + 12'd32 * entry[11:0]);\n          {name}{part} = {heard};\n"
         )
-    choose, again, form, unit = "", "", "", ""
+    choose, again = "", ""
     if target.is_chip:
         choose = f"        for (of_unit = 0; of_unit < {target.count}; of_unit = of_unit + 1) begin\n"
         choose += "        put(12'h02c, of_unit);\n"
-        again, form, unit = "        end\n", "unit %0d ", ", of_unit"
-    return APB_READS.substitute(choose=choose, words="".join(lines), form=form, unit=unit, again=again)
+        again = "        end\n"
+    return APB_READS.substitute(
+        choose=choose, words="".join(lines), again=again, **taken(target, "of_unit", "when_read, wanted, got")
+    )
 
 
 APB_DECLARED = "  integer entry;\n  integer entries;\n  integer of_unit;\n  reg more_came;\n"
+
+
+def taken(target: Target, unit: str, words: str) -> dict[str, str]:
+    """What a testbench does with the entry of a unit that it has read, and where it reads that more came: it prints
+    them in its first run. Logs inside NAME_access it looks at in each."""
+    if target.has_inner_log:
+        return {
+            "when": "",
+            "begins": "        log_begins;\n",
+            "entry": f"log_entry({unit}, {words})",
+            "more": "log_full(of_unit)",
+            "over": "        log_over;\n",
+        }
+    form, which = ("unit %0d ", f", {unit}") if target.is_chip else ("", "")
+    return {
+        "when": "if (round == 0) ",
+        "begins": "",
+        "entry": f'$display("{form}cycle %0d expected %h returned %h"{which}, {words})',
+        "more": f'$display("{form}more"{which and ", of_unit"})',
+        "over": "",
+    }
 
 
 # ---- the register of a TAP
@@ -222,6 +199,8 @@ def tap_parts(target: Target) -> dict[str, str]:
 
 
 TAP_READS = template(__file__, "log_window_tap_reads.sv")
+# a unit's log ends where the next scan is of another
+TAP_TURN = template(__file__, "log_window_turn.sv")
 
 
 def scan_length(target: Target) -> int:
@@ -250,14 +229,24 @@ def tap_reads(target: Target, size: int, width: int) -> str:
         is_open = network.constant(width, 1 << scan - 1)
         begin = f"shift({network.whole(target, size)}, {network.constant(width, network.to_log(size))});"
         word, end = is_open, f"shift({scan}, {network.constant(width, 1)});"
-    form, unit = ("unit %0d ", f", heard[{at['unit']}]") if target.is_chip else ("", "")
+    words = f"heard[{at['cycle']}], heard[{at['expected']}], heard[{at['returned']}]"
+    told = taken(target, f"heard[{at['unit']}]" if target.is_chip else "0", words)
+    turn = TAP_TURN.substitute(unit=at["unit"], more=told["more"]) if target.is_chip else ""
     return TAP_READS.substitute(
-        length=scan, last=at["last"], valid=at["valid"], more=at["more"], cycle=at["cycle"], wanted=at["expected"],
-        got=at["returned"], form=form, unit=unit, begin=begin, word=word, end=end,
+        name=target.name, length=scan, last=at["last"], valid=at["valid"], more_at=at["more"], begin=begin, word=word,
+        end=end, turn=turn, most=target.count * depth_of(target), **told,
     )
 
 
+def tap_declared(target: Target) -> str:
+    """What the testbench of a TAP declares for the log."""
+    if target.depth is None:
+        return ""
+    return "  reg more_came;\n" + ("  integer of_unit;\n" if target.is_chip else "")
+
+
 TCL = template(__file__, "log_window_tcl.tcl")
+TCL_TURN = template(__file__, "log_window_turn.tcl")
 
 
 def tcl(target: Target, widths: list[int]) -> str:
@@ -265,7 +254,10 @@ def tcl(target: Target, widths: list[int]) -> str:
     scans, rest = (" ".join(f"{one} 0" for one in some) for some in ([one for _, one, _ in fields(target)], widths[1:]))
     first = 1 if target.has_sib else 0
     at = {f"at_{name}": str(first + place) for place, (name, _, _) in enumerate(fields(target))}
-    unit = f"unit [format %d 0x[lindex $entry {at['at_unit']}]] " if target.is_chip else ""
+    of_units = {"whose": "", "turn": "", "of_last": "", "unit": ""}
+    if target.is_chip:
+        turn = TCL_TURN.substitute(at_unit=at["at_unit"])
+        of_units = {"whose": "  set whose 0\n", "turn": turn, "of_last": "unit $whose ", "unit": "unit $unit "}
     # behind the parts of the register stand the bits of the network, and round those of the log
     own, of_log = (" 1 1 1 0", "1 0 {} 1 1") if target.has_sib else ("", "{}")
     return TCL.substitute(
@@ -278,6 +270,6 @@ def tcl(target: Target, widths: list[int]) -> str:
         to_end=f"drscan bist.tap 1 1 {scans} 1 0" if target.has_sib else "irscan bist.tap 0x8",
         fields=of_log.format(scans),
         most=target.count * depth_of(target),
-        unit=unit,
+        **of_units,
         **at,
     )

@@ -3,7 +3,7 @@ from __future__ import annotations
 
 import dataclasses
 
-from vidlakost_tools.access import log_window, network
+from vidlakost_tools.access import log_window, logs, network
 from vidlakost_tools.access.bench import most, testbench
 from vidlakost_tools.access.block import inside
 from vidlakost_tools.access.target import model_links
@@ -95,7 +95,7 @@ def block(target: Target) -> str:
     body = BODY.substitute(
         last=length(target) - 1,
         held=f"  reg {Port('', 'ignore', target.count).declared().strip()};\n" if target.is_chip else "",
-        inside=inside(target, "tck", "trst_n") + log_window.inside(target),
+        inside=inside(target, "tck", "trst_n") + logs.inside(target),
         **log,
         **network.tap_parts(target, length(target) - 1, log, log_size - 1, update),
         identity=format(target.identity, "08x"),
@@ -192,7 +192,7 @@ def bench(target: Target) -> str:
     at = {part.name: part.bits for part in parts(target)}
     declared = "".join(f"  reg {name} = 1'b0;\n" for name in ("tck", "tms", "tdi"))
     declared += "  reg trst_n = 1'b1;\n  wire tdo;\n  wire tdo_en;\n"
-    declared += "  reg more_came = 1'b0;\n" if target.depth else ""
+    declared += log_window.tap_declared(target)
     size = length(target)
     scan = network.whole(target, size)
     width = max(scan, log_window.scan_length(target) if target.depth else 0)

@@ -102,6 +102,21 @@ class Target:
         unit = [Port("output", "unit", self.unit_bits)] if self.is_chip else []
         return [Port("output", "cycle", 32), *words, *unit]
 
+    # ---- its logs
+
+    @property
+    def has_inner_log(self) -> bool:
+        """Whether the logs stand in NAME_access, since the memories are inside it."""
+        return False
+
+    def log_name(self, number: int) -> str:
+        """Of a unit the memory whose name that of the log's module has."""
+        return self.units[number].memory.name
+
+    def log_links(self, number: int) -> dict[str, str]:
+        """What the ports of a unit's log hang on."""
+        return {name: name + self.units[number].suffix for name in ("en", "we", "wdata", "rdata")}
+
     # ---- what a whole chip has in another way
 
     def conditional(self) -> list[str]:

@@ -5,10 +5,11 @@ from __future__ import annotations
 import dataclasses
 import pathlib
 import re
-from typing import Iterator
 
+from vidlakost_tools.access import logs
 from vidlakost_tools.access.target import Port, Target, Unit, links
-from vidlakost_tools.chip import text as system_text
+from vidlakost_tools.chip import access_log, text as system_text
+from vidlakost_tools.chip.ends import forced, in_vector, joined, width_of
 from vidlakost_tools.chip.steps import cycles
 from vidlakost_tools.chip.system import System
 from vidlakost_tools.collar import planted as collar_planted
@@ -26,7 +27,7 @@ EACH = template(__file__, "access_each.sv")
 AGES = template(__file__, "access_ages.sv")
 ABOUT = """//   +planted +unit=U +bit=B   each word that memory U answers has bit B wrong"""
 ABOUT_EACH = """
-//   +each                      the lowest bit of each macro is wrong, and of each memory its own first failure is read"""
+//   +each                      the lowest bit of each macro is wrong, and of each memory {what} is read"""
 
 
 @dataclasses.dataclass
@@ -60,6 +61,11 @@ class SystemTarget(Target):
 
     # ---- the first failure of each memory
 
+    @property
+    def has_every(self) -> bool:
+        """Whether a testbench can plant a bit in each macro at once."""
+        return self.each or self.has_inner_log
+
     def first_parts(self) -> int:
         """The memories at which a bit is wrong where one is wrong at each macro: of a word of two the low part."""
         return sum(1 << self.system.parts.index(placed.parts[0]) for placed in self.system.collars)
@@ -70,10 +76,17 @@ class SystemTarget(Target):
     def read_each(self, kind: str, read: str) -> str:
         """Behind the run the first failure of each memory, one behind the other, as their bits of ignore are 0."""
         return (
-            EACH.substitute(count=self.count, read=read, ignore=self.ignoring(kind), name=self.name)
+            EACH.substitute(
+                count=self.count, read=read, ignore=self.ignoring(kind), name=self.name, shown=self.shown_each()
+            )
             if self.each
             else ""
         )
+
+    def shown_each(self) -> str:
+        """Without a log the first failures are printed."""
+        words = '"memory %0d cycle %0d expected %h returned %h", whose, when_read, wanted, got'
+        return "" if self.has_inner_log else f"            $display({words});\n"
 
     def ignoring(self, kind: str) -> str:
         """The statements by which all memories but those of `ignored` are told."""
@@ -91,6 +104,24 @@ class SystemTarget(Target):
         return (
             AGES.substitute(count=self.count, inside="dut" if kind == "access" else "dut.tested") if self.each else ""
         )
+
+    # ---- the logs
+
+    @property
+    def has_inner_log(self) -> bool:
+        return self.depth is not None
+
+    def log_name(self, number: int) -> str:
+        """Equal memories have one module for their logs."""
+        return self.system.parts[number].memory.name
+
+    def log_links(self, number: int) -> dict[str, str]:
+        suffix = self.units[number].suffix
+        return {"en": self.asked(number), "we": "1'b0", "wdata": f"wdata{suffix}", "rdata": f"rdata{suffix}"}
+
+    def asked(self, number: int) -> str:
+        """Whether the test of a memory commands a read."""
+        return f"asks[{number}]" if self.count > 1 else "asks"
 
     @property
     def has_scan(self) -> bool:
@@ -111,14 +142,16 @@ class SystemTarget(Target):
 
     def nets(self) -> list[str]:
         """What each memory's test writes and reads."""
-        found = []
+        found = [f"  wire {ranged(self.count)}asks;"]
+        if not self.has_inner_log:
+            found += ["  wire unused;", "  assign unused = &{1'b0, asks};"]
         for unit in self.units:
             word = f"[{unit.memory.bits - 1}:0] " if unit.memory.bits > 1 else ""
             found += [f"  wire {word}wdata{unit.suffix};", f"  wire {word}rdata{unit.suffix};"]
         return found
 
     def self_test(self) -> list[str]:
-        seen = []
+        seen = [".asks(asks)"]
         for unit in self.units:
             seen += [f".given{unit.suffix}(wdata{unit.suffix})", f".taken{unit.suffix}(rdata{unit.suffix})"]
         return [
@@ -138,7 +171,8 @@ class SystemTarget(Target):
         """The chip's pins; the inputs are at rest but for a moment at the begin."""
         inputs, outputs = self.by_way("input"), self.by_way("output")
         found = [f"  reg [{width_of(inputs) - 1}:0] pins = {width_of(inputs)}'d0;"]
-        found += [f"  wire {ranged(port.width)}{port.name} = pins[{high}:{low}];" for port, high, low in placed(inputs)]
+        for port, high, low in in_vector(inputs):
+            found.append(f"  wire {ranged(port.width)}{port.name} = pins[{high}:{low}];")
         found += [f"  wire {ranged(port.width)}{port.name};" for port in outputs]
         power = [f"`ifdef {POWER}", *(f"  wire {name} = 1'b1;" for name in self.supplies()), "`endif"]
         return "\n".join([*found, *(power if self.supplies() else [])])
@@ -147,27 +181,23 @@ class SystemTarget(Target):
         return [port for port in self.ports() if port.direction == way]
 
     def ends(self, kind: str) -> str:
-        """Before the clock's first edge each bit of each pin by itself, from the chip to the module inside and back."""
-        inside = "dut.self_test" if kind == "access" else "dut.tested.self_test"
-        inputs, outputs = self.by_way("input"), self.by_way("output")
-        # in each word the bits whose number has a 1 in some place, and then the others
-        outs, forced = width_of(outputs), []
-        words = [sum((bit >> place & 1) << bit for bit in range(outs)) for place in range(outs.bit_length())]
-        for word in [one for word in words for one in (word, (1 << outs) - 1 - word)]:
-            for port, _, low in placed(outputs):
-                bits = word >> low & (1 << port.width) - 1
-                forced.append(f"    force {inside}.{port.name} = {port.width}'h{bits:x};")
-            forced.append("    #0 outputs_looked_at;")
+        """Before the clock's first edge each bit of each pin by itself, from the chip to the module inside and back,
+        and of what goes to the logs."""
+        tested = "dut" if kind == "access" else "dut.tested"
+        inside, inputs = f"{tested}.self_test", self.by_way("input")
+        ends = [(port, port.name) for port in self.by_way("output")]
+        ends += access_log.words_to(self, tested) if self.has_inner_log else []
+        outputs = [port for port, _ in ends]
         return self.ages(kind) + ENDS.substitute(
             name=self.name,
             ins=width_of(inputs),
-            outs=outs,
+            outs=width_of(outputs),
             arrived=joined([f"{inside}.{port.name}" for port in inputs]),
             said=joined([f"{inside}.{port.name}" for port in outputs]),
-            seen=joined([port.name for port in outputs]),
-            forced="\n".join(forced),
+            seen=joined([end for _, end in ends]),
+            forced="\n".join(forced(inside, outputs)),
             released="\n".join(f"    release {inside}.{port.name};" for port in outputs),
-        )
+        ) + (access_log.looked_at(self, tested) if self.has_inner_log else "")
 
     def bench_links(self) -> str:
         power = [f"`ifdef {POWER}", *(f"    .{name}({name})," for name in self.supplies()), "`endif"]
@@ -192,28 +222,12 @@ class SystemTarget(Target):
 
     def beside_nets(self) -> str:
         each = f"  reg [{self.count - 1}:0] ignored = {self.count}'d0;\n  reg is_each = 1'b0;\n  integer asked_one;\n"
-        each += '  initial is_each = $test$plusargs("each") != 0;\n' if self.each else ""
+        each += '  initial is_each = $test$plusargs("each") != 0;\n' if self.has_every else ""
         return each + f"  wire [{3 * len(self.system.collars) - 1}:0] planted_at;\n  wire [6:0] planted_bit;\n"
 
     def how_planted(self) -> str:
-        return ABOUT + ABOUT_EACH * self.each
-
-
-def width_of(ports: list[Port]) -> int:
-    return sum(port.width for port in ports)
-
-
-def placed(ports: list[Port]) -> Iterator[tuple[Port, int, int]]:
-    """Each port with its highest and its lowest place where all of them stand in one vector, the first one lowest."""
-    low = 0
-    for port in ports:
-        yield port, low + port.width - 1, low
-        low += port.width
-
-
-def joined(names: list[str]) -> str:
-    """Nets in one vector, the first one lowest."""
-    return "{" + ", ".join(reversed(names)) + "}"
+        what = "its own first failure" if self.each else "its own log"
+        return ABOUT + ABOUT_EACH.format(what=what) * self.has_every
 
 
 def of_system(system: System) -> SystemTarget:
@@ -228,15 +242,27 @@ def of_system(system: System) -> SystemTarget:
 
 
 def refuse_inner_names(target: SystemTarget, texts: dict[str, str]) -> None:
-    """No pin of the chip has the name of a net inside the modules that are written."""
+    """No pin of the chip has the name of a net inside the modules that are written, or of another port of theirs."""
     pins = {port.name for port in target.ports()} | set(target.supplies())
+    others = {port.name for port in logs.ports(target)}
     for name, text in texts.items():
         if not name.endswith(".v"):
             continue
-        declared = pins & set(INNER.findall(text))
+        declared = pins & {*others, *INNER.findall(text)}
         if declared:
             net = sorted(declared)[0]
             raise ToolError(f"{name} would have a net {net}, and the chip has a pin of that name: rename a memory")
+
+
+def refuse_log_names(target: SystemTarget) -> None:
+    """No module of a log has the name of another module."""
+    system = target.system
+    made = {f"{target.log_name(number)}_log".lower() for number in range(target.count if target.has_inner_log else 0)}
+    theirs = [placed.macro.name for placed in system.collars]
+    theirs += [system.name_of(number) for number in range(len(system.chips))]
+    twice = next((name for name in theirs if name.lower() in made), None)
+    if twice:
+        raise ToolError(f"the log of a memory would be a module {twice}, and another module has that name: rename one")
 
 
 def files_of(folder: pathlib.Path, target: SystemTarget) -> list[str]:
@@ -246,7 +272,7 @@ def files_of(folder: pathlib.Path, target: SystemTarget) -> list[str]:
         raise ToolError(
             f"{folder} has no {target.top}.v and files.f: it is the folder that vidlakost top --access wrote"
         )
-    if " given_0" not in read_text(str(module), LARGE_BYTES):
+    if " asks" not in read_text(str(module), LARGE_BYTES):
         raise ToolError(f"{module} tells no tester what its memories answer: write it by vidlakost top --access")
     names = [line for line in lines_of(read_described(str(listed))) if line and not line.startswith("//")]
     return [name for name in names if name != f"{target.top}_tb.sv"]
@@ -255,4 +281,4 @@ def files_of(folder: pathlib.Path, target: SystemTarget) -> list[str]:
 def left_out(target: Target) -> list[str]:
     """What is written of a memory and not of a whole chip, whose models stand in its folder."""
     name = target.name
-    return [f"{name}_model.v", f"{name}_board.v", f"{name}_socket.cpp", f"{name}.cfg"]
+    return [f"{name}_model.v", f"{name}_board.v", f"{name}_socket.cpp", f"{name}.cfg", f"{name}_log.tcl"]

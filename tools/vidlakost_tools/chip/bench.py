@@ -93,6 +93,7 @@ def bench(system: System) -> str:
         tasks += one.tasks() + USE.substitute(name=placed.name, uses=one.uses())
         links += chip_side(placed, one)
         again.append(one.again())
+    links += [".asks()"] if system.has_access else []
     links += [f".{name}()" for name, _ in seen_by_tester(system)]
     turns, text = runs(system), Text(system)
     text.text()

@@ -5,7 +5,7 @@ from __future__ import annotations
 
 from typing import TYPE_CHECKING, List
 
-from vidlakost_tools.chip.system import Placed, System
+from vidlakost_tools.chip.system import Part, Placed, System
 from vidlakost_tools.collar.bench import Bench
 from vidlakost_tools.collar.names import halves
 from vidlakost_tools.collar.pins import Pin
@@ -69,6 +69,16 @@ class Watch:
             for name in ("en", "we", "addr", "wdata", "rdata"):
                 theirs, ours = f"{chip}.{name}_{part.place}", f"{self.collar(number)}.{half}_{name}"
                 found += self.compared(f"{half}_{name} of the collar of {placed.name}", ours, theirs)
+            found += self.told(part, chip) if self.system.has_access else []
+        return found
+
+    def told(self, part: Part, chip: str) -> List[str]:
+        """A tester is told what the test of a memory commands, writes and reads."""
+        number, place = self.system.parts.index(part), part.place
+        asks = f"dut.asks[{number}]" if len(self.system.parts) > 1 else "dut.asks"
+        found = self.compared(f"asks of {part.name}", asks, f"({chip}.en_{place} & ~{chip}.we_{place})")
+        for name, theirs in (("given", "wdata"), ("taken", "rdata")):
+            found += self.compared(f"{name} of {part.name}", f"dut.{name}_{number}", f"{chip}.{theirs}_{place}")
         return found
 
     def clocks(self) -> List[str]:

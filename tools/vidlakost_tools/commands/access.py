@@ -2,8 +2,8 @@
 
 usage: vidlakost access MEMORY|CHIPFILE FOLDER [--apb] [--jtag [--sib] [--idcode HEX]] [--log N] [--march MARCH]
                         [--mhz F]
-       vidlakost access LIST|CHIPFILE PINS.. FOLDER [--in-place | --each] [--apb] [--jtag [--sib] [--idcode HEX]]
-                        [--mhz F]
+       vidlakost access LIST|CHIPFILE PINS.. FOLDER [--in-place | [--each] [--log N]] [--apb]
+                        [--jtag [--sib] [--idcode HEX]] [--mhz F]
        vidlakost access --help
 
 NAME is the name of the memory or of the chip. It writes to FOLDER
@@ -33,9 +33,13 @@ each memory, and of the first failure the cycle, the words and the memory. There
 then; the files of each testbench are listed in NAME_access.f, NAME_apb.f or NAME_tap.f, and a planted bit is wrong in
 each word that memory U answers:
     cd FOLDER && iverilog -g2012 -o tb -c NAME_tap.f && vvp -n tb && vvp -n tb +planted +unit=3 +bit=1
+There --log wants --apb or --jtag, since a bus reads the logs, which stand in NAME_access. Equal memories share one
+MEMORY_log.v. A log keeps wrong reads of the march, and none of the lanes. The testbenches look at each log, and print
+it with `unit U` in each line for `vidlakost bitmap` and `vidlakost diagnosis`; with +each in place of +planted the
+lowest bit of each macro is wrong.
 With --each the first failure of each memory is kept: behind done each change of ignore tells that of another one,
-without a new run, as the procedure read_first of NAME.pdl has it, and +each in place of +planted tries that. A second
-register of each word of each memory is what it costs.
+without a new run, as the procedure read_first of NAME.pdl has it, and +each tries that. A second register of each word
+of each memory is what it costs.
 With --in-place it is of the memories that `vidlakost top --in-place` left in their places: NAME_access is there, and
 its ports to_I and of_I are those of the bus and the TAP too. Behind done each change of ignore brings the first failure
 of another memory, without a new run. In the testbenches what stands at each bundle is no memory; those are in that of
@@ -128,7 +132,7 @@ def texts(target: Target, options: dict[str, Any]) -> dict[str, str]:
         f"{name}_model.v": access_block.model(target),
     }
     if depth is not None:
-        made.update({f"{unit.memory.name}_log.v": fail_log.block(unit.memory, depth) for unit in target.units})
+        made.update(fail_log.blocks(target, depth))
         if not target.is_chip:
             made[f"{name}_log_tb.sv"] = fail_log.bench(target, depth)
     if "--apb" in options or "--jtag" in options:
@@ -172,32 +176,42 @@ def of_tap(target: Target, options: dict[str, Any]) -> dict[str, str]:
     return {**made, **{f"{name}.{ending}": make(target) for ending, make in described.items()}}
 
 
-def planned(system: soc.System, path: str, has_each: bool) -> system_access.SystemTarget:
+def planned(system: soc.System, path: str, options: dict[str, Any]) -> system_access.SystemTarget:
     """The target of a whole whose memories are joined by a module."""
     soc.planned(system, path)
-    return dataclasses.replace(system_access.of_system(system), each=has_each)
+    target = system_access.of_system(system)
+    return dataclasses.replace(target, each="--each" in options, depth=depth_of(options))
+
+
+def refuse_of_whole(pins: list[str], options: dict[str, Any]) -> None:
+    """Refuses words that don't go together where it is of a whole chip."""
+    why = ""
+    if not pins:
+        why = "of a list the files of pins are wanted, as for top"
+    elif "--march" in options:
+        why = "--march is of one memory: here the chip file or the list names the marches, so leave it out"
+    elif {"--in-place", "--each"} <= set(options):
+        why = "--in-place keeps the first failure of each memory without --each"
+    elif {"--in-place", "--log"} <= set(options):
+        why = "a memory in its place keeps its first failure alone: leave out --log, or join all by `vidlakost top`"
+    elif "--log" in options and not {"--apb", "--jtag"} & set(options):
+        why = "a bus reads the log of a whole chip: write --apb or --jtag, too"
+    if why:
+        raise ToolError(f"{why}\n{usage_of(__doc__)}")
 
 
 def of_whole(path: str, pins: list[str], out: pathlib.Path, options: dict[str, Any]) -> None:
     """Writes what stands round the whole chip of a folder."""
-    refused = [name for name in ("--log", "--march") if name in options]
-    if {"--in-place", "--each"} <= set(options):
-        raise ToolError(f"--in-place keeps the first failure of each memory without --each\n{usage_of(__doc__)}")
-    if refused or not pins:
-        why = (
-            f"{refused[0]} is of a memory or a chip file alone"
-            if refused
-            else "of a list the files of pins are wanted, as for top"
-        )
-        raise ToolError(f"{why}\n{usage_of(__doc__)}")
+    refuse_of_whole(pins, options)
     system = soc.read_system(path)
     soc.give_collars(system, pins)
-    target: Target = of_places(system) if "--in-place" in options else planned(system, path, "--each" in options)
+    target: Target = of_places(system) if "--in-place" in options else planned(system, path, options)
     made = {name: text for name, text in texts(target, options).items() if name not in system_access.left_out(target)}
     beside = []
     if isinstance(target, system_access.SystemTarget):
         beside = system_access.files_of(out, target)
         system_access.refuse_inner_names(target, made)
+        system_access.refuse_log_names(target)
     for kind in [kind for kind in ("access", "apb", "tap") if f"{target.name}_{kind}.v" in made]:
         between = [f"{target.name}_cross.v"] if kind != "access" else []
         between += [f"{target.name}_sib.v"] if kind == "tap" and "--sib" in options else []
@@ -206,6 +220,7 @@ def of_whole(path: str, pins: list[str], out: pathlib.Path, options: dict[str, A
             f"{target.name}_{kind}.v",
             *between,
             *([f"{target.name}_access.v"] if between else []),
+            *(name for name in made if name.endswith("_log.v")),
         ]
         made[f"{target.name}_{kind}.f"] = "\n".join([*own, *beside, ""])
     inputs = [path, *pins, *(name for part in system.parts for name in (part.unit.march, part.unit.memory_file))]

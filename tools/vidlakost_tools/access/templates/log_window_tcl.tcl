@@ -20,14 +20,14 @@ proc run_and_read {} {
 proc read_log {} {
   @@{to_log}
   set more 0
-  for {set scan 0} {$scan < @@{most}} {incr scan} {
+@@{whose}  for {set scan 0} {$scan < @@{most}} {incr scan} {
     set entry [drscan bist.tap @@{fields}]
-    if {[format %d 0x[lindex $entry @@{at_valid}]] != 0} {
+@@{turn}    if {[format %d 0x[lindex $entry @@{at_valid}]] != 0} {
       puts stdout "@@{unit}cycle [format %d 0x[lindex $entry @@{at_cycle}]] expected [lindex $entry @@{at_expected}] returned [lindex $entry @@{at_returned}]"
     }
     if {[format %d 0x[lindex $entry @@{at_more}]] != 0} { set more 1 }
     if {[format %d 0x[lindex $entry @@{at_last}]] != 0} { break }
   }
-  if {$more} { puts stdout "more" }
+  if {$more} { puts stdout "@@{of_last}more" }
   @@{to_end}
 }
