@@ -8,6 +8,7 @@ usage: vidlakost locate MARCH MEMORY CYCLE [EXPECTED RETURNED]
        vidlakost locate CHIPFILE --chip CYCLE FAILBITS [EXPECTED RETURNED]
        vidlakost locate CHIPFILE --chip --tdr HEX [--sib]
        vidlakost locate LIST|CHIPFILE PINS.. --whole CYCLE FAILBITS [EXPECTED RETURNED]
+       vidlakost locate LIST|CHIPFILE PINS.. --whole --line LINE     from the line of a log, or of a testbench
        vidlakost locate LIST|CHIPFILE PINS.. --whole --tdr HEX [--sib]
        vidlakost locate --help
 
@@ -113,12 +114,25 @@ def of_whole(words: list[str], options: dict[str, Any], mux: int) -> list[str]:
         if rest or "--at" in options:
             raise ToolError(f"--tdr stands behind the pins alone\n{usage_of(__doc__)}")
         return system_locate.register(system, options["--tdr"], mux, "--sib" in options)
+    if "--line" in options:
+        return of_line(system, rest, options["--line"], mux)
     if len(rest) not in (2, 4):
         raise ToolError(f"--whole takes a cycle, the bits of fail, and two words or none\n{usage_of(__doc__)}")
     parts = [system.parts[number] for number in tester.failing_units(rest[1], len(system.parts))]
     if len(parts) > 1:
         raise ToolError(f"{', '.join(part.name for part in parts)} fail: whose is the cycle? Give one bit alone")
     return list(system_locate.in_system(system, answered(rest[0], options), parts[0], rest[2:], mux))
+
+
+def of_line(system: soc.System, rest: list[str], line: str, mux: int) -> list[str]:
+    """What is said of a line of a log of a whole chip."""
+    match, whose = entry_in(line), OF_UNIT.search(line)
+    if match is None or whose is None or rest:
+        raise ToolError("--line has 'unit U cycle C expected X returned Y', and stands behind the pins alone")
+    if int(whose[1]) >= len(system.parts):
+        raise ToolError(f"the unit is 0 to {len(system.parts) - 1}, and not {whose[1]}")
+    part = system.parts[int(whose[1])]
+    return list(system_locate.in_system(system, int(match[1]), part, [match[2], match[3]], mux))
 
 
 def answered(text: str, options: dict[str, Any]) -> int:
@@ -165,7 +179,7 @@ def main(arguments: list[str]) -> int:
             raise ToolError("the line names no read: it has no 'cycle C expected X returned Y'")
         whose = OF_UNIT.search(options["--line"])
         if whose is not None:
-            why = "whose cycles are the chip's: give the chip file and --chip, with the cycle and the words"
+            why = "whose cycles are the chip's: give the chip file with --chip and the cycle, or its pins with --whole"
             raise ToolError(f"the line is of unit {whose[1]} of a chip, {why}")
         rest = list(match.groups())
     if len(rest) not in (1, 3):
