@@ -178,6 +178,7 @@ WRONG_BITS = [
     ("late_sib.v", "held <= 1'b0", "held <= 1'b1"),
     ("late_sib.v", "held <= shifted", "held <= 1'b0"),
     ("late_sib.v", "to_si = shifted", "to_si = si"),
+    ("late_sib.v", "to_sel = sel & held", "to_sel = sel"),
     ("late_tap.v", "if (log_sel) begin", "begin"),
     ("late_tap.v", ".si(log_so)", ".si(tdi)"),
 ]
@@ -202,7 +203,8 @@ def with_bits(bench: Bench) -> None:
         right = path.read_text()
         bench.is_so(old in right, f"{old!r} does not stand in {name}")
         path.write_text(right.replace(old, new))
-        call = f"cd sib && iverilog -g2012 -o wrong {files} && timeout 300 vvp -n wrong {planted}"
+        runs = " && ".join(f"timeout 300 vvp -n wrong {more}" for more in ("", planted))
+        call = f"cd sib && iverilog -g2012 -o wrong {files} && {runs}"
         done = bench.run(["bash", "-c", call])
         log = [line for line in done.stdout.splitlines() if line.startswith("cycle ")]
         bench.is_so(done.returncode != 0 or log != right_log, f"{name} with {new!r} passes: {done.stdout}")

@@ -132,6 +132,7 @@ THROUGH = """      shift({count}, {word});
 CLOSED = """      // while its segment insertion bit is 0 the test runs on
       shift({scan}, {close});
       shift({bits}, {rest});
+      repeat (16) turn(1'b0, 1'b0);
       if (test !== 1'b1) $fatal(1, "{name}: test is %b while start is 1", test);
 """
 
