@@ -89,7 +89,8 @@ class Lines(unittest.TestCase):
         self.assertEqual(self.refusal([*PINS, *PORT[:3]]), ": no line for port we or port write")
 
     def test_what_is_twice(self) -> None:
-        self.assertIn(":8: 'addr' may stand in one line only, and line 5 has it; a macro", self.refusal([*PINS, "addr b"]))
+        once = ":8: 'addr' may stand in one line only, and line 5 has it; a macro"
+        self.assertIn(once, self.refusal([*PINS, "addr b"]))
         self.assertIn(":8: two lines name the pin 'a': line 5 has it", self.refusal([*PINS, "open a"]))
         self.assertIn(":8: 'raddr' replaces 'addr'", self.refusal([*PINS, "raddr r", "waddr w"]))
 
