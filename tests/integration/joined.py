@@ -7,7 +7,8 @@ import re
 import shutil
 from typing import List
 
-from tests.integration.access import CAMERA, JOINS, PINS, PLACED, WHOLE
+from tests.integration.access import CAMERA, JOINS, PINS
+from tests.integration.access_calls import JOINED_PINS, PLACED_PINS, WHOLE
 from tests.integration.bench import Bench
 from tests.integration.call import Call
 from tests.integration.files import FILES
@@ -30,14 +31,14 @@ unit 3 cycle 88 expected 00 returned 01
 unit 3 more
 unit 4 cycle 88 expected 0 returned 1
 """
-IN_WHOLE = f"tools/bitmap joined.log {' '.join([JOINS, *PINS])}"
-TO_WHOLE = f"tools/access {' '.join([JOINS, *PINS])} acc5"
-AT_LINE = f"{' '.join(WHOLE)} --line"
+IN_WHOLE = f"tools/bitmap joined.log {JOINS} {JOINED_PINS}"
+TO_WHOLE = f"tools/access {JOINS} {JOINED_PINS} acc5"
+AT_LINE = f"{WHOLE} --line"
 CALLS: List[Call] = [
     Call(f"{TO_WHOLE} --log 4", status=2, says="access: a bus reads the log of a whole chip: write --apb or"),
     Call(f"{TO_WHOLE} --march access.m", status=2, says="access: --march is of one memory: here the chip file"),
     Call(
-        f"tools/access {' '.join([CAMERA, *PLACED])} acc5 --in-place --apb --log 4",
+        f"tools/access {CAMERA} {PLACED_PINS} acc5 --in-place --apb --log 4",
         status=2,
         says="access: a memory in its place keeps its first failure alone: leave out --log",
     ),
@@ -61,7 +62,7 @@ CALLS: List[Call] = [
         says="bitmap: a log, a march and a memory are wanted",
     ),
     Call(f"{AT_LINE} 'unit 5 cycle 88 expected 00 returned 02'", prints="memory high, cycle 7 of its test\n"),
-    Call(f"{AT_LINE} 'unit 8 cycle 88 expected 00 returned 02'", status=2, says="locate: the unit is 0 to 7, and not 8"),
+    Call(f"{AT_LINE} 'unit 8 cycle 88 expected 00 returned 02'", status=2, says="locate: the unit is 0 to 7"),
     Call(f"{AT_LINE} 'cycle 88 expected 00 returned 02'", status=2, says="locate: --line has 'unit U cycle C"),
     Call(
         f"{AT_LINE} 'unit 5 cycle 88 expected 00 returned 02' 88 00100000",

@@ -6,7 +6,6 @@ import os
 import pathlib
 import random
 import re
-import shlex
 import shutil
 import signal
 import tempfile
@@ -14,6 +13,7 @@ from typing import Callable
 
 from tests.integration import (
     access,
+    access_calls,
     audit,
     check_calls,
     collar as collars,
@@ -50,6 +50,18 @@ from vidlakost_tools.texts.report import Verdict, read_report
 from vidlakost_tools.tool import ToolError
 
 TOOLS = ROOT / "tools"
+# the calls of tools, by what they try
+TABLES = (
+    report_calls,
+    tool_calls,
+    access_calls,
+    audit,
+    judges_calls,
+    hostile_calls,
+    tester,
+    joined,
+    collar_calls,
+)
 
 
 def side_by_side(bench: Bench, calls: list[Call]) -> None:
@@ -121,9 +133,8 @@ def tools(bench: Bench) -> None:
     calls = [Call(f"tools/{name} --help", prints=f"usage: vidlakost {name}") for name in names]
     calls += [Call(f"./vidlakost help {name}", prints=f"usage: vidlakost {name}") for name in names]
     calls += [Call(f"tools/{name} --nothing", status=2, says=f"{name}: there is no option --nothing") for name in names]
-    for table in (report_calls, tool_calls, audit, judges_calls, hostile_calls, tester, joined, collar_calls):
+    for table in TABLES:
         calls += table.CALLS
-    calls += [Call(shlex.join(words), status, prints, says, needs) for needs, words, status, prints, says in access.CALLS]
     for need in sorted({need for call in calls for need in call.missing()}):
         print(f"{need} is not installed, so the calls that need it are left out")
     side_by_side(bench, [call for call in calls if not call.missing()])

@@ -68,7 +68,8 @@ class Runs(unittest.TestCase):
     def test_what_tells_nothing_of_a_run(self) -> None:
         for run, cycles, more, why in (
             (1, [9], True, "full before the second run"), (1, [9], False, "no read of the second run was wrong"),
-            (0, [110], True, "no read of the first run was wrong"), (0, [9, 61, 110], False, "in cycle 61 the test of m"),
+            (0, [110], True, "no read of the first run was wrong"),
+            (0, [9, 61, 110], False, "in cycle 61 the test of m"),
         ):
             with self.assertRaisesRegex(ToolError, why):
                 self.of(run, cycles, more)

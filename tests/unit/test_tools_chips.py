@@ -148,7 +148,8 @@ class Refused(Chips):
     def test_words_of_access(self) -> None:
         pins = [f"@/{name}.pins" for name in NAMES]
         self.refused("^--sib is of a TAP, and stands beside --jtag", "access", "@/four.mem", "@/out", "--sib")
-        self.refused("^a bus reads the log of a whole chip: write --apb or --jtag", "access", "@/soc.chip", *pins, "@/out", "--log", "2")
+        bus = "^a bus reads the log of a whole chip: write --apb or --jtag"
+        self.refused(bus, "access", "@/soc.chip", *pins, "@/out", "--log", "2")
         self.refused(
             "^--in-place keeps the first failure", "access", "@/soc.chip", *pins, "@/out", "--in-place", "--each"
         )
