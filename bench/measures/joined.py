@@ -11,7 +11,7 @@ import shutil
 import subprocess
 import sys
 import tempfile
-from typing import List, Tuple
+from typing import List, Optional, Tuple
 
 from measures.damages import POWER, Damage
 from measures.parts import PROGRAM, ROOT
@@ -82,15 +82,24 @@ class Place:
             power = [f"-D{POWER}"] if damage.is_power else []
             if not called(["iverilog", "-g2012", *power, "-o", "tb", "-c", self.listed], folder):
                 return Outcome.TEXT
-            if not all(called(["vvp", "-n", "tb", *more], folder) for more in self.runs):
-                return Outcome.RUN
-            if self.beside and not called(self.beside, folder):
+            ran = self.runs_through(folder)
+            if ran is False:
                 return Outcome.RUN
             if not self.is_linted(folder, power):
                 return Outcome.LINT
+            if ran is None:
+                return Outcome.LATE
             if self.is_same(damage, folder, []) or self.is_same(damage, folder, ["flatten"]):
                 return Outcome.PROVED
         return Outcome.REASON if reason_of(self.told(damage)) else Outcome.UNTOLD
+
+    def runs_through(self, folder: pathlib.Path) -> Optional[bool]:
+        """Whether each run passes; None where one comes to no end, as with a loop of wires, of which lint has a word."""
+        try:
+            runs = all(called(["vvp", "-n", "tb", *more], folder) for more in self.runs)
+            return runs and (not self.beside or called(self.beside, folder))
+        except subprocess.TimeoutExpired:
+            return None
 
     def is_linted(self, folder: pathlib.Path, power: List[str]) -> bool:
         """Whether Verilator's lint is silent."""
