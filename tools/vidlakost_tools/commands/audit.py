@@ -1,51 +1,54 @@
-"""Somebody else's controller, in any Verilog, to a verdict with its reason.
+"""A verdict, with its reason, on somebody else's controller in any Verilog.
 
 usage: vidlakost audit VERILOG .. MARCH MEMORY [--top NAME] [--pins FILE] [--liberty LIB] [--cells ice40] [--vcd FILE]
-                       [--limit SECONDS] [--reset-open] [--simulate] [--fail-late N]
-                       [--strict]
-       vidlakost audit --random N [--seed S]      random modules whose fail is damaged, beside Yosys' model checker
+                       [--limit SECONDS] [--reset-open] [--simulate] [--fail-late N] [--strict]
+       vidlakost audit --random N [--seed S]      random modules with a damaged fail, compared with Yosys' model checker
        vidlakost audit --help
 
-VERILOG is one file or several, also in VHDL where GHDL is installed, or a netlist with the library of its cells (--liberty,
-which may come several times), or one of SB_LUT4, SB_CARRY, SB_GB and the flip-flops SB_DFF.. of ice40 with --cells ice40, of
-which the models in Yosys' own share folder are read. Where the ports have other names than those of a self-test (clk, reset, rdata; en, we, addr,
-wdata, done, fail), --pins names a file with a line for each pin (`#` begins a comment):
-    clk bist_clk             the pin of a port; without a line for it, a port is the pin of its own name
-    reset ~rst_n             with ~ in front a pin that is active low, or a clock of which the falling edge counts
+VERILOG is one file or several. If GHDL is installed, they may be VHDL. They may also be a netlist. Then --liberty
+names the library of its cells; it may come several times. For a netlist of ice40 (SB_LUT4, SB_CARRY, SB_GB and the
+flip-flops SB_DFF..), --cells ice40 reads the models in Yosys' own share folder.
+A self-test has the ports clk, reset, rdata; en, we, addr, wdata, done, fail. If your pins have other names, --pins
+names a file with a line for each pin (`#` begins a comment):
+    clk bist_clk             the pin of a port; a port without a line has the pin of its own name
+    reset ~rst_n             ~ marks a pin that is active low, or a clock whose falling edge counts
     tie start 1              a further input and its value
-    open busy                a further output, which is not looked at
-It tells in this order
-    the module's read        what Yosys warns of; what is outside the subset is refused with its signal, file and line
-    check                    what `check` says of the ports en, we, addr, wdata and done; of a port that differs what is due
-                             there, and of one that is unknown why
-    a late start             where the first command comes up to 8 cycles late, whether all is right from there on
-    a late end               where done alone comes up to 7 cycles late, whether the commands are right: behind a comparison in a
-                             pipeline fail may be late too, and not later than done; a finding, unless --fail-late says so
-    behind the end           whether done stays 1 and en stays 0
-    fail                     whether `fail` is right in every history: with each answer right, and with each bit of each
-                             answer the first that is wrong, from any registers
-                             where three values lose what two open values have to do with one another, what fail hangs on is
-                             split into its numbers; where that is too much Yosys' model checker is asked
---vcd writes the run of `check`, in which every register is open at first and every word on rdata, to FILE beside the ports
-that are due, with a save file for GTKWave at the cycle that was found, unless one of yours is there. --limit ends the look
-at `fail` after so many seconds (600), which is then no yes. With --simulate Icarus clocks the sources themselves beside the
-module that Yosys makes of them, for 2,000 cycles from random registers, before a memory some of whose answers are wrong, and
-with random resets: a port that differs is refused, since the sources mean two things. Behind
-the end 64 cycles are looked at, or as many as it takes until nothing changes any more; where something still changes, the last
-line says to which cycle all is right, and with --strict that is a finding. So is a warning then that a simulator reads the
-sources otherwise, unless --simulate has asked one.
+    open busy                a further output, which audit ignores
+audit reports in this order:
+    reading                  what Yosys warns of; audit refuses what is outside the subset, and names its signal, file
+                             and line
+    check                    what `check` says of the ports en, we, addr, wdata and done; if a port differs, what is due
+                             there; if a port is unknown, why
+    late start               if the first command comes up to 8 cycles late: whether all is right from there on
+    late end                 if done alone comes up to 7 cycles late: whether the commands are right. After a comparison
+                             in a pipeline fail may be late too, but not later than done. A late end is a finding,
+                             unless --fail-late allows it
+    after the end            whether done stays 1 and en stays 0
+    fail                     whether `fail` is right in every history, from any registers: with each answer right, and
+                             with each bit of each answer as the first wrong one.
+                             Three values lose that two open values depend on each other. Then audit splits what fail
+                             depends on into its numbers. If that is too much, it asks Yosys' model checker
+--vcd writes the run of `check` to FILE, beside the ports that are due. Every register is open at first, and so is
+every word on rdata. A save file for GTKWave comes with it, at the cycle that was found, unless one of yours is there.
+--limit ends the look at `fail` after so many seconds (600); the verdict is then no yes.
+--simulate has Icarus clock the sources themselves beside the module that Yosys makes of them. It clocks 2,000 cycles
+from random registers, with random resets, and with a memory that answers some reads wrong. audit refuses a port that
+differs, since the sources then mean two things.
+After the end audit looks at 64 cycles, or until nothing changes any more. If something still changes, the last line
+says to which cycle all is right. --strict makes that a finding. It also makes a finding of a warning that a simulator
+may read the sources otherwise, unless --simulate has asked one.
 
-The last line is `audit: ` and the verdict, as `audit: conforms, fail is exact`. It ends with 0 for that, also from some
-cycles later on, en, done and fail being 0 until then; with 1 for anything else that was found, and where the module is
-refused; with 2 for wrong words or files. In the cycle of the reset these three have to be 0 too; with --reset-open they
-may be anything there, as they are where they come from registers that the reset sets at the clock's edge.
+The last line is `audit: ` and the verdict, as `audit: conforms, fail is exact`. The status is 0 for that verdict, also
+if it holds from some cycles later on, with en, done and fail at 0 until then. It is 1 for any other finding and for a
+refused module, and 2 for wrong words or files. In the cycle of the reset en, done and fail have to be 0 too. They are
+open there if they come from registers that the reset sets at the clock's edge; --reset-open allows that.
 
-What each step rests on. The answer of `check` is the proved program's, of the module that it is given. That this module
-does what the sources do rests on Yosys (and GHDL, and a library's functions), which reads them, and on the plain Python
-that writes its cells as operators. A late start rests on plain Python up to the cycle that is named, and from there on
-`check` tells it. What is told of `fail`, of the cycles behind the end and of reasons rests on Yosys, which makes gates
-of the module, and on plain Python. Pulses shorter than a cycle are not seen, and an asynchronous reset acts in the
-cycle in which it comes."""
+What each step rests on. The proved program gives the answer of `check`, for the module that it reads. Yosys (and GHDL,
+and a library's functions) reads the sources, and plain Python writes its cells as operators; that the module does what
+the sources do rests on both. A late start rests on plain Python up to the cycle that audit names, and on `check` from
+there on. What audit says of `fail`, of the cycles after the end and of reasons rests on Yosys, which makes gates of
+the module, and on plain Python. audit sees no pulse shorter than a cycle, and an asynchronous reset acts in the cycle
+in which it comes."""
 from __future__ import annotations
 
 import pathlib

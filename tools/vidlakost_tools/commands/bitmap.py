@@ -1,4 +1,4 @@
-"""Where the wrong reads of a log lie in the array, and what may have caused them.
+"""Where the wrong reads of a log are in the array, and what may have caused them.
 
 usage: vidlakost bitmap LOG MARCH MEMORY [--mux M] [--svg PICTURE] [--csv TABLE] [--list FAULTS]
        vidlakost bitmap LOG CHIPFILE --unit U [--mux M] [--svg PICTURE] [--csv TABLE] [--list FAULTS]
@@ -6,17 +6,19 @@ usage: vidlakost bitmap LOG MARCH MEMORY [--mux M] [--svg PICTURE] [--csv TABLE]
                         [--list FAULTS]
        vidlakost bitmap --help
 
-LOG has a line `cycle C expected X returned W` for each wrong read, as the testbench NAME_log_tb.sv of `vidlakost access
---log` prints, and a line `more` where others came that it had no room for; other lines are left. In that of a chip each
-of both begins with `unit U`. It has at most 64 MiB. Where another word was expected than this march expects of this
-memory, the log is of others, and is refused. The cycles count as for `vidlakost locate`; of a chip they are those of
-the chip. With PINS the log is of the whole chip that `vidlakost top` joined, and the cycles are those of the whole.
-Where the test of a memory runs twice there, since the chip has second ports, the log is read as that of the first run,
-and with --second as that of the second one. With M words in a row of the array the row of a word is its physical index
-by M, and its bit B lies in column B * M + index modulo M; M is 1 where nothing is said. It prints the shape (cell,
-pair, row, column, other), then of each wrong cell row, column, index, address and bit and how often it was wrong. With
-a list it prints what gives exactly this log, of its primitives and of lines, bits and addresses, as `vidlakost
-diagnosis` tells it."""
+LOG has a line `cycle C expected X returned W` for each wrong read. The testbench NAME_log_tb.sv of `vidlakost access
+--log` prints such lines, and a line `more` if there was no room for further reads. In the log of a chip both kinds of
+lines begin with `unit U`. bitmap skips other lines. A log has at most 64 MiB. If a line expects another word than this
+march expects of this memory, the log belongs to others, and bitmap refuses it. The cycles count as for `vidlakost
+locate`; for a chip they are the chip's.
+With PINS the log is of the whole chip that `vidlakost top` joined, and the cycles are those of the whole. If the chip
+has second ports, the test of a memory may run twice there. Then bitmap reads the log as that of the first run, and with
+--second as that of the second run.
+--mux M says that a row of the array has M words (1 by default). A word is in the row of its physical index divided by
+M. Its bit B is in column B * M + index modulo M.
+bitmap prints the shape (cell, pair, row, column, other). Then it prints each wrong cell, with row, column, index,
+address and bit, and how often it was wrong. With a list it also prints what gives exactly this log: primitives of the
+list, and defects of lines, bits and addresses, as `vidlakost diagnosis` does."""
 from __future__ import annotations
 
 import pathlib

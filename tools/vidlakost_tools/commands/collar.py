@@ -1,55 +1,61 @@
-"""A collar: a memory macro with its self-test, and a multiplexer between that and the chip's own port.
+"""A collar: a memory macro with its self-test, and a multiplexer between that and the functional port.
 
 usage: vidlakost collar MEMORY [MEMORY] --macro PINS FOLDER [--model FILE] [--clock-mux CELL:SELECT:CHIP:TEST:OUT]
                         [--open | --through access|apb|jtag]
        vidlakost collar --help
 
-MEMORY is the description of the memory; PINS tells the pins of the macro, a line each, in any order (`#` begins a comment):
+MEMORY is the description of the memory. PINS lists the pins of the macro, one a line, in any order (`#` begins a
+comment):
     macro NAME               the macro's module
     parameter NAME VALUE     a parameter of it: a number, a literal with its size, or "text"
     clk PIN                  the clock
-    clock2 PIN               a further clock: the chip's, and in test that of the test
-    en PIN [WIDTH]           1 where the memory is commanded; leave it out of a macro that has no enable
-    we PIN [WIDTH]           1 for a write; without `en` it is 1 where a write is commanded
-    read PIN, write PIN      1 where a read is commanded, or a write (of a macro with an enable for each way)
-    addr PIN [WIDTH [at BITS]]   the address, in some bits of the pin, as `at 15:7,5`; of a macro with an address for each
-                             way raddr and waddr
+    clock2 PIN               a further clock: the chip's in use, the test's in test
+    en PIN [WIDTH]           1 for a command; leave it out if the macro has no enable
+    we PIN [WIDTH]           1 for a write; without `en`, 1 for a command that writes
+    read PIN, write PIN      1 for a command that reads, or writes (of a macro with an enable for each way)
+    addr PIN [WIDTH [at BITS]]   the address, in some bits of the pin, as `at 15:7,5`; a macro with an address for each
+                             way has raddr and waddr
     wdata PIN [WIDTH]        the word to write
     rdata PIN [WIDTH]        the word that was read
-    mask PIN WIDTH           which parts of a word are written; `we` and `en` of several bits have a bit for each part too
-    pass PIN WIDTH [VALUE]   a further input: the chip's, and in test VALUE, as that of a power switch
-    out PIN WIDTH            a further output, the chip's
+    mask PIN WIDTH           which parts of a word are written; a `we` or `en` of several bits also has a bit for each
+                             part
+    pass PIN WIDTH [VALUE]   a further input, as that of a power switch: the chip drives it, and in test it is VALUE
+    out PIN WIDTH            a further output, for the chip
     tie PIN VALUE            a further input that is tied, to a literal with its size or to an input of the collar
     open PIN                 a further output that is left open
     power PIN [0|1]          a supply, under `ifdef USE_POWER_PINS; a testbench drives it with this number
-    pins PREFIX LOW HIGH     the bus PREFIX of another line is given bit by bit, as PREFIX0, PREFIX1 and so on
+    pins PREFIX LOW HIGH     the bus PREFIX of another line has a pin for each bit: PREFIX0, PREFIX1 and so on
     registers in N           N registers between the self-test and the macro, in test alone
     registers out N          N registers between the macro and the self-test, in test alone
-    masks                    behind the march try each lane of mask, we and en alone, at the first and the last address
-    port KIND PIN [WIDTH]    of a second port: clk, en, we, read, write, addr, wdata, rdata, mask. The march runs once more,
-                             and reads through it; where it has wdata, it writes through it too
-    bypass                   a port scan_mode: where it is 1, registers answer the chip in place of the macro, and take what
-                             stands at its inputs
-    low MEMORY, high MEMORY  of a word of two descriptions the names of its parts, whose self-tests go in step
-A pin that is active low has ~ in front. The latency of MEMORY is the macro's own and all the registers.
+    masks                    after the march, try each lane of mask, we and en alone, at the first and the last address
+    port KIND PIN [WIDTH]    of a second port: clk, en, we, read, write, addr, wdata, rdata, mask. The march runs once
+                             more, and reads through it; if it has wdata, the march writes through it too
+    bypass                   a port scan_mode: while it is 1, registers answer the chip in place of the macro, and
+                             sample the macro's inputs
+    low MEMORY, high MEMORY  a word of two descriptions: the names of its parts, whose self-tests go in step
+A pin that is active low has ~ in front. The latency of MEMORY is the macro's own plus all the registers.
 
-It writes to FOLDER, with NAME the memory's name or that of the low part,
-    NAME_collar.v            the module NAME_collar: the macro's pins for the chip, and clk, test, done and fail. The test runs
-                             once while `test` is 1; it begins when `test` rises, after 0 for a few cycles
-    NAME_collar_tb.sv        a testbench, which uses the chip's port, and runs the test (an X on `fail` is a failure). It tells
-                             which latency fits. With +planted it plants one fault after another, and each has to be found;
-                             then it runs the test with words in which every two bits differ. The last line of a run that
-                             passes is `NAME_collar_tb: passed`; where a model ends the run before, there is none
+collar writes these files to FOLDER; NAME is the memory's name, or that of the low part:
+    NAME_collar.v            the module NAME_collar. It has the functional pins of the macro, and clk, test, done and
+                             fail. The test begins when `test` rises, after 0 for a few cycles, and runs once while
+                             `test` is 1
+    NAME_collar_tb.sv        a testbench. It uses the functional port, runs the test, and says which latency fits. An X
+                             on `fail` is a failure. With +planted it plants one fault after another, and each has to be
+                             found; then it runs the test with words in which every two bits differ. A run that passes
+                             ends with the line `NAME_collar_tb: passed`; a run that a model ends early has no such line
     files.f                  what a simulator has to read, in this order
-    MACRO.v                  a model of the macro by these pins, where you have none; put the vendor's in its place,
-                             and it stays there, or name that by --model. Its ports have to have the widths of the pins
---clock-mux names the cell that chooses each further clock: its module and its pins, SELECT being 1 in test, and CELL.v is a model
-of it unless one is there. Without it a clock is chosen by `? :`, and the tool says so. It says at its end what of the macro it doesn't test, and which bits of a word the backgrounds don't tell apart. With --open the self-test stands elsewhere, and its ports are the collar's
-(bist_en, bist_we and so on; `second` and `lanes_go`, `lanes_over`, `lanes_fail` of what a second port and masks need). With
---through the test is started as the module NAME_access, NAME_apb or NAME_tap of `vidlakost access` is, which stands in the
-collar then and has to stand beside it, and its ports are the collar's in place of test, done and fail; that tool's testbench is
-of the module alone. No testbench is written with these two.
-Put the module NAME_bist beside them, which `compile` writes:
+    MACRO.v                  a model of the macro by these pins, unless you have one. Put the vendor's model in its
+                             place, where collar leaves it, or name it by --model. Its ports need the widths of the pins
+--clock-mux names the cell that chooses each further clock: its module and its pins. SELECT is 1 in test. collar writes
+CELL.v, a model of the cell, unless one is there. Without --clock-mux a `? :` chooses the clock, and collar says so. At
+its end collar says what of the macro it doesn't test, and which bits of a word hold the same in every background. With
+--open the self-test is elsewhere, and the collar has its ports: bist_en, bist_we and so on. A second port and masks
+need `second` and `lanes_go`, `lanes_over`, `lanes_fail`.
+--through starts the test like the module NAME_access, NAME_apb or NAME_tap of `vidlakost access`. The collar contains
+this module, so put its file in the folder too. Its ports replace test, done and fail. The testbench of `access` is for
+that module alone.
+--open and --through write no testbench.
+Put the module NAME_bist, which `compile` writes, in the folder:
     cd FOLDER && iverilog -g2012 -o tb -c files.f && vvp -n tb && vvp -n tb +planted"""
 from __future__ import annotations
 

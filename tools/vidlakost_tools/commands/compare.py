@@ -1,15 +1,19 @@
-"""Marches side by side: what each covers of a list, by class, and the primitives in which they differ.
+"""Marches side by side: what each covers of a list, by class, and which primitives only some cover.
 
-usage: vidlakost compare LIST MARCH MARCH ..          a table, then a line for each primitive that some cover and some don't
+usage: vidlakost compare LIST MARCH MARCH ..          a table, then a line for each primitive that only some cover
        vidlakost compare LIST MARCH MARCH .. --json   the same as one object
-       vidlakost compare LIST MARCH MARCH .. --memory MEMORY [--json]    what they cover between two bits of a word of it, too
+       vidlakost compare LIST MARCH MARCH .. --memory MEMORY [--json]    also what they cover inside a word of it
        vidlakost compare --help
 
-The column AF has the faults of the address decoder, and LF the linked faults, of which no list speaks. The object has
-`schema` (vidlakost-compare-1), `reports`, by the word of each march the report in the schema of `vidlakost report`,
-`decoder` and `linked`, by the word of each march its verdicts on these faults, and `differs`, by primitive or fault the
-words of the marches that cover it. With --memory it has `in_word`, an object with `reports` and `differs` of the
-verdicts inside a word of that memory, by the whole test with all its backgrounds."""
+The column AF counts the faults of the address decoder, and LF the linked faults; no list has these. The object has
+these keys:
+    schema      vidlakost-compare-1
+    reports     by the word of each march: its report, in the schema of `vidlakost report`
+    decoder     by the word of each march: its verdicts on the faults of the address decoder
+    linked      by the word of each march: its verdicts on the linked faults
+    differs     by primitive or fault: the words of the marches that cover it
+    in_word     with --memory: an object with `reports` and `differs`, for the verdicts between two bits of a word of
+                that memory, by the whole test with all its backgrounds"""
 from __future__ import annotations
 
 import dataclasses

@@ -1,28 +1,28 @@
-"""The shortest march for a list of faults, searched, and judged by the program.
+"""The shortest march for a list of faults: a search finds it, and the program judges it.
 
 usage: vidlakost design LIST [OUT] [--behind MARCH] [--any] [--operations K] [--elements K] [--decoder] [--linked]
                         [--inword MEMORY [--backgrounds K]] [--time MHZ MEMORY] [--width N] [--prove]
        vidlakost design --help
 
-LIST is a list as of `judge`. The march is printed, with its length and what the program says of it, and written to the
-file OUT. `shortest` stands behind the length where a search of all shorter marches finds none that covers the list;
-else `shortest found`, and how short one can be at best. The program alone decides what is covered: that no march is
-shorter is tested, and not proved. What the march doesn't cover is told with the reason. Status 1 says that there is
-such a thing.
+LIST is a list as for `judge`. design prints the march, its length and the program's verdict, and writes the march to
+the file OUT. After the length it says `shortest` if a search of all shorter marches finds none that covers the list.
+Else it says `shortest found`, and a lower bound of the length. The program alone decides what a march covers. That no
+march is shorter is tested, not proved. If the march leaves something uncovered, design gives the reason, and ends with
+1.
 
---behind MARCH    the march begins with the elements of MARCH, and has as few operations more as are found
---any             of the marches of the least length one with as many elements of order any as are found
---operations K    an element has at most K operations
---elements K      the march has at most K elements, pauses among them
---decoder         it covers the faults of the address decoder too
---linked          it covers the linked faults too
---inword MEMORY   between two bits of a word of MEMORY it covers as much of the list as March SS does
---backgrounds K   looks for a list of at most K backgrounds with which it covers the most of the list there
---time MHZ MEMORY tells how long the test of MEMORY takes at so many MHz
---width N         how many marches of each length the search keeps (300); more take longer, and may find a shorter one
---prove           tries all shorter marches, however long that takes
+--behind MARCH    extend MARCH: begin with its elements, and add as few operations as the search finds --any
+of the marches of the least length, take one with as many elements of order any as the search finds --operations K
+an element has at most K operations
+--elements K      the march has at most K elements, with its pauses
+--decoder         cover the faults of the address decoder too
+--linked          cover the linked faults too
+--inword MEMORY   between two bits of a word of MEMORY, cover as much of the list as March SS does --backgrounds K
+look for at most K backgrounds with which the march covers the most of the list there --time MHZ MEMORY say how long
+the test of MEMORY takes at so many MHz
+--width N         keep N marches of each length (300); more take longer, and may find a shorter one --prove
+try all shorter marches, however long that takes
 
-The best march so far is told on standard error. Ctrl-C ends the search with that."""
+Standard error shows the best march so far. Ctrl-C ends the search with that one."""
 from __future__ import annotations
 
 import sys

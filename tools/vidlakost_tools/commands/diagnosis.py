@@ -1,22 +1,24 @@
-"""Which defects give exactly a log: all its wrong reads, and none that it does not have.
+"""Which defects give exactly a log: all its wrong reads and no others.
 
 usage: vidlakost diagnosis LOG MARCH MEMORY [--mux M] [--list FAULTS] [--with MARCH]..
        vidlakost diagnosis LOG CHIPFILE --unit U [--mux M] [--list FAULTS] [--with MARCH]..
        vidlakost diagnosis LOG LIST|CHIPFILE PINS.. --unit U [--second] [--mux M] [--list FAULTS] [--with MARCH]..
        vidlakost diagnosis --help
 
-LOG, PINS, --second, the cycles and --mux are as for `vidlakost bitmap`. The log is that of a whole test: a read that it
-does not have was right, but behind its last entry where it ends with `more`. It prints of each class how many
-candidates there are, then each candidate. These are the primitives of FAULTS (all static ones and DRF where no list is
-given) at each cell and with each aggressor; columns, rows, words, data bits, parts of a bit line or of a word line,
-which are read as one value; two data bits that are bridged; address bits that are open, stuck, bridged, or select no
-word or two; and words or rows that reach another one instead of their own or beside it. Aggressors that act alike stand
-in one line, with how many there are. A candidate that gives the log only from some contents of the memory says from how
-many. The first ones are those that explain most by least.
+LOG, PINS, --second, the cycles and --mux are as for `vidlakost bitmap`. The log has to be of a whole test: a read that
+is not in the log was right. If the log ends with `more`, that holds only up to its last entry.
+diagnosis prints the number of candidates of each class, then each candidate. The candidates are:
+    cells       the primitives of FAULTS (without a list, all static ones and DRF), at each cell and with each aggressor
+    lines       columns, rows, words, data bits, and parts of a bit line or of a word line, each of which reads as one
+                value; and two bridged data bits
+    addresses   address bits that are open, stuck or bridged, or that select no word or two; and words or rows that
+                reach another one, instead of their own or beside it
+One line has all aggressors that act alike, and their number. If a candidate gives the log only from some contents of
+the memory, its line says from how many. The first candidates explain most by least.
 
-Where no single defect gives the log, it prints what each of up to 8 wrong cells tells by itself. With --with (or,
-from the sources, of the marches of the gallery) it tells which march that is run next sets most candidates apart: in
-how many groups they would fall, of which each leaves another log. It ends with 1 where nothing gives the log."""
+If no single defect gives the log, diagnosis prints what each of up to 8 wrong cells says by itself. --with names
+marches that may run next (from the sources, those of the gallery by default). diagnosis says which one separates the
+candidates best: into how many groups, each of which leaves another log. It ends with 1 if nothing gives the log."""
 from __future__ import annotations
 
 import pathlib

@@ -2,9 +2,9 @@
 
 usage: vidlakost explain                                   every refusal, on one page
        vidlakost explain march M8                          a refusal, by its line, its code or the beginning of its line
-       vidlakost explain CFds                              a class of primitives, AF, or a kind of links as LF1; a name of the
-                                                           literature, as CFin; or a status, as 13
-       vidlakost explain caught                            an answer of the program: the sentences that tell it
+       vidlakost explain CFds                              a class of primitives, AF, or a kind of links as LF1; a name
+                                                           from the literature, as CFin; or a status, as 13
+       vidlakost explain caught                            an answer of the program: the sentences that describe it
        vidlakost explain --said STATUS LINE -- WORD..      what this refusal means in the call with these words
        vidlakost explain --warn WORD..                     what other tools may read otherwise in the files of this call
        vidlakost explain --commands [COMMAND]              the commands and the tools, or one of them in full

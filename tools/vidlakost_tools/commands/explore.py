@@ -1,14 +1,13 @@
-"""A page on which marches are tried: what they cover while they are typed, each escape step by step, and the test of a
-memory.
+"""A page to try marches on: what they cover as you type, each escape step by step, and the test of a memory.
 
 usage: vidlakost explore [MARCH] [LIST] [MEMORY]     serves the page on this machine alone, and prints its address
        vidlakost explore .. --open                   opens it in the browser as well
-       vidlakost explore .. --port N                 at this port, and not at one that is free
+       vidlakost explore .. --port N                 takes this port instead of a free one
        vidlakost explore --help
 
-The page begins with the texts of the files, or with short ones; it asks for no file and writes none: what is saved in
-it the browser saves. Each answer is the program's, and the page says where that is an unproved one. Ctrl-C ends it.
-Whoever has the address can ask; it has a part that can't be guessed, and is good for this run."""
+The page begins with the texts of the files, or with short ones. It asks for no file and writes none; the browser keeps
+what you save in it. The program gives each answer, and the page says if the program is unproved. Ctrl-C ends the tool.
+Whoever has the address can ask. A part of it can't be guessed, and it is good for this run alone."""
 from __future__ import annotations
 
 import html

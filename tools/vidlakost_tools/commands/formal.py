@@ -2,20 +2,22 @@
 
 usage: vidlakost formal                                    a dozen marches and memories, compiled and judged
        vidlakost formal --random N [--seed S]              N random ones
-       vidlakost formal --wrong                            modules made wrong in one place, each of which has to be told
+       vidlakost formal --wrong                            modules with one mistake each, which the judge has to find
        vidlakost formal VERILOG .. MARCH MEMORY [--top NAME] [--pins FILE] [--cells ice40] [--resets]
-                                                       a module of one's own, in any Verilog that Yosys reads
+                                                       a module of yours, in any Verilog that Yosys reads
        vidlakost formal --help
 
-Every register is open in cycle 0, the one of the reset, and so is every word on `rdata` in every cycle. In each cycle
-to the end of the test, and three behind it, all ports have to be as the list of `vectors` says, and `fail` as these
-words say. With --resets the reset may come again in any cycle, and each begins the test anew; that takes longer, and is
-for the smallest memories; the first of the dozen is judged so too. That list is all that is shared with the program.
-What nothing drives is open in every cycle, and initial values are ignored. A signal with two drivers, a register that
-does not take at the rising edge of clk, a latch and a port of another width are refused, and what Yosys warns of is
-handed on. A case that the model checker finds is clocked once more by plain Python, from the module as a text of the
-subset that `check` reads; where no port is wrong in it the line says `not known`. It ends with 1 where a module
-differs, and tells the first cycle, or is not known."""
+Every register is open in cycle 0, the cycle of the reset. Every word on `rdata` is open in every cycle. In each cycle
+to the end of the test, and in three cycles after it, all ports have to be as the list of `vectors` says, and `fail` as
+these words say. formal shares only that list with the program.
+With --resets the reset may come again in any cycle, and each reset begins the test anew. That takes longer, and is for
+the smallest memories. formal judges the first of the dozen so too.
+What nothing drives is open in every cycle. formal ignores initial values. It refuses a signal with two drivers, a
+register that samples at another edge than the rising one of clk, a latch, and a port of another width. It hands on the
+warnings of Yosys.
+If the model checker finds a case, plain Python clocks it once more, from the module as a text of the subset that
+`check` reads. If no port is wrong in it, the line says `not known`. formal ends with 1 if a module differs, with the
+first wrong cycle, or if it is not known."""
 from __future__ import annotations
 
 import dataclasses

@@ -1,17 +1,17 @@
-"""Retention by hold: a self-test whose clock stands in the pauses of its march until it is resumed.
+"""Retention by hold: a self-test whose clock stops in the pauses of its march until it is resumed.
 
 usage: vidlakost hold MARCH MEMORY FOLDER
        vidlakost hold --help
 
-For a retention test that waits longer than a pause can be, as 100 ms: with `pause 1` in MEMORY each pause is a cycle. It writes
-to FOLDER
-    NAME_hold.v        the module NAME_hold round NAME_bist, which `compile` writes: its ports, and `resume`, `held` and
-                       `clk_test`, the clock of the memory too, which stands in the last cycle of each pause until `resume`
-                       rises; its clock gate is a module of its own, for the one of your library to take its place. Its
-                       `reset` is held at 1 for three cycles of `clk`
-    NAME_hold.md       a table: in which cycles it is held
-    NAME_hold_tb.sv    a testbench: it looks whether the clock stands; with +planted a cell loses its content in each hold
-A pause of more cycles than the latency lets the words of the reads before it arrive before the clock stands.
+Use it for a retention test whose wait is longer than a pause can be, as 100 ms. With `pause 1` in MEMORY each pause is
+one cycle. hold writes to FOLDER
+    NAME_hold.v        the module NAME_hold round NAME_bist, which `compile` writes. It has the ports of NAME_bist, and
+                       `resume`, `held` and `clk_test`, which is also the clock of the memory. That clock stops in the
+                       last cycle of each pause until `resume` rises. Hold `reset` at 1 for three cycles of `clk`. The
+                       clock gate is a module of its own: replace it by the one of your library
+    NAME_hold.md       a table of the cycles in which it is held
+    NAME_hold_tb.sv    a testbench. It checks that the clock stops; with +planted a cell loses its content in each hold
+If a pause has more cycles than the latency, the words of the reads before it arrive before the clock stops.
     cd FOLDER && iverilog -g2012 -o tb NAME_hold_tb.sv NAME_hold.v NAME_bist.v && vvp -n tb && vvp -n tb +planted"""
 from __future__ import annotations
 

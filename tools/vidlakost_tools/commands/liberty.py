@@ -4,17 +4,19 @@ usage: vidlakost liberty LIB CELL FOLDER [--name NAME] [--pin PIN=KIND]..
        vidlakost liberty --verilog FILE MODULE FOLDER [--name NAME] [--pin PIN=KIND]..
        vidlakost liberty --help
 
-LIB is a library in liberty form, CELL a cell of it that has a group memory(); FILE is a text of Verilog with the port list of
-MODULE. It writes to FOLDER, with NAME the name of the memory (that of the cell in small letters, where nothing is said),
+LIB is a library in Liberty form, and CELL a cell of it that has a group memory(). FILE is a Verilog text with the port
+list of MODULE. liberty writes to FOLDER; NAME is the name of the memory (by default that of the cell, in small
+letters)
     NAME.mem     the description, for the program
     NAME.pins    the pins, for `vidlakost collar` and `vidlakost top`
-A library tells the clocks, the addresses, the words and at which edge they change; of enables and masks, and of all pins in a
-port list, only their names tell what they may be. A line that stands on a name alone begins with #?, and `collar` refuses it
-until somebody takes that mark away, or says in the call what the pin is: --pin CSB=~en, with KIND one of clk, en, we, read,
-write, mask, addr, wdata and rdata, and ~ in front of it where the pin is active low. A pin that is not recognised stands in a
-comment, with what could stand there, and the tool counts them. What a library says of its memory and what it says of the
-buses have to agree, and the memory has to be a ram. The number of words is 2 to the width of the address: a data sheet may
-say fewer. The latency is 1, or the data sheet says more."""
+A library says which pins are the clocks, the addresses and the words, and at which edge the words change. It does not
+say which pins are enables and masks, and a port list does not say what any pin is for. There liberty guesses by the
+pin's name. A guessed line begins with #?, and `collar` refuses it until you remove that mark. Or say in the call what
+the pin is: --pin CSB=~en, with KIND one of clk, en, we, read, write, mask, addr, wdata and rdata, and ~ if the pin is
+active low. liberty writes a pin that it does not recognise as a comment, with what it could be, and counts such pins.
+What a library says of its memory and what it says of the buses have to agree, and the memory has to be a ram. liberty
+takes 2 to the width of the address as the number of words, and 1 as the latency. The data sheet may say fewer words or
+a longer latency."""
 from __future__ import annotations
 
 import pathlib

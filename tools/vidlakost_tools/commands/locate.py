@@ -1,10 +1,9 @@
-"""Which read a cycle of `bench`, `benchfault`, `benchfile` or of a waveform belongs to, and which command one of
-`check`.
+"""Which read a cycle of `bench`, `benchfault`, `benchfile` or a waveform belongs to, or which command one of `check`.
 
 usage: vidlakost locate MARCH MEMORY CYCLE [EXPECTED RETURNED]
        vidlakost locate MARCH MEMORY --line LINE      the cycle and the words from the line of such a command
-       vidlakost locate MARCH MEMORY --elements       of each element in each background its first and its last cycle
-       vidlakost locate MARCH MEMORY --tdr HEX [--sib]   from the register of the TAP that `vidlakost access --jtag` writes
+       vidlakost locate MARCH MEMORY --elements       the first and the last cycle of each element in each background
+       vidlakost locate MARCH MEMORY --tdr HEX [--sib]   from the register of the TAP of `vidlakost access --jtag`
        vidlakost locate CHIPFILE --chip CYCLE FAILBITS [EXPECTED RETURNED]
        vidlakost locate CHIPFILE --chip --tdr HEX [--sib]
        vidlakost locate LIST|CHIPFILE PINS.. --whole CYCLE FAILBITS [EXPECTED RETURNED]
@@ -12,16 +11,17 @@ usage: vidlakost locate MARCH MEMORY CYCLE [EXPECTED RETURNED]
        vidlakost locate LIST|CHIPFILE PINS.. --whole --tdr HEX [--sib]
        vidlakost locate --help
 
-CYCLE is that in which the answer stands on `rdata`, where the cycle of the reset is 0; `fail` is 1 from the next on. It
-prints the background, the element, the operation, the index and the address, and with the two words, as the commands
-print them, the bits that differ, and as the memory stores them where its polarity inverts some. Of a line of `check`,
-whose cycle is that of the command itself, it prints what has to be commanded there.
+CYCLE is the cycle in which the answer is on `rdata`. The cycle of the reset is 0, and `fail` is 1 from the cycle after
+CYCLE on. With `--at fail` CYCLE is the one in which `fail` rose.
+locate prints the background, the element, the operation, the index and the address. Give it also the two words, as the
+commands print them. Then it prints the bits that differ, and the words as the memory stores them if its polarity
+inverts some bits. The cycle in a line of `check` is that of the command itself; for it locate prints the command that
+is due.
 
-HEX is what a scan of the register gave; with --sib it was one behind segment insertion bits, which stand above the
-register. With --whole the cycles are those of the whole that `vidlakost top` joins, PINS end in .pins, and a bit of
-FAILBITS is a memory. Of a chip the cycles are the chip's own, and FAILBITS are the bits of `fail`, that of unit 0 last.
-With `--at fail` CYCLE is the one in which `fail` rose. With `--mux M`, M words stand in a row of the array: bit B of an
-index is in column B * M + index modulo M."""
+HEX is what a scan of the register gave. With --sib the register was after segment insertion bits, which are above it
+in the scan. With --whole the cycles are those of the whole that `vidlakost top` joins, PINS end in .pins, and a bit of
+FAILBITS is a memory. With --chip the cycles are the chip's own, and FAILBITS are the bits of `fail`, that of unit 0
+last. With `--mux M` a row of the array has M words: bit B of an index is in column B * M + index modulo M."""
 from __future__ import annotations
 
 import re

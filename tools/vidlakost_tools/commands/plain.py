@@ -1,17 +1,18 @@
-"""A module of any synthesizable Verilog, or of VHDL, in the subset that `check` reads, made by Yosys.
+"""Any synthesizable Verilog, or VHDL, as a module in the subset that `check` reads, made by Yosys.
 
 usage: vidlakost plain OUT.v IN.v .. [--top NAME] [--pins FILE] [--liberty LIB] [--cells ice40]
        vidlakost plain --help
 
-Parameters, functions, `always @*`, hierarchies, asynchronous resets and the like are Yosys' to read, so what is then
-found of OUT.v holds of the sources as far as Yosys is right. Operators stay operators, and names of the sources stay.
-The ports keep their names and widths, or become those that --pins tells (`vidlakost audit --help` tells its lines);
---liberty, which may come several times, reads the cells of a netlist, and --cells ice40 those of ice40 that are logic
-or registers alone, from Yosys' share folder. The clock is one input, of whatever name, and its rising edge the only
-one; a clock that a latch gates becomes an enable, and an asynchronous reset one that acts in the cycle in which it
-comes. Initial values of registers are left out: a self-test begins with a reset; a memory that is only read keeps its
-content. What nothing drives (a name that is mistyped, an input that is left open, an `x`) becomes a register that
-nothing sets, which is open in `check`; a signal with two drivers is refused. What Yosys warns of is handed on."""
+Yosys reads parameters, functions, `always @*`, hierarchies, asynchronous resets and the like. So what you find of
+OUT.v holds of the sources as far as Yosys is right. Operators stay operators, and names of the sources stay. The ports
+keep their names and widths, or get those that --pins lists (`vidlakost audit --help` describes its lines). --liberty
+reads the cells of a netlist, and may come several times. --cells ice40 reads the cells of ice40 that are only logic or
+registers, from Yosys' share folder.
+The clock is one input, of any name, and only its rising edge counts. A clock that a latch gates becomes an enable. An
+asynchronous reset becomes one that acts in the cycle in which it comes.
+plain leaves out initial values of registers, since a self-test begins with a reset. A memory that is only read keeps
+its content. What nothing drives (a mistyped name, an open input, an `x`) becomes a register that nothing sets, which
+is open in `check`. plain refuses a signal with two drivers, and hands on the warnings of Yosys."""
 from __future__ import annotations
 
 from vidlakost_tools.audit.pins import read_pins

@@ -1,20 +1,20 @@
 """Packs the proved program with its launcher, tools, examples and pages, for machines without the kit.
 
 usage: vidlakost release                  writes dist/vidlakost-VERSION-x86_64-linux.tar.gz, and its checksum beside it
-       vidlakost release --prefix DIR     installs into DIR: the program and the tools in bin, the man page, the completion
+       vidlakost release --prefix DIR     installs into DIR: program and tools in bin, man page, completion
        vidlakost release --deb            writes dist/vidlakost_VERSION_amd64.deb, of the same files
-       vidlakost release --unproved       packs, with --prefix or --deb too, a program that is not proved, and says so
+       vidlakost release --unproved       packs, also with --prefix or --deb, a program that is not proved, and says so
        vidlakost release --check          unpacks that archive into an empty folder and tries it there, without the kit
        vidlakost release --help
 
-The archive has the program as `.ci/run` or `./vidlakost --prove` left it, or the one that VIDLAKOST_PROGRAM names,
-where the file `kit` beside it says that it was proved of these sources; any other is packed by --unproved alone, and
-its archive says so in its name, in RELEASE, in README and with each answer. The file RELEASE tells the commit, the line
-of the kit that proved it, and what it needs of a machine; SHA256SUMS has each file's checksum. It unpacks anywhere, and
-also from there --prefix installs. The same sources and the same program give the same bytes, on every machine and with
-every Python: files stand in the order of their names, with the time of the commit, without an owner and not compressed.
---check also installs the Debian package, where one was written, into a system of its own, tries it, and takes it away
-again."""
+The archive has the program that `.ci/run` or `./vidlakost --prove` left, or the one that VIDLAKOST_PROGRAM names. The
+file `kit` beside that program has to say that it was proved of these sources. Only --unproved packs another program.
+Such an archive says so in its name, in RELEASE, in README and with each answer.
+The file RELEASE has the commit, the line of the kit that proved the program, and what the program needs of a machine.
+SHA256SUMS has each file's checksum. The archive unpacks anywhere, and --prefix also installs from there. The same
+sources and the same program give the same bytes, on every machine and with every Python. Files are in the order of
+their names, with the time of the commit, without an owner and not compressed.
+If there is a Debian package, --check also installs it into a system of its own, tries it, and removes it again."""
 from __future__ import annotations
 
 import datetime

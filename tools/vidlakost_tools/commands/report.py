@@ -1,30 +1,31 @@
 """A report of `judge`, `compile` or `inword` for other programs, or as a page to look at.
 
 usage: vidlakost report REPORT --json             one object on standard output
-       vidlakost report REPORT --html FILE        one file of HTML, with nothing from elsewhere
-       vidlakost report REPORT --inword INWORD --json | --html FILE       the verdicts inside a word beside those between words
-       vidlakost report --all REPORT.. --csv [--memory MEMORY ..] [--mhz F]          a row a memory, for sign-off
+       vidlakost report REPORT --html FILE        one file of HTML that needs nothing else
+       vidlakost report REPORT --inword INWORD --json | --html FILE       also the verdicts inside a word
+       vidlakost report --all REPORT.. --csv [--memory MEMORY ..] [--mhz F]          a row for each memory, for sign-off
        vidlakost report --all REPORT.. --html FILE [--memory MEMORY ..] [--mhz F]    the same as a page
        vidlakost report --tester MARCH MEMORY | CHIPFILE --html FILE [--mhz F]       what a tester has to know
        vidlakost report --help
 
-Of reports of `compile` each --memory tells cycles and milliseconds of the memory of that name, at F MHz (100 where
-nothing is said).
+For reports of `compile`, each --memory adds the cycles and milliseconds of the memory of that name, at F MHz (100 by
+default).
 
 The object:
     schema      vidlakost-report-1
     march       the printed march
     length      its operations on each of n words, and its pauses, as 23n+2D
     memory      of a report of `compile`: name, words, bits, backgrounds, commands
-    verdicts    in the list's order, each with primitive, class, covered (true or false), and of an escape `escape`: cells,
-                aggressor (null for a primitive of one cell), victim, content (a digit for each cell, cell 0 first),
-                directions (a letter for each element)
+    verdicts    in the list's order, each with primitive, class, covered (true or false), and for an escape `escape`:
+                cells, aggressor (null for a primitive of one cell), victim, content (a digit for each cell, cell 0
+                first), directions (a letter for each element)
     classes     by name: primitives, covered
     total       primitives, covered, escapes
-    in_word     of --inword: the object of that report
-Of a report of `inword` the schema is vidlakost-inword-1: an escape has aggressor and victim, the numbers of two bits, and content, the
-aggressor's digit first; `apart` counts the primitives that are not judged there, and the rest is as above.
-What is added later has a name of its own; a change of these is another schema."""
+    in_word     with --inword: the object of that report
+For a report of `inword` the schema is vidlakost-inword-1. An escape there has aggressor and victim, the numbers of two
+bits, and content, the aggressor's digit first. `apart` counts the primitives that have no verdict there. The rest is
+as above.
+Later versions may add keys, under new names. If one of these keys changes, the schema changes."""
 from __future__ import annotations
 
 import html

@@ -1,13 +1,13 @@
-"""When the memories of a chip file are tested, and how heavy the enabled ones are.
+"""When the memories of a chip file are tested, and the weight of those that are enabled.
 
 usage: vidlakost schedule CHIPFILE                 the group, the start and the end of each unit
-       vidlakost schedule CHIPFILE --svg PICTURE   and a picture of them: time to the right, weights upward to the budget
-       vidlakost schedule LIST|CHIPFILE PINS..     of the whole that `vidlakost top` joins also its steps
+       vidlakost schedule CHIPFILE --svg PICTURE   also a picture: time to the right, weights upward to the budget
+       vidlakost schedule LIST|CHIPFILE PINS..     also the steps of the whole that `vidlakost top` joins
        vidlakost schedule --help
 
-A unit begins in the cycle of its group's start, which is that of its reset, and is done in its last; the cycles count
-from the chip's own reset. Units of one group run side by side, and each group begins in the last cycle but one of the
-group before it."""
+A unit begins in the cycle of its group's start, which is the cycle of its reset, and is done in its last cycle. The
+cycles count from the chip's own reset. Units of one group run side by side. Each group begins in the last cycle but
+one of the group before it."""
 from __future__ import annotations
 
 from typing import Iterator

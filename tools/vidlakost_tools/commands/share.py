@@ -3,10 +3,13 @@
 usage: vidlakost share MEMORY N FOLDER
        vidlakost share --help
 
-It writes to FOLDER the module NAME_share with the ports of a self-test, but rdata_0 to rdata_N-1 and N bits of `fail`,
-NAME_share_tb.sv and NAME_share_model.v, memories for that testbench. N is 2 to 16. All N memories get the same en, we,
-addr and wdata, so they draw their power at once; each has a comparator and a bit of `fail` of its own. Put NAME_bist
-beside them, which `compile` writes:
+share writes to FOLDER
+    NAME_share.v          the module NAME_share with the ports of a self-test; instead of rdata and fail it has rdata_0
+                          to rdata_N-1, and N bits of `fail`
+    NAME_share_tb.sv      a testbench
+    NAME_share_model.v    memories for that testbench
+N is 2 to 16. All N memories get the same en, we, addr and wdata, so they draw their power at once. Each has a
+comparator and a bit of `fail` of its own. Put the module NAME_bist, which `compile` writes, in the folder:
     cd FOLDER && iverilog -g2012 -o tb NAME_share_tb.sv NAME_share.v NAME_share_model.v NAME_bist.v && vvp -n tb
     vvp -n tb +planted +unit=1 +address=3 +bit=0 +value=1"""
 from __future__ import annotations

@@ -3,10 +3,10 @@
 usage: vidlakost summary MARCH MEMORY .. [--mhz F] [--csv] [--cells]
        vidlakost summary --help
 
-A line for each description: words, bits, backgrounds, the cycles of the whole test, and its milliseconds at F MHz (100
-where nothing is said); below, the cycles of all one after another and of the longest, which is what all at once take.
---cells has Yosys make gates of each module: cells, and flip-flops among them. --csv writes columns separated by
-commas."""
+summary prints a line for each description: words, bits, backgrounds, the cycles of the whole test, and its
+milliseconds at F MHz (100 by default). Below are the cycles of all tests one after another, and those of the longest,
+which all tests at once take. --cells has Yosys make gates of each module, and counts cells, and flip-flops among them.
+--csv writes columns separated by commas."""
 from __future__ import annotations
 
 import csv

@@ -1,40 +1,43 @@
 """A Verilog testbench for a self-test module, with a behavioural memory of the description, for any simulator.
 
-usage: vidlakost testbench MARCH MEMORY FOLDER [--sv] [--stream] [--fault PRIM --victim W.B [--aggressor W.B]] [--content HEX]
+usage: vidlakost testbench MARCH MEMORY FOLDER [--sv] [--stream] [--content HEX]
+                           [--fault PRIM --victim W.B [--aggressor W.B]]
        vidlakost testbench MARCH MEMORY FOLDER --assert
-       vidlakost testbench CHIPFILE FOLDER --chip [--sv] [--stream] [--unit U --fault PRIM --victim W.B [--aggressor W.B]]
+       vidlakost testbench CHIPFILE FOLDER --chip [--sv] [--stream]
+                           [--unit U --fault PRIM --victim W.B [--aggressor W.B]]
        vidlakost testbench --help
 
-Writes to FOLDER the testbench NAME_tb.v and the commands that it compares, NAME_commands.hex, below a comment one a
-line (a bit for a write, the address, the word), and a line of ones behind them; where they can't be read it ends by
-$fatal. Put a module NAME_bist beside it, for instance the one that `compile` writes:
+testbench writes to FOLDER the testbench NAME_tb.v and the commands that it compares, NAME_commands.hex. That file has
+a comment, one command a line (a bit for a write, the address, the word), and a last line of ones. A testbench that
+can't read it ends by $fatal. Put a module NAME_bist in the folder, for instance the one that `compile` writes:
 
     vidlakost compile MARCH MEMORY LIST FOLDER/NAME_bist.v FOLDER/report
     cd FOLDER && iverilog -g2005 -o tb NAME_tb.v NAME_bist.v && vvp tb
 
-The memory has the scrambling, the latency and the polarity of the description. Its words hold HEX at first, 0 where
-nothing is said. One fault of a cell or of two cells can be planted: PRIM is a primitive as the command `benchfault` takes
-it, W.B a physical index and a bit. It prints
-    differs cycle C port P expected X got Y     of each port the first cycle in which it is not as the march's commands say
+The memory has the scrambling, the latency and the polarity of the description. Its words hold HEX at first (0 by
+default). --fault plants one fault of one or two cells: PRIM is a primitive as for the command `benchfault`, and W.B is
+a physical index and a bit. The testbench prints
+    differs cycle C port P expected X got Y     for each port, the first cycle that is not as the march's commands say
     read cycle C expected X returned Y          the first word on rdata that is not the one that its read expects
     fail F done C                               at the end
 With +dump in the call of the simulator it writes a waveform, NAME_tb.vcd.
 
-With --stream the testbench works the commands out by itself, and there is no NAME_commands.hex: for tests of more than
-2,000,000 cycles, of which `vectors` lists no commands.
+With --stream the testbench computes the commands by itself, without NAME_commands.hex. Use it for tests of more than
+2,000,000 cycles, whose commands `vectors` doesn't list.
 
-The line `fail F done C` is the last one; without it the run was ended before, as a module may, and nothing passed. With
---sv it is NAME_tb.sv, of SystemVerilog, and the simulator ends with 1 where a port differs or the run is ended before
-its end, by $fatal; the last line of a run that passes is `NAME_tb: passed`.
+The line `fail F done C` is the last one. If it is missing, something ended the run early, as a module may, and nothing
+passed. With --sv the testbench is NAME_tb.sv, in SystemVerilog. Then the simulator ends with 1, by $fatal, if a port
+differs or if something ends the run early. A run that passes ends with the line `NAME_tb: passed`.
 
-With --chip it writes the testbench CHIP_tb.v of a chip file, with the memory of each unit, beside which the file that the
-command `chip` writes has to stand; the fault is planted in the memory of unit U. The lines of a unit begin with `unit U`, and
-its cycles count from its start, which `vidlakost schedule` tells; the others are
-    weights cycle C W                           the first cycle in which the weights W of the enabled memories exceed the budget
+With --chip it writes the testbench CHIP_tb.v of a chip file, with the memory of each unit. Put the file that the
+command `chip` writes in the folder. --unit U plants the fault in the memory of unit U. The lines of a unit begin with
+`unit U`, and its cycles count from its start, which `vidlakost schedule` prints. The other lines are
+    weights cycle C W                           the first cycle in which the weights W of the enabled memories exceed
+                                                the budget
     fail BITS done C                            at the end, the bit of unit 0 last
 
-With --assert it writes NAME_rule.sv in place of a testbench: assertions of the rule of the ports, each cycle from the
-first reset on, which are bound to the module NAME_bist, or to the one that the macro CONTROLLER names. It is a
+With --assert it writes NAME_rule.sv instead of a testbench: assertions of the rule of the ports, for each cycle from
+the first reset on. They bind to the module NAME_bist, or to the one that the macro CONTROLLER names. NAME_rule.sv is a
 controller of its own, written from the description, and shares nothing with the module that `compile` writes."""
 from __future__ import annotations
 

@@ -1,21 +1,22 @@
-"""Why the escapes of a report escape: each is replayed in a plain model, also those of dynamic primitives.
+"""Why the escapes of a report escape: a plain model replays each of them, also those of dynamic primitives.
 
 usage: vidlakost trace REPORT                    a line for each escape: the reason
-       vidlakost trace REPORT --memory MEMORY    the same of a report of `inword`, whose backgrounds the memory has
-       vidlakost trace REPORT --steps            each operation as well, with the cells behind it
+       vidlakost trace REPORT --memory MEMORY    the same for a report of `inword`; MEMORY has its backgrounds
+       vidlakost trace REPORT --steps            also each operation, with the cells after it
        vidlakost trace REPORT PRIM ..            the escapes of these primitives alone
-       vidlakost trace REPORT --calls|--run      a call of `sim` for each escape, which replays it; --run runs it as well
+       vidlakost trace REPORT --calls|--run      a call of `sim` for each escape, which replays it; --run also runs it
        vidlakost trace --help
 
-An escape never acts; or it acts and is written over before a read of the victim; or it acts and is not read again; or,
-inside a word, the write in which it acts sets the victim as the fault does. In a table of steps `*` marks where it
-acts, and behind the cells stands what a read answers. Of a report of `decoder` a PRIM is the name of a fault, as 'both
-and', and the steps tell which of its two addresses is visited. Of a report of `linked` it is a link, as 'LF1 <0w1/0/->
-<0w0/1/->', and the number of the primitive that acts stands for the `*`. Inside a word the cells are two bits, the
-aggressor's first, and an operation is the march's: in a background it writes or expects the two digits behind it. The
-calls name a file with the march, REPORT.m, which is written beside the report; a dynamic escape has none, and --run
-replays it in a plain model of the definition. It ends with 1 where a read differs at an escape, which no report of the
-program has. `vidlakost replay REPORT` is --calls."""
+An escape has one of these reasons. It never acts. Or it acts, and a write hides it before a read of the victim. Or it
+acts, and nothing reads the victim again. Or, inside a word, the write in which it acts sets the victim as the fault
+does. In a table of steps `*` marks where it acts, and after the cells comes what a read answers. In a report of
+`decoder` a PRIM is the name of a fault, as 'both and', and the steps say which of its two addresses is visited. In a
+report of `linked` it is a link, as 'LF1 <0w1/0/-> <0w0/1/->', and the number of the primitive that acts replaces the
+`*`. Inside a word the cells are two bits, the aggressor's first. An operation is the march's; the two digits after it
+are what it writes or expects in the background.
+The calls name a file with the march, REPORT.m, which trace writes beside the report. A dynamic escape has no call, and
+--run replays it in a plain model of the definition. trace ends with 1 if a read differs at an escape, which happens in
+no report of the program. `vidlakost replay REPORT` is --calls."""
 from __future__ import annotations
 
 import os

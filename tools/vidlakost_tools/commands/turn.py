@@ -1,13 +1,15 @@
-"""Turns a scrambling that is given the other way round: from the bits of an index by those of an address.
+"""Turns a scrambling round: from the bits of an index by those of an address, to the other way.
 
 usage: vidlakost turn FILE
        vidlakost turn --help
 
-A memory description says of each bit of an address which bits of the physical index it is made of. Where a data sheet says
-instead which bits of the address select a row or a column, FILE has a line for each bit of the index (`#` begins a comment):
+A memory description says for each bit of an address which bits of the physical index make it. A data sheet may say it
+the other way: which bits of the address select a row or a column. For such a data sheet, FILE has a line for each bit
+of the index (`#` begins a comment):
     p0 = a0 ^ a1
     p1 = a1 ^ 1
-It prints the `scramble` lines of a description. Turned twice the lines are as they were, so it also turns these back."""
+turn prints the `scramble` lines of a description. It also turns these lines back: turned twice, lines are as they
+were."""
 from __future__ import annotations
 
 import re

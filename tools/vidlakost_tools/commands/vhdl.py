@@ -1,12 +1,12 @@
 """A module of the subset as VHDL-93.
 
 usage: vidlakost vhdl MODULE.v FOLDER                    NAME.vhd, an entity with the module's ports
-       vidlakost vhdl MODULE.v FOLDER MARCH MEMORY       and NAME_tb.vhd, which compares it with the march's commands
+       vidlakost vhdl MODULE.v FOLDER MARCH MEMORY       also NAME_tb.vhd, which compares it with the march's commands
        vidlakost vhdl --help
 
-A port of one bit is std_logic, each other std_logic_vector. A name that VHDL has not, or that differs from another in
-case alone, stands between backslashes. What is not known stays so as in Verilog. A chip's file is several modules, and
-is not read.
+A port of one bit is std_logic, and any other is std_logic_vector. A name is in backslashes if VHDL doesn't allow it,
+or if it differs from another only in case. Unknown values stay unknown, as in Verilog. vhdl reads no file of a chip,
+since that has several modules.
     cd FOLDER && ghdl -a NAME.vhd NAME_tb.vhd && ghdl -e NAME_tb && ghdl -r NAME_tb"""
 from __future__ import annotations
 
