@@ -217,14 +217,14 @@ def library() -> str:
     )
     flop = (
         'cell(DFF) { area : 4; ff(IQ, IQN) { clocked_on : "C"; next_state : "D"; } pin(D) { direction : input;'
-        f' capacitance : 0.01;{kinds} }} pin(C) {{ direction : input; clock : true; capacitance : 0.01; }} pin(Q) {{'
+        f" capacitance : 0.01;{kinds} }} pin(C) {{ direction : input; clock : true; capacitance : 0.01; }} pin(Q) {{"
         ' direction : output; function : "IQ"; timing() { related_pin : "C"; timing_type : rising_edge; timing_sense'
-        f' : non_unate;{TABLES} }} }} }}'
+        f" : non_unate;{TABLES} }} }} }}"
     )
     cells = [gate("INV", "A", "!A"), gate("NAND", "AB", "!(A&B)"), gate("BUF", "A", "A"), flop]
     units = (
         'delay_model : table_lookup; time_unit : "1ns"; voltage_unit : "1V"; current_unit : "1mA";'
-        ' capacitive_load_unit(1, pf);'
+        " capacitive_load_unit(1, pf);"
     )
     units += "".join(f" {side}_threshold_pct_{way} : 50;" for side in ("input", "output") for way in ("rise", "fall"))
     units += "".join(

@@ -12,7 +12,9 @@ from tests.integration.files import FILES
 from vidlakost_tools.program import ROOT
 
 # what is said after ten seconds, which a machine under load may take for any run
-SLOW = re.compile(r"^(?:vidlakost: still running: .*|\w+: .*, for \d+ seconds by now)\n", re.MULTILINE)
+SLOW = re.compile(
+    r"^(?:vidlakost: still running: .*|\w+: .*, (?:\d+ seconds so far|for \d+ seconds by now))\n", re.MULTILINE
+)
 
 
 class Bench:

@@ -116,7 +116,7 @@ CALLS: List[Call] = [
         status=2,
         says="top: crowds.list: there are at most 1024 units, and these are 1025",
     ),
-    Call("tools/top none.list1 s.pins none", status=2, says="top: none.list1:4: instances is a number from 1 on"),
+    Call("tools/top none.list1 s.pins none", status=2, says="top: none.list1:4: instances is a number of at least 1"),
     Call("tools/top again.list s.pins none", status=2, says="top: again.list:5: the memory s stands in line 4 too"),
     Call("tools/top heavy.list s.pins none", status=2, says="top: heavy.list: s weighs more than the budget"),
     Call("tools/top path.list s.pins none", status=2, says="top: path.list: the name '../all' is none for a module"),
@@ -146,7 +146,7 @@ CALLS: List[Call] = [
     Call(
         "tools/liberty down.lib RAM8X4 down",
         prints="down/ram8x4.pins\n",
-        says="liberty: D are taken at the falling edge",
+        says="liberty: D are sampled at the falling edge",
     ),
     Call("tools/liberty cut.lib RAM8X4 cells", status=2, says="liberty: cut.lib:4: the text stops early"),
     Call("tools/liberty few.lib RAM cells", status=2, says="liberty: few.lib: there is no cell 'RAM'"),
@@ -158,7 +158,7 @@ CALLS: List[Call] = [
     ),
     Call("tools/liberty --verilog latin.mem a header", status=2, says="liberty: latin.mem: there is no module a"),
     Call("tools/liberty few.lib RAM8X4 sure --pin 'CSB=~en' --pin 'WEB=~we'", prints="sure/", says="liberty: Q"),
-    Call("tools/liberty few.lib RAM8X4 cells --pin CSB=no", status=2, says="liberty: --pin names a pin and what it is"),
+    Call("tools/liberty few.lib RAM8X4 cells --pin CSB=no", status=2, says="liberty: --pin is PIN=KIND, with"),
     Call("tools/liberty few.lib RAM8X4 cells --pin X=en", status=2, says="liberty: --pin 'X=en': there is no such pin"),
     Call("tools/liberty few.lib RAM8X4 cells --pin Q=en", status=2, says="liberty: --pin 'Q=en': Q is an output"),
     Call(
@@ -169,8 +169,8 @@ CALLS: List[Call] = [
     ),
     Call("tools/liberty s.mem a header", status=2, says="liberty: s.mem:1: 'library' is missing"),
     Call("tools/hold hold.m pause.mem holds", prints="holds/p_hold.v\nholds/p_hold.md\nholds/p_hold_tb.sv\n"),
-    Call("tools/hold hold.m s.mem holds", prints="holds/s_hold.v", says="hold: a pause of 1 cycles: words of reads"),
-    Call("tools/hold blind.m pause.mem holds", prints="holds/p_hold.v", says="hold: no pause is followed by a read"),
+    Call("tools/hold hold.m s.mem holds", prints="holds/s_hold.v", says="hold: a pause has 1 cycle, so the clock"),
+    Call("tools/hold blind.m pause.mem holds", prints="holds/p_hold.v", says="hold: no read follows a pause"),
     Call("tools/hold c.m pause.mem holds", status=2, says="hold: c.m: the march has no pause"),
     Call(
         "tools/hold hold.m pause.mem mine",

@@ -324,7 +324,7 @@ def begun(bench: Bench) -> None:
         bench.is_so(told.startswith("-rw-------") and served.address in told, f"the browser is given {told!r}")
         bench.is_so(served.token not in words_of_all(), "the words of a call tell the token")
         taken = bench.run(["tools/explore", "--port", str(served.port)])
-        said = f"explore: port {served.port} can't be had: Address already in use\n"
+        said = f"explore: port {served.port} can't be used: Address already in use\n"
         bench.is_so((taken.returncode, taken.stderr) == (2, said), f"a port that is taken is told as {taken.stderr!r}")
     del bench.environment["BROWSER"]
 

@@ -48,7 +48,7 @@ CALLS: List[Call] = [
         f"tools/audit {RIGHT} --vcd 'latin\udce9.vcd'",
         status=2,
         prints="fail is exact",
-        says="audit: a name that is no UTF-8 would stand",
+        says="audit: a name that is not UTF-8 would be",
         needs="yosys",
     ),
     Call("tools/trace bell.report", status=2, says="trace: bell.report:2: the line is none of a report's"),

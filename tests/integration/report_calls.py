@@ -45,7 +45,7 @@ CALLS: List[Call] = [
         says="replay: class.report:5: the lines of the classes above are not those",
     ),
     Call("tools/replay bytes.m", status=2, says="replay: a file is not UTF-8"),
-    Call("tools/replay kept.report", status=2, says="replay: kept.report.m is there and holds something else"),
+    Call("tools/replay kept.report", status=2, says="replay: kept.report.m is there, and does not hold"),
     Call("tools/trace a.report", prints="<1w0/1/-> TF: acts in element 2, and the victim is not visited again"),
     Call("tools/trace a.report --steps", prints="  element 2   w0   cell 0"),
     Call("tools/trace a.report '<0/1/->'", status=2, says="trace: a.report has no escape of <0/1/->"),
@@ -72,7 +72,7 @@ CALLS: List[Call] = [
     Call(
         "tools/trace inside.report",
         status=2,
-        says="trace: this report is of `inword`: --memory MEMORY has its backgrounds",
+        says="trace: this is a report of `inword`: give its memory by --memory MEMORY",
     ),
     Call(
         "tools/trace inside.report --memory t.mem",
@@ -82,7 +82,7 @@ CALLS: List[Call] = [
     Call(
         "tools/trace inside.report --memory s.mem",
         status=2,
-        says="trace: s.mem is another memory than the report's, which is t",
+        says="trace: s.mem is not the memory of the report, which is t",
     ),
     Call("tools/trace a.report --memory t.mem", status=2, says="trace: --memory is for a report of `inword`"),
     Call(
@@ -112,7 +112,7 @@ CALLS: List[Call] = [
     ),
     Call("tools/report a.report --json", prints='"schema": "vidlakost-report-1"'),
     Call("tools/report a.report --html a.html"),
-    Call("tools/report a.report", status=2, says="report: one of --json and --html FILE"),
+    Call("tools/report a.report", status=2, says="report: give either --json or --html FILE"),
     Call("tools/report a.report --html ./a.report", status=2, says="report: './a.report' is the report itself"),
     Call("tools/report a.report --html no/where", status=2, says="report: no/where: No such file"),
     Call("tools/report tf.list --json", status=2, says="report: tf.list:1"),
@@ -142,7 +142,7 @@ CALLS: List[Call] = [
     Call("tools/locate c.m scrambled.mem 11 4 5", status=2, says="locate: the expected word is 4, and this march"),
     Call("tools/locate c.m scrambled.mem 11 zz 1", status=2, says="locate: 'zz' is no hexadecimal word"),
     Call("tools/locate c.m rows.mem 11", status=4, says="locate: memory D6"),
-    Call("tools/locate c.m scrambled.mem", status=2, says="locate: a cycle, or a cycle and two words"),
+    Call("tools/locate c.m scrambled.mem", status=2, says="locate: after the memory comes a cycle"),
     Call(
         "tools/locate c.m scrambled.mem --elements",
         prints="background 1 a element 5 any(r0) cycles 153 to 160\ndone from cycle 163",
@@ -164,5 +164,5 @@ CALLS: List[Call] = [
         status=2,
         says="locate: the cycles of this test are",
     ),
-    Call("tools/locate c.m scrambled.mem 5 --elements", status=2, says="locate: --elements stands alone"),
+    Call("tools/locate c.m scrambled.mem 5 --elements", status=2, says="locate: --elements takes only a march"),
 ]

@@ -53,7 +53,7 @@ CALLS: List[Call] = [
         Call(f"tools/access pair.chip acc6 --jtag --idcode {word}", status=2, says="access: --idcode has eight")
         for word in ("1", "12345678", "000000ff", "1234567g", "112345679")
     ),
-    Call("tools/locate access.m late.mem 7 --sib", status=2, says="locate: --sib stands beside --tdr"),
+    Call("tools/locate access.m late.mem 7 --sib", status=2, says="locate: --sib needs --tdr"),
     Call("tools/locate access.m late.mem --tdr 16a00000029f --sib", status=2, says="locate: bit 46 of"),
 ]
 # how a file is spoilt; each is of a TAP with a network and a log

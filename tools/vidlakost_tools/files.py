@@ -64,7 +64,7 @@ def refuse_twins(names: Collection[str]) -> None:
     lower = [name.lower() for name in names]
     twice = next((name for name in names if lower.count(name.lower()) > 1), None)
     if twice:
-        raise ToolError(f"two files would have the name {shown(twice)}, but for small and great letters")
+        raise ToolError(f"two files would have the name {shown(twice)}, with a difference in case alone")
 
 
 def refuse_strangers(folder: pathlib.Path, names: Iterable[str]) -> None:
@@ -80,7 +80,7 @@ def refuse_strangers(folder: pathlib.Path, names: Iterable[str]) -> None:
 def refuse_no_folder(folder: pathlib.Path) -> None:
     """Refuses a file where a folder has to be."""
     if os.path.lexists(folder) and not folder.is_dir():
-        raise ToolError(f"{shown(str(folder))} is a file, and no folder")
+        raise ToolError(f"{shown(str(folder))} is a file, not a folder")
 
 
 def look_first(folder: pathlib.Path, name: str, head: str) -> None:
@@ -102,7 +102,7 @@ def refuse_another_list(folder: pathlib.Path, text: str) -> None:
     path = folder / LIST
     first = begins(read_described(path)) if path.is_file() and path.stat().st_size <= INPUT_BYTES else ""
     if first not in ("", begins(text)):
-        raise ToolError(f"{path} is the list of {shown(first)}, so nothing is written: take a folder for each")
+        raise ToolError(f"{path} is the list of {shown(first)}, so nothing is written: use another folder")
 
 
 def is_plain(path: pathlib.Path) -> bool:

@@ -188,7 +188,7 @@ def run(*words: object) -> tuple[int, str]:
             check=False,
         )
     except subprocess.TimeoutExpired as error:
-        raise ToolError(f"the program took longer than {SECONDS:g} seconds, and was ended", 124) from error
+        raise ToolError(f"the program took longer than {SECONDS:g} seconds, so it was ended", 124) from error
     except OSError as error:
         raise ToolError(f"the program {PROGRAM} can't be run: {error.strerror}", 125) from error
     said = done.stdout.decode("utf-8", "replace")

@@ -23,7 +23,7 @@ def read_bytes(path: Path, most: int = INPUT_BYTES) -> bytes:
     with open(path, "rb") as file:
         content = file.read(most + 1)
     if len(content) > most:
-        raise OSError(errno.EFBIG, f"it has more than {most:,} bytes, which is the most that is read", str(path))
+        raise OSError(errno.EFBIG, f"it has more than {most:,} bytes, the most that is read", str(path))
     return content
 
 
@@ -47,7 +47,7 @@ def stream(path: Path, most: int) -> Iterator[str]:
             left -= len(line)
             if left < 0 or len(line) > INPUT_BYTES:
                 told = f"{most:,} bytes, or a line of more than {INPUT_BYTES:,}"
-                raise OSError(errno.EFBIG, f"it has more than {told}, which is the most that is read", str(path))
+                raise OSError(errno.EFBIG, f"it has more than {told}, the most that is read", str(path))
             if not line:
                 return
             yield line.decode("utf-8")

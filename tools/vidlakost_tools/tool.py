@@ -81,7 +81,7 @@ class Words(argparse.ArgumentParser):
     def error(self, message: str) -> NoReturn:
         found = re.match(r"argument (--[\w-]+): expected", message)
         raise ToolError(
-            f"{found[1]} needs a word behind it\n{usage_of(self.doc)}" if found else f"{message}\n{usage_of(self.doc)}"
+            f"{found[1]} needs a word after it\n{usage_of(self.doc)}" if found else f"{message}\n{usage_of(self.doc)}"
         )
 
 
@@ -181,7 +181,7 @@ def no_text(error: UnicodeError) -> str:
     """What is said of bytes that are no text: those of a file that is read, or of a name that is to be written."""
     if isinstance(error, UnicodeDecodeError):
         return f"a file is not UTF-8: {error.reason} at byte {error.start}"
-    return "a name that is no UTF-8 would stand in what is written"
+    return "a name that is not UTF-8 would be in what is written"
 
 
 def stop(number: int, frame: object) -> None:
@@ -204,7 +204,7 @@ def telling(what: str, how_far: Callable[[], str] | None = None) -> Iterator[Non
         seconds = 10
         while not is_over.wait(10):
             far = how_far() if how_far else ""
-            tell(f"{name}: {what}{f' ({far})' if far else ''}, for {seconds} seconds by now")
+            tell(f"{name}: {what}{f' ({far})' if far else ''}, {seconds} seconds so far")
             seconds += 10
 
     teller = threading.Thread(target=tell_on, daemon=True)
@@ -247,7 +247,7 @@ def explain(words: list[str], said: str, status: int) -> None:
 def number_of(text: str, what: str, least: int = 0) -> int:
     """A decimal number among the words of a call."""
     if not re.fullmatch("[0-9]{1,9}", text) or int(text) < least:
-        raise ToolError(f"{what} is a number from {least} on, and not {shown(text)}")
+        raise ToolError(f"{what} is a number of at least {least}, and not {shown(text)}")
     return int(text)
 
 

@@ -88,7 +88,7 @@ def verdict_of(audit: Audit) -> tuple[str, int]:
         print(end or f"after the end done is 1 and en 0 to cycle {until}")
     told = fail_found(audit, found, number_of(audit.options.get("--limit", "600"), "--limit", 1))
     wave(audit, found, told.cycle if told.kind != "exact" else len(audit.commands()) - 1)
-    limited = [f"done and en are right to cycle {until}"] if until >= 0 else []
+    limited = [f"done and en are right up to cycle {until}"] if until >= 0 else []
     parts = [found.told(), *([end] if end else limited), told.short()]
     in_reset = found.in_reset and "--reset-open" not in audit.options
     if in_reset:
@@ -120,7 +120,7 @@ def wave(audit: Audit, found: Verdict, cycle: int) -> None:
         file = audit.options["--vcd"]
         is_new = write_wave(file, found.plain, commands, audit.memory, cycle)
         save = (
-            "a save file for GTKWave beside it"
+            "a save file for GTKWave is beside it"
             if is_new
             else f"{save_of(file)} is not audit's, and stays as it is"
         )

@@ -104,16 +104,16 @@ def main(arguments: list[str]) -> int:
     log = logged(words[0], asked)
     cells = cells_of(log.reads, memory)
     shape = shape_of({place_of(index, bit, mux) for index, bit in cells})
-    further = ", and more came" if log.more else ""
+    further = ", and more followed" if log.more else ""
     print(f"{shape}: {counted(len(cells), 'cell')} in {counted(len(log.reads), 'read')}{further}")
     table = list(lines_of_cells(cells, memory, mux))
     for row, column, index, address, bit, count in table:
         print(f"row {row} column {column} index {index} address {address} bit {bit} wrong {count}")
     if "--list" in options:
-        with telling("the log is compared with each defect"):
+        with telling("comparing the log with each defect"):
             answer = answer_of(log.evidence, faults_of(asked.march, options["--list"]), mux)
         lines = [f"may be {one.what}" for one in answer.candidates]
-        print("\n".join(lines or ["no single defect that is known here gives this log"]))
+        print("\n".join(lines or ["no single defect that this tool knows gives this log"]))
     made = {}
     if "--csv" in options:
         rows = ["row,column,index,address,bit,wrong", *(",".join(map(str, line)) for line in table)]

@@ -146,5 +146,5 @@ def main(arguments: list[str]) -> int:
     if left:
         tell(f"collar: not tested: {left}")
     if alike(word):
-        tell(f"collar: {alike(word)}: the test does not see where one hangs on the other")
+        tell(f"collar: {alike(word)}: the test does not see if one depends on the other")
     return 0

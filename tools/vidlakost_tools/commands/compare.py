@@ -90,7 +90,7 @@ def told(names: list[str], marches: list[Judged]) -> Iterator[str]:
     yield from table(names, marches)
     lines = list(differing(names, marches))
     if lines:
-        yield "\nprimitives that some of them cover, and which:"
+        yield "\nprimitives that only some cover, and the marches that do:"
     for kind, text, covering in lines:
         yield f"{kind:5} {text:16} {', '.join(covering)}"
 

@@ -55,7 +55,7 @@ def told(answer: Answer) -> Iterator[str]:
         yield f"class {name} {count}"
     yield from map(lines_of, answer.candidates)
     if not answer.candidates:
-        yield "no single defect that is known here gives this log"
+        yield "no single defect that this tool knows gives this log"
     for (index, bit), some in answer.alone:
         yield f"index {index} bit {bit} by itself: {len(some)} candidates"
         yield from (f"  {lines_of(one)}" for one in some)
@@ -65,10 +65,10 @@ def told_further(found: list[Further], count: int) -> Iterator[str]:
     """Which marches tell most candidates apart."""
     best = sorted(found, key=lambda one: (-one.groups, one.largest))
     if not best or best[0].groups < 2:
-        yield f"no march tells the {count} candidates apart"
+        yield f"no march separates the {count} candidates"
         return
     for one in best[:NAMED]:
-        yield f"{one.name} tells {one.groups} groups of {count} apart, at most {one.largest} in one"
+        yield f"{one.name} separates the {count} candidates into {one.groups} groups of at most {one.largest}"
 
 
 def next_march(candidates: list[Candidate], options: dict[str, Any], memory: Memory) -> list[str]:
@@ -85,7 +85,7 @@ def main(arguments: list[str]) -> int:
     asked = asked_of(words, options, __doc__)
     mux = number_of(options.get("--mux", "1"), "--mux", 1)
     check_mux(asked.memory, mux)
-    with telling("the log is compared with each defect"):
+    with telling("comparing the log with each defect"):
         answer = answer_of(logged(words[0], asked).evidence, faults_of(asked.march, options.get("--list")), mux)
         lines = [*told(answer), *next_march(answer.candidates, options, asked.memory)]
     print("\n".join(lines))

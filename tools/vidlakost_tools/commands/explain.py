@@ -190,8 +190,8 @@ def list_commands() -> None:
             print(f"  {status:>3}  {plain(forms):{22}}  {plain(when)}")
     print("  125  the launcher found no program to run, could not build one, or had no answer\n")
     print(
-        "`vidlakost NAME --help` tells one in full, `vidlakost --version` the commit and the kit's line; docs/GUIDE.md"
-        " leads\nthrough the tasks, and docs/FORMATS.md has the texts and every refusal."
+        "`vidlakost NAME --help` describes one in full. `vidlakost --version` prints the commit and the kit's line.\n"
+        "docs/GUIDE.md goes through the tasks, and docs/FORMATS.md has the texts and every refusal."
     )
 
 

@@ -32,7 +32,7 @@ def text_of(name: str) -> str:
     with open(name, "rb") as file:
         content = file.read(LIMIT + 1)
     if len(content) > LIMIT:
-        raise ToolError(f"{shown(name)} has more than {LIMIT:,} bytes, which no input has")
+        raise ToolError(f"{shown(name)} has more than {LIMIT:,} bytes, the most that an input has")
     return content.decode("utf-8")
 
 
@@ -56,7 +56,7 @@ def server_of(words: list[str], port: int, searches: Searches) -> Explorer:
     try:
         return Explorer(port, kept.files(), questions)
     except OSError as error:
-        raise ToolError(f"port {port} can't be had: {error.strerror}") from error
+        raise ToolError(f"port {port} can't be used: {error.strerror}") from error
 
 
 def open_in_browser(address: str, folder: pathlib.Path) -> None:
@@ -65,7 +65,7 @@ def open_in_browser(address: str, folder: pathlib.Path) -> None:
     with os.fdopen(os.open(path, os.O_WRONLY | os.O_CREAT | os.O_EXCL, 0o600), "w", encoding="utf-8") as file:
         file.write(f'<!DOCTYPE html>\n<meta http-equiv="refresh" content="0; url={html.escape(address)}">\n')
     if not webbrowser.open(path.as_uri()):
-        tell("explore: there is no browser to open; the address is above")
+        tell("explore: there is no browser to open; use the address above")
     timer = threading.Timer(OPENED_SECONDS, lambda: path.unlink() if path.exists() else None)
     # which doesn't hold up the end
     timer.daemon = True

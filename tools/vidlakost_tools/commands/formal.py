@@ -88,7 +88,7 @@ WRONG = [
     ("the expected words are inverted", r"want <= \(value1 \?", "want <= ((!value1) ?"),
     ("the reset does not start the run", r"run <= \(reset \? 1'h1 :", "run <= (reset ? run :"),
     ("the reset leaves the value", r"one <= \(reset \? 1'h0 :", "one <= (reset ? one :"),
-    ("the last operation is told by the first", r": ends_more\)", ": ends_again)"),
+    ("the first operation counts as the last", r": ends_more\)", ": ends_again)"),
     ("the reset leaves the element", r"element <= \(reset \? 2'h0 :", "element <= (reset ? element :"),
     (
         "a read from before the reset is compared",
@@ -99,7 +99,7 @@ WRONG = [
     ("fail is not 0 in the reset", r"fail = \(reset \? 1'h0 : bad\)", "fail = bad"),
     ("the test begins again at its end", r"\(last_back \? 1'h0 : run\)", "(last_back ? run : run)"),
     ("a write is a read", r"we = write", "we = 1'h0"),
-    ("en hangs on a bit that is not there", r"1'h0 : live\);", "1'h0 : (live && !want[{1'b1, back}]));"),
+    ("en depends on a bit that is not there", r"1'h0 : live\);", "1'h0 : (live && !want[{1'b1, back}]));"),
 ]
 # the same, where no run of cycles shows it and the module is refused by these words
 REFUSED = [
@@ -185,7 +185,7 @@ def judge(
         try:
             plain = plain_of(list(map(str, files)), options, pins)
         except ToolError as error:
-            return f"not known: a case in cycle {cycle} can't be clocked by itself, since {error}"
+            return f"not known: Python can't clock the case of cycle {cycle} by itself, since {error}"
         if is_replayed(asked, plain, cycle):
             return f"differs in cycle {cycle}"
     return f"not known: the module, clocked by itself, does not show the case in cycle {cycle}"
@@ -212,7 +212,7 @@ def judge_case(
         if change:
             changed, count = re.subn(change[1], change[2].replace("\\", "\\\\"), module.read_text())
             if count != 1:
-                raise ToolError(f"the text of '{change[0]}' stands {count} times in the module")
+                raise ToolError(f"the module has the text of '{change[0]}' {count} times")
             module.write_text(changed)
         return judge([module], march, memory, {"--resets": True} if resets else {}, change is None)
 
@@ -253,8 +253,8 @@ def judge_wrong() -> int:
     missed = 0
     for what, difference in wrong_modules():
         missed += difference is None
-        print(f"{what}: {difference or 'not told'}")
-    print(f"{len(WRONG) + len(REFUSED)} wrong modules, {missed} not told")
+        print(f"{what}: {difference or 'not found'}")
+    print(f"{len(WRONG) + len(REFUSED)} wrong modules, {missed} not found")
     return 1 if missed else 0
 
 

@@ -38,9 +38,9 @@ def main(arguments: list[str]) -> int:
     write_own(pathlib.Path(folder), texts, [march, path])
     if memory.pause <= memory.latency:
         tell(
-            f"hold: a pause of {memory.pause} cycles: words of reads before it may be on their way while the clock"
-            " stands"
+            f"hold: a pause has {memory.pause} cycle{'s' if memory.pause > 1 else ''}, so the clock may stop before the"
+            " words of earlier reads arrive"
         )
     if not hold_text.is_read_behind(elements):
-        tell("hold: no pause is followed by a read, so +planted finds nothing")
+        tell("hold: no read follows a pause, so +planted finds nothing")
     return 0

@@ -51,7 +51,7 @@ def description(name: str, address: int, bits: int, source: str) -> str:
         lines.append(f"bits {bits}")
     elif bits > WIDEST_WORD:
         lines.append(
-            f"# bits N       a word of {bits} bits is two descriptions, whose names stand as low and high in the pins"
+            f"# bits N       a word of {bits} bits is two descriptions; the lines low and high of the pins name them"
         )
     else:
         lines.append("# bits N        no word is recognised")
@@ -89,7 +89,7 @@ def confirmed_in(given: list[str], found: list[Found]) -> dict[str, str]:
     for text in given:
         name, _, kind = text.partition("=")
         if kind not in KINDS:
-            raise ToolError(f"--pin names a pin and what it is, one of {', '.join(KINDS)}, and not {shown(text)}")
+            raise ToolError(f"--pin is PIN=KIND, with KIND one of {', '.join(KINDS)}, and not {shown(text)}")
         if name not in [pin.name for pin in found] or name in confirmed:
             raise ToolError(
                 f"--pin {shown(text)}: {'the pin is named twice' if name in confirmed else 'there is no such pin'}"
@@ -111,7 +111,7 @@ def tell_left(found: list[Found], lines: list[str], left: int) -> None:
             tell(f"liberty: {pin.name} {told}")
     taken = [pin.name for pin in found if pin.is_taken_falling and is_name(pin.name)]
     if taken:
-        told = "are taken at the falling edge of the clock, and a collar drives pins for the rising one"
+        told = "are sampled at the falling edge of the clock, but a collar drives pins for the rising one"
         tell(f"liberty: {', '.join(taken)} {told}")
     unsure = sum(line.startswith(pin_names.UNSURE) for line in lines)
     if unsure:
@@ -119,7 +119,7 @@ def tell_left(found: list[Found], lines: list[str], left: int) -> None:
             f"liberty: {unsure} of {len(found)} pins are guessed by their names: confirm each line that begins with #?"
         )
     if left:
-        tell(f"liberty: {left} of {len(found)} pins are not recognised, and stand in comments")
+        tell(f"liberty: {left} of {len(found)} pins are not recognised: their lines are comments")
 
 
 def main(arguments: list[str]) -> int:

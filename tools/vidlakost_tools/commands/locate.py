@@ -51,7 +51,7 @@ def bits_of(read: Read, memory: Memory, given: list[str], mux: int | None) -> li
         words.append(int(word, 16))
     tester.check_expected(read, memory, words[0])
     if words[0] == words[1]:
-        raise ToolError(f"{memory.digits(words[0])} is expected and returned, so this read is not wrong")
+        raise ToolError(f"{memory.digits(words[0])} is both expected and returned, so this read is not wrong")
     differing = [bit for bit in range(memory.bits) if (words[0] ^ words[1]) >> bit & 1]
     lines = [f"bits {' '.join(map(str, differing))}"]
     if mux is not None:
@@ -76,14 +76,15 @@ def of_check(text: str, elements: list[Element], memory: Memory) -> list[str]:
     line = CHECKED.fullmatch(text.strip())
     if line is None or line[2] not in PORTS or text.startswith("differs") != bool(line[3]):
         raise ToolError(
-            f"{shown(text)} is no line of check: a port is one of {', '.join(PORTS)}, and what differs is expected"
+            f"{shown(text)} is no line of check: it names one of the ports {', '.join(PORTS)}, and `differs` needs"
+            " `expected`"
         )
     if line[3] and line[3] == line[4]:
-        raise ToolError(f"the line got {line[4]} on {line[2]} as it expects, so nothing differs")
+        raise ToolError(f"the line expects {line[3]} on {line[2]} and got it, so nothing differs")
     lines = due_lines(elements, memory, int(line[1]))
     due = due_numbers(elements, memory, int(line[1])).get(line[2])
     if line[3] and (due is None or line[3] not in (str(due), f"{due:x}")):
-        told = f"and of this march {'nothing' if due is None else due} is due there: another march, memory or cycle?"
+        told = f"but this march has {'nothing' if due is None else due} there: is it another march, memory or cycle?"
         raise ToolError(f"the line expects {line[3]} on {line[2]}, {told}")
     return lines
 
@@ -92,7 +93,7 @@ def of_chip(words: list[str], options: dict[str, Any], mux: int) -> list[str]:
     """What is said of a chip."""
     if "--tdr" in options:
         if len(words) != 1 or "--at" in options:
-            raise ToolError(f"--tdr stands behind a chip file alone\n{usage_of(__doc__)}")
+            raise ToolError(f"--chip --tdr takes only a chip file\n{usage_of(__doc__)}")
         return tester.chip_register(read_chip(words[0]), options["--tdr"], mux, "--sib" in options)
     if len(words) not in (3, 5):
         raise ToolError(
@@ -112,7 +113,7 @@ def of_whole(words: list[str], options: dict[str, Any], mux: int) -> list[str]:
     soc.planned(system, path)
     if "--tdr" in options:
         if rest or "--at" in options:
-            raise ToolError(f"--tdr stands behind the pins alone\n{usage_of(__doc__)}")
+            raise ToolError(f"--whole --tdr takes a chip file or a list, and the pins\n{usage_of(__doc__)}")
         return system_locate.register(system, options["--tdr"], mux, "--sib" in options)
     if "--line" in options:
         return of_line(system, rest, options["--line"], mux)
@@ -120,7 +121,8 @@ def of_whole(words: list[str], options: dict[str, Any], mux: int) -> list[str]:
         raise ToolError(f"--whole takes a cycle, the bits of fail, and two words or none\n{usage_of(__doc__)}")
     parts = [system.parts[number] for number in tester.failing_units(rest[1], len(system.parts))]
     if len(parts) > 1:
-        raise ToolError(f"{', '.join(part.name for part in parts)} fail: whose is the cycle? Give one bit alone")
+        names = ", ".join(part.name for part in parts)
+        raise ToolError(f"{names} fail: which of them does the cycle belong to? Set one bit alone")
     return list(system_locate.in_system(system, answered(rest[0], options), parts[0], rest[2:], mux))
 
 
@@ -138,7 +140,7 @@ def of_line(system: soc.System, rest: list[str], line: str, mux: int) -> list[st
 def answered(text: str, options: dict[str, Any]) -> int:
     """The cycle in which the answer stands on `rdata`."""
     if options.get("--at", "fail") != "fail":
-        raise ToolError("behind --at stands fail alone")
+        raise ToolError("--at takes only fail")
     return number_of(text, "CYCLE", 1) - 1 if "--at" in options else number_of(text, "CYCLE")
 
 
@@ -146,7 +148,7 @@ def main(arguments: list[str]) -> int:
     allowed = {"--line": 1, "--elements": 0, "--chip": 0, "--tdr": 1, "--at": 1, "--mux": 1, "--whole": 0, "--sib": 0}
     words, options = words_of(__doc__, arguments, allowed, 1, None)
     if "--sib" in options and "--tdr" not in options:
-        raise ToolError(f"--sib stands beside --tdr\n{usage_of(__doc__)}")
+        raise ToolError(f"--sib needs --tdr\n{usage_of(__doc__)}")
     has_rows, mux = "--mux" in options, number_of(options.pop("--mux", "1"), "--mux", 1)
     if "--whole" in options:
         print("\n".join(of_whole(words, options, mux)))
@@ -161,13 +163,13 @@ def main(arguments: list[str]) -> int:
     march, memory_file, *rest = words
     if "--tdr" in options:
         if rest or set(options) - {"--tdr", "--sib"}:
-            raise ToolError(f"--tdr stands alone\n{usage_of(__doc__)}")
+            raise ToolError(f"--tdr takes only a march and a memory, with --sib or --mux\n{usage_of(__doc__)}")
         elements, memory = march_of(march)[1], read_memory(memory_file)
         print("\n".join(tester.memory_register(elements, memory, options["--tdr"], mux, "--sib" in options)))
         return 0
     if "--elements" in options:
         if rest or len(options) > 1:
-            raise ToolError(f"--elements stands alone\n{usage_of(__doc__)}")
+            raise ToolError(f"--elements takes only a march and a memory\n{usage_of(__doc__)}")
         print("\n".join(element_lines(march_of(march)[1], read_memory(memory_file))))
         return 0
     if options.get("--line", "").startswith(("differs ", "unknown ")) and not rest:
@@ -179,11 +181,11 @@ def main(arguments: list[str]) -> int:
             raise ToolError("the line names no read: it has no 'cycle C expected X returned Y'")
         whose = OF_UNIT.search(options["--line"])
         if whose is not None:
-            why = "whose cycles are the chip's: give the chip file with --chip and the cycle, or its pins with --whole"
+            why = "and its cycles are the chip's: give the chip file with --chip and the cycle, or its pins with --whole"
             raise ToolError(f"the line is of unit {whose[1]} of a chip, {why}")
         rest = list(match.groups())
     if len(rest) not in (1, 3):
-        raise ToolError(f"a cycle, or a cycle and two words, stand behind the memory\n{usage_of(__doc__)}")
+        raise ToolError(f"after the memory comes a cycle, or a cycle and two words\n{usage_of(__doc__)}")
     elements, memory = march_of(march)[1], read_memory(memory_file)
     read = read_of(elements, memory, answered(rest[0], options))
     lines = tester.told(read, elements, memory, mux) if has_rows else visit_lines(read, elements[read.element], memory)

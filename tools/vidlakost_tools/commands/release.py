@@ -68,8 +68,8 @@ def proof(program: str, content: bytes, unproved: bool) -> str:
     if line is None and not unproved:
         raise ToolError(
             (
-                f"nothing says that {shown(program)} was proved of these sources: ./vidlakost --prove makes one that"
-                " was, and --unproved packs this one, as unproved"
+                f"nothing says that {shown(program)} was proved of these sources: ./vidlakost --prove makes a proved"
+                " program, and --unproved packs this one as unproved"
             ),
             125,
         )
@@ -103,9 +103,7 @@ def release_text(program: str, content: bytes, unproved: bool) -> str:
 def below(parts: list[str]) -> list[str]:
     """The files below some folders, where git does not tell them."""
     paths = [
-        path
-        for part in parts
-        for path in ([ROOT / part] if (ROOT / part).is_file() else (ROOT / part).rglob("*"))
+        path for part in parts for path in ([ROOT / part] if (ROOT / part).is_file() else (ROOT / part).rglob("*"))
     ]
     return [str(path.relative_to(ROOT)) for path in paths if path.is_file() and "__pycache__" not in path.parts]
 

@@ -199,7 +199,7 @@ def megahertz(options: dict[str, Any]) -> float:
 def all_reports(words: list[str], options: dict[str, Any]) -> int:
     """The table over many reports."""
     if ("--csv" in options) == ("--html" in options) or "--json" in options:
-        raise ToolError(f"--all is with --csv or with --html FILE\n{usage_of(__doc__)}")
+        raise ToolError(f"--all needs --csv or --html FILE\n{usage_of(__doc__)}")
     memories = options.get("--memory", [])
     refuse_inputs(options.get("--html"), [("what is read", name) for name in (*words, *memories)])
     rows, mhz = signoff.rows_of(words, memories), megahertz(options)
@@ -239,7 +239,7 @@ def main(arguments: list[str]) -> int:
         or ("--json" in options) == ("--html" in options)
         or set(options) - {"--json", "--html", "--inword"}
     ):
-        raise ToolError(f"one of --json and --html FILE\n{usage_of(__doc__)}")
+        raise ToolError(f"give either --json or --html FILE\n{usage_of(__doc__)}")
     name, inside = words[0], options.get("--inword")
     reports = both(name, inside)
     if "--json" in options:

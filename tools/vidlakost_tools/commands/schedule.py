@@ -33,7 +33,7 @@ def main(arguments: list[str]) -> int:
     (chip_file, *pins), options = words_of(__doc__, arguments, {"--svg": 1}, 1, None)
     if pins or not is_chip_file(chip_file):
         if "--svg" in options:
-            raise ToolError("--svg is of a chip file without pins")
+            raise ToolError("--svg draws a chip file without pins")
         system = soc.read_system(chip_file)
         soc.give_collars(system, pins)
         soc.planned(system, chip_file)

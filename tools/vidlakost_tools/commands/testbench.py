@@ -189,7 +189,7 @@ def ending_of(name: str, wrong: str, whose: str, options: Mapping[str, Any]) -> 
     """What stands at the head of a testbench and at its end; in plain Verilog the line before tells how it went."""
     if "--sv" not in options:
         return {"over": "", "ending": "    $finish;\n"}
-    fatal = f"    if (({wrong}) !== 1'b0)\n      $fatal(1, \"the ports are not as the {whose} commands say\");\n"
+    fatal = f'    if (({wrong}) !== 1\'b0)\n      $fatal(1, "the ports are not as the {whose} commands say");\n'
     return {"over": over(f"{name}_tb"), "ending": f"{fatal}    {FINISH}\n"}
 
 
@@ -266,7 +266,7 @@ def write_chip(words: list[str], options: Mapping[str, Any]) -> None:
     if len(words) != 2 or {"--content", "--assert"} & set(options):
         raise ToolError(f"--chip takes a chip file and a folder\n{usage_of(__doc__)}")
     if ("--unit" in options) != ("--fault" in options):
-        raise ToolError("--unit and --fault stand together")
+        raise ToolError("--unit and --fault need each other")
     refuse_no_folder(pathlib.Path(words[1]))
     chip, fault = read_chip(words[0]), None
     look(words[1], chip.name, options)
@@ -297,10 +297,10 @@ def main(arguments: list[str]) -> None:
     if "--chip" in options:
         return write_chip(words, options)
     if len(words) < 3 or "--unit" in options:
-        raise ToolError(f"{'--unit is of a chip' if words[2:] else 'too few words'}\n{usage_of(__doc__)}")
+        raise ToolError(f"{'--unit needs --chip' if words[2:] else 'too few words'}\n{usage_of(__doc__)}")
     march, memory_file, folder = words
     if "--assert" in options and len(options) > 1:
-        raise ToolError("--assert stands alone")
+        raise ToolError("--assert takes no other option")
     elements, memory = march_of(march)[1], read_memory(memory_file)
     if "--assert" in options:
         return write(folder, f"{memory.name}_rule.sv", rule_of_ports.rule(elements, memory), [march, memory_file], {})

@@ -61,11 +61,11 @@ def shown(verdict: Verdict | DecoderVerdict | LinkVerdict, step: Step) -> str:
 def memory_of(report: InWordReport, name: str | None) -> Memory:
     """The memory of a report of `inword`, which has to be the named one."""
     if name is None:
-        raise ToolError("this report is of `inword`: --memory MEMORY has its backgrounds")
+        raise ToolError("this is a report of `inword`: give its memory by --memory MEMORY")
     memory = read_memory(name)
     told = {"name": memory.name, "words": memory.words, "bits": memory.bits, "backgrounds": len(memory.backgrounds)}
     if told != {key: report.memory[key] for key in told}:
-        raise ToolError(f"{name} is another memory than the report's, which is {report.memory['name']}")
+        raise ToolError(f"{name} is not the memory of the report, which is {report.memory['name']}")
     return memory
 
 
@@ -106,7 +106,7 @@ def march_file(report: Report, path: pathlib.Path) -> pathlib.Path:
     if not os.path.lexists(march):
         write_whole(march, text)
     elif march.read_bytes() != text.encode():
-        raise ToolError(f"{march} is there and holds something else than the report's march; move it away first")
+        raise ToolError(f"{march} is there, and does not hold the report's march; move it away first")
     return march
 
 
@@ -145,7 +145,7 @@ def main(arguments: list[str]) -> int:
     (name, *chosen), options = words_of(__doc__, arguments, {"--steps": 0, "--memory": 1, "--calls": 0, "--run": 0}, 1)
     if {"--calls", "--run"} & set(options):
         if chosen or {"--steps", "--memory"} & set(options):
-            raise ToolError(f"--calls and --run stand alone behind a report\n{usage_of(__doc__)}")
+            raise ToolError(f"--calls and --run take a report and nothing else\n{usage_of(__doc__)}")
         return replay(name, "--run" in options)
     report = read_any(name)
     missing = [word for word in chosen if word not in {verdict.primitive for verdict in report.escapes}]

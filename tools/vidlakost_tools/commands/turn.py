@@ -31,26 +31,26 @@ def read_rows(path: str) -> tuple[str, dict[int, Row]]:
         said = line.split("#")[0].strip(BLANKS)
         match = LINE.fullmatch(said)
         if said and match is None:
-            raise ToolError(f"{path}:{count}: a line is p0 = a0 ^ a1, and not '{said}'")
+            raise ToolError(f"{path}:{count}: a line has the form p0 = a0 ^ a1, and not '{said}'")
         if match is None:
             continue
         letter, row, terms = match[1], int(match[2]), [term.strip() for term in match[3].split("^")]
         other = "a" if letter == "p" else "p"
         letters.add(letter)
         if any(term[0] == letter for term in terms) or len(letters) > 1:
-            raise ToolError(f"{path}:{count}: the bits on the right are all of the other side, {other}0 and so on")
+            raise ToolError(f"{path}:{count}: all bits on the right are of the other side: {other}0 and so on")
         if row in rows:
             raise ToolError(f"{path}:{count}: there is a row {letter}{row} already")
         rows[row] = terms_of(" ^ ".join(term.replace(other, "p") for term in terms))
     if not rows or sorted(rows) != list(range(len(rows))):
-        raise ToolError(f"{path}: there has to be a row for each bit from 0 on")
+        raise ToolError(f"{path}: each bit from 0 on needs a row")
     return letters.pop(), rows
 
 
 def check(path: str, rows: Mapping[int, Row]) -> None:
     """Refuses bits that are not there, and rows that depend on one another."""
     if any(bit >= len(rows) for bits, _ in rows.values() for bit in bits):
-        raise ToolError(f"{path}: a bit on the right is none of 0 to {len(rows) - 1}")
+        raise ToolError(f"{path}: a bit on the right is not one of 0 to {len(rows) - 1}")
     left: list[int] = []
     for row in sorted(rows):
         value = sum(1 << bit for bit in rows[row][0])

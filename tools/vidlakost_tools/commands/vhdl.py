@@ -38,7 +38,7 @@ def read_module(path: str) -> Module:
 def main(arguments: list[str]) -> int:
     words, _ = words_of(__doc__, arguments, {}, 2, 4)
     if len(words) == 3:
-        raise ToolError(f"a march and a memory stand together\n{usage_of(__doc__)}")
+        raise ToolError(f"give both a march and a memory\n{usage_of(__doc__)}")
     module, out = read_module(words[0]), pathlib.Path(words[1])
     made = {f"{module.name}.vhd": vhdl_text.vhdl(module)}
     if len(words) == 4:
