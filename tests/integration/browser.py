@@ -227,7 +227,7 @@ def marked_up(it: Looker) -> None:
     """Markup in a text stays text."""
     before = len(it.all("script, img"))
     it.write("march-A", MARKUP)
-    it.look("a march with markup is refused", lambda: "can't stand here" in it.text("said-A"))
+    it.look("a march with markup is refused", lambda: "is not allowed here" in it.text("said-A"))
     it.write("memory-text", MARKUP.replace("\n", " "))
     it.look("a memory with markup is refused", lambda: "line 1, column 1" in it.text("memory-said"))
     it.look(

@@ -22,13 +22,13 @@ CHECKS: List[Call] = [
         "./vidlakost check token.v c.m s.mem",
         status=14,
         prints="verilog L1",
-        says="token.v:2:3: error: 'wir' can't stand here; did you mean 'wire'?",
+        says="token.v:2:3: error: 'wir' is not allowed here; did you mean 'wire'?",
     ),
     Call(
         "./vidlakost check operand.v c.m s.mem",
         status=14,
         prints="verilog L1",
-        says="operand.v:2:21: error: 'reset' can't stand here",
+        says="operand.v:2:21: error: 'reset' is not allowed here",
     ),
     Call(
         "./vidlakost check operators.v c.m s.mem",
@@ -65,6 +65,6 @@ CHECKS: List[Call] = [
         "./vidlakost check port.v c.m",
         status=2,
         prints="usage",
-        says="vidlakost: error: check takes 3 words, and there are 2: MEMORY is missing",
+        says="vidlakost: error: check takes 3 words, but the call has 2: MEMORY is missing",
     ),
 ]

@@ -60,14 +60,14 @@ ROWS: List[Tuple[List[str], int, str, str]] = [
         "inword total 4 covered 2 escapes 2 with `backgrounds 0`",
         "design: ",
     ),
-    (["tf.list", "--backgrounds", "2"], 2, "", "design: --backgrounds wants --inword, which names the memory"),
+    (["tf.list", "--backgrounds", "2"], 2, "", "design: --backgrounds needs --inword, which names the memory"),
     (
         ["tf.list", "--inword", "eight.mem", "--backgrounds", "9"],
         2,
         "",
         "design: --backgrounds is a number from 1 to 8, and not 9",
     ),
-    (["wide.list", "--elements", "1"], 1, "<0;0/1/-> CFst: no march was found that covers it too", ""),
+    (["wide.list", "--elements", "1"], 1, "<0;0/1/-> CFst: the search found no march that covers it too", ""),
     (["two.list", "--operations", "3"], 0, "judge total 1 covered 1 escapes 0", "design: "),
     (
         ["two.list", "--operations", "2"],
@@ -92,7 +92,12 @@ ROWS: List[Tuple[List[str], int, str, str]] = [
     (["tf.list", "--operations", "17"], 2, "", "design: --operations is a number from 1 to 16, and not 17"),
     (["tf.list", "--elements", "0"], 2, "", "design: --elements is a number of at least 1, and not '0'"),
     (["tf.list", "--width", "many"], 2, "", "design: --width is a number of at least 1, and not 'many'"),
-    (["tf.list", "--time", "0", "eight.mem"], 2, "", "design: --time has a positive number of MHz first, and not '0'"),
+    (
+        ["tf.list", "--time", "0", "eight.mem"],
+        2,
+        "",
+        "design: --time takes a positive number of MHz first, and not '0'",
+    ),
     (["tf.list", "--time", "100", "seven.mem"], 4, "", "design: memory"),
     (["tf.list", "--inword", "seven.mem"], 4, "", "design: memory"),
 ]

@@ -15,9 +15,7 @@ ENTITY = (
     "architecture a of t is\n{}\nbegin\n  q <= clk;\nend;\n"
 )
 OPENED = 'file f : text open {}_mode is "kept.hex";'
-IN_FUNCTION = (
-    "function f(x : integer) return integer is\n{}begin\n{}return x;\nend;\nconstant c : integer := f(3);"
-)
+IN_FUNCTION = "function f(x : integer) return integer is\n{}begin\n{}return x;\nend;\nconstant c : integer := f(3);"
 # what a source in VHDL declares, the line on which it is refused, and the word
 REACHING = [
     ("use std.textio.all;", 5, "textio"),
@@ -38,7 +36,7 @@ REACHING = [
 # what only looks like it
 LOOKS = (
     '-- this file, by textio\nconstant c : string := "file";\n/* file_open\nforeign */\nsignal \\file\\, profile :'
-    ' std_logic;'
+    " std_logic;"
 )
 READS = (
     "module t(input clk, input [1:0] a, output reg [1:0] q);\n  reg [1:0] m [0:3];\n{}  always @(posedge clk) q <="
@@ -152,7 +150,7 @@ def missing_tools(bench: Bench) -> None:
     for raised in ("MemoryError", "ImportError('select.so: failed to map segment from shared object')"):
         (silent / "hungry").write_text(f"#!{shutil.which('python3')}\nimport vidlakost_tools\nraise {raised}\n")
         (silent / "hungry").chmod(0o755)
-        bench.look(["mute/hungry"], 9, "", "vidlakost: there was no memory", PYTHONPATH=str(bench.folder / "tools"))
+        bench.look(["mute/hungry"], 9, "", "vidlakost: out of memory", PYTHONPATH=str(bench.folder / "tools"))
 
 
 # ---- what is left

@@ -240,21 +240,21 @@ def warnings(bench: Bench) -> None:
     text = (bench.folder / "examples" / "foreign" / "one_hot.v").read_text()
     judged = ["examples/mats_plus.m", "examples/foreign/four.mem"]
     for comment, column, why in (
-        ("// was \r wire", 8, "a carriage return that no line feed follows"),
+        ("// was \r wire", 8, "a carriage return without a line feed"),
         ("// was \f wire", 8, "a form feed"),
         ("// `ifdef", 4, "a back quote"),
         ("/* a \0 */", 6, "a control byte"),
         ("// a \\", 6, "a backslash that ends a line"),
-        ("/* synopsys translate_off */", 4, "a comment that tools which make gates obey"),
-        ("// full_case", 4, "a comment that tools which make gates obey"),
-        ("// pragma", 4, "a comment that tools which make gates obey"),
+        ("/* synopsys translate_off */", 4, "a comment that synthesis tools obey"),
+        ("// full_case", 4, "a comment that synthesis tools obey"),
+        ("// pragma", 4, "a comment that synthesis tools obey"),
     ):
         (bench.folder / "warned.v").write_bytes(f"{comment}\n{text}".encode())
         told = f"warned.v:1:{column}: warning: {why}"
         bench.look(["./vidlakost", "check", "warned.v", *judged], 0, "conforms 43", told)
         bench.look(["./vidlakost", "check", "warned.v", *judged], 0, "conforms 43", "", VIDLAKOST_EXPLAIN="0")
     for value, column, why in (
-        ("(4'd1?reset:reset)", 21, "a `?` right behind a decimal literal"),
+        ("(4'd1?reset:reset)", 21, "a `?` right after a decimal literal"),
         ("(reset << 32'hffffffff)", 23, "a shift whose amount can be 2147483648 or more"),
         ("(reset >> {rdata, 31'h0})", 23, "a shift whose amount can be 2147483648 or more"),
     ):

@@ -51,13 +51,11 @@ CALLS: List[Call] = [
         says="audit: a name that is not UTF-8 would be",
         needs="yosys",
     ),
-    Call("tools/trace bell.report", status=2, says="trace: bell.report:2: the line is none of a report's"),
-    Call("tools/replay bell.report", status=2, says="replay: bell.report:2: the line is none of a report's"),
-    Call(
-        "tools/report mark.report --html m.html", status=2, says="report: mark.report:4: the line is none of a report's"
-    ),
-    Call("tools/report shape.report --html m.html", status=2, says="report: shape.report:2: the line is none"),
-    Call("tools/report long.report --html m.html", status=2, says="report: long.report:3: the line is none"),
+    Call("tools/trace bell.report", status=2, says="trace: bell.report:2: a report has no such line"),
+    Call("tools/replay bell.report", status=2, says="replay: bell.report:2: a report has no such line"),
+    Call("tools/report mark.report --html m.html", status=2, says="report: mark.report:4: a report has no such line"),
+    Call("tools/report shape.report --html m.html", status=2, says="report: shape.report:2: a report has no such line"),
+    Call("tools/report long.report --html m.html", status=2, says="report: long.report:3: a report has no such line"),
     Call("tools/trace many.report", status=2, says="trace: many.report:1026: this is the 1,025th primitive"),
     Call("tools/report sum.report --json", status=2, says="report: sum.report:5: the last line is no total"),
     Call(

@@ -7,8 +7,8 @@ from tests.integration.call import Call
 
 # what is said of the first refusal, whole
 WHOLE = (
-    "stray.m:1:11: error: 'upp' can't stand here; did you mean 'up'?\n  {any(w0); upp(r0)}\n            ^\n  here could"
-    " stand up, down, any or del\n"
+    "stray.m:1:11: error: 'upp' is not allowed here; did you mean 'up'?\n  {any(w0); upp(r0)}\n            ^\n"
+    "  expected here: up, down, any or del\n"
 )
 
 REFUSALS: List[Call] = [
@@ -16,13 +16,13 @@ REFUSALS: List[Call] = [
         "./vidlakost judge stray.m tf.list out",
         status=3,
         prints="march M1 byte 12",
-        says="stray.m:1:11: error: 'upp' can't stand here; did you mean 'up'?",
+        says="stray.m:1:11: error: 'upp' is not allowed here; did you mean 'up'?",
     ),
     Call(
         "./vidlakost judge early.m tf.list out",
         status=3,
         prints="march M2",
-        says="early.m:1:16: error: the march stops here",
+        says="early.m:1:16: error: the march ends here",
     ),
     Call(
         "./vidlakost judge none.m tf.list out",
@@ -52,14 +52,14 @@ REFUSALS: List[Call] = [
         "./vidlakost judge wrong.m tf.list out",
         status=3,
         prints="march M8",
-        says="wrong.m:2:5: error: r1 expects 1, and w0 of element 0 (line 1, column 6) wrote 0 last",
+        says="wrong.m:2:5: error: r1 expects 1, but w0 of element 0 (line 1, column 6) wrote 0 last",
     ),
     Call("./vidlakost judge bytes.m tf.list out", status=3, prints="march M1 byte 0", says="bytes.m:1:1: error: "),
     Call(
         "./vidlakost judge c.m lower.list out",
         status=5,
         prints="fault F1 line 1 byte 1",
-        says="lower.list:1:1: error: 'tf' can't stand here; did you mean 'TF'?",
+        says="lower.list:1:1: error: 'tf' is not allowed here; did you mean 'TF'?",
     ),
     Call(
         "./vidlakost judge c.m old.list out",
@@ -89,7 +89,7 @@ REFUSALS: List[Call] = [
         "./vidlakost judge c.m cut.list out",
         status=5,
         prints="fault F2 line 1",
-        says="cut.list:1:7: error: the last line stops here",
+        says="cut.list:1:7: error: the last line ends here",
     ),
     Call(
         "./vidlakost judge c.m none.list out",
@@ -118,13 +118,13 @@ REFUSALS: List[Call] = [
         "./vidlakost bench c.m blank.mem",
         status=4,
         prints="memory D2",
-        says="blank.mem: error: no line of the description says anything",
+        says="blank.mem: error: the description is empty, or has only comments",
     ),
     Call(
         "./vidlakost bench c.m word.mem",
         status=4,
         prints="memory D1 line 3 byte 4",
-        says="word.mem:3:1: error: 'word' can't stand here; did you mean 'words'?",
+        says="word.mem:3:1: error: 'word' is not allowed here; did you mean 'words'?",
     ),
     Call(
         "./vidlakost bench c.m old.mem",
@@ -142,7 +142,7 @@ REFUSALS: List[Call] = [
         "./vidlakost bench c.m twice.mem",
         status=4,
         prints="memory D3 line 3",
-        says="twice.mem:3:1: error: 'name' stands in line 2 already",
+        says="twice.mem:3:1: error: line 2 already has 'name'",
     ),
     Call(
         "./vidlakost bench c.m field.mem",
@@ -192,7 +192,7 @@ REFUSALS: List[Call] = [
         "./vidlakost bench c.m power.mem",
         status=4,
         prints="memory D7",
-        says="power.mem:3:1: error: the memory has a scrambling, and words 12 is no power of two",
+        says="power.mem:3:1: error: the memory has a scrambling, but words 12 is no power of two",
     ),
     Call(
         "./vidlakost bench c.m solid.mem",
@@ -246,31 +246,31 @@ REFUSALS: List[Call] = [
         "./vidlakost benchfault c.m s.mem '<0w1/0/->' none 3",
         status=2,
         prints="usage",
-        says="vidlakost: error: VIC is a cell as two numbers",
+        says="vidlakost: error: VIC names a cell by the index of its word",
     ),
     Call(
         "./vidlakost benchfault c.m s.mem TF none 3.0",
         status=5,
         prints="fault F1",
-        says="PRIM:1:1: error: a primitive has to stand here",
+        says="PRIM:1:1: error: a primitive is needed here",
     ),
     Call(
         "./vidlakost sim c.m '<0w1/0/->' 2 00 1 0 uuuddu",
         status=13,
         prints="misfit aggressor",
-        says="AGG: error: <0w1/0/-> has one cell, so AGG is none",
+        says="AGG: error: <0w1/0/-> has one cell, so AGG has to be none",
     ),
     Call(
         "./vidlakost sim c.m '<0w1/0/->' 2 00 none 0 uudddu",
         status=13,
         prints="misfit directions",
-        says="DIRS: error: letter 2 is 'd', and does not agree with element 2",
+        says="DIRS: error: letter 2 is 'd', which does not fit element 2",
     ),
     Call(
         "./vidlakost sim c.m '<0w1/0/->' 2 000 none 0 uuuddu",
         status=2,
         prints="usage",
-        says="vidlakost: error: CONTENT has 3 digits, and SIZE is 2",
+        says="vidlakost: error: CONTENT has 3 digits, but SIZE is 2",
     ),
     Call(
         "./vidlakost cmpile c.m",
@@ -283,7 +283,7 @@ REFUSALS: List[Call] = [
         "./vidlakost decoder stray.m out",
         status=3,
         prints="march M1 byte 12",
-        says="stray.m:1:11: error: 'upp' can't stand here; did you mean 'up'?",
+        says="stray.m:1:11: error: 'upp' is not allowed here; did you mean 'up'?",
     ),
     Call(
         "./vidlakost decoder missing.m out",
@@ -295,7 +295,7 @@ REFUSALS: List[Call] = [
         "./vidlakost decoder c.m",
         status=2,
         prints="usage",
-        says="vidlakost: error: decoder takes 2 words, and there are 1: REPORT is missing",
+        says="vidlakost: error: decoder takes 2 words, but the call has 1: REPORT is missing",
     ),
     Call("./vidlakost decoder c.m ./c.m", status=2, says="vidlakost: "),
     Call("./vidlakost linked c.m out", status=1, prints="total 600 covered 466 escapes 134"),
@@ -303,20 +303,20 @@ REFUSALS: List[Call] = [
         "./vidlakost linked stray.m out",
         status=3,
         prints="march M1 byte 12",
-        says="stray.m:1:11: error: 'upp' can't stand here; did you mean 'up'?",
+        says="stray.m:1:11: error: 'upp' is not allowed here; did you mean 'up'?",
     ),
     Call(
         "./vidlakost linked c.m",
         status=2,
         prints="usage",
-        says="vidlakost: error: linked takes 2 words, and there are 1: REPORT is missing",
+        says="vidlakost: error: linked takes 2 words, but the call has 1: REPORT is missing",
     ),
     Call("./vidlakost linked c.m ./c.m", status=2, says="vidlakost: "),
     Call(
         "./vidlakost judge c.m tf.list",
         status=2,
         prints="usage",
-        says="vidlakost: error: judge takes 3 words, and there are 2: REPORT is missing",
+        says="vidlakost: error: judge takes 3 words, but the call has 2: REPORT is missing",
     ),
     Call(
         "./vidlakost judge c.m c.m out",
@@ -340,7 +340,7 @@ REFUSALS: List[Call] = [
         "./vidlakost benchfile token.v c.m s.mem",
         status=14,
         prints="verilog L1",
-        says="token.v:2:3: error: 'wir' can't stand here; did you mean 'wire'?",
+        says="token.v:2:3: error: 'wir' is not allowed here; did you mean 'wire'?",
     ),
     Call(
         "./vidlakost benchfile unknown.v c.m s.mem",
@@ -370,7 +370,7 @@ REFUSALS: List[Call] = [
         "./vidlakost benchfile port.v c.m s.mem",
         status=14,
         prints="verilog B2 rdata",
-        says="port.v:1:46: error: 'rdata' has 4 bits here, and 1 bit in the self-test of s",
+        says="port.v:1:46: error: 'rdata' has 4 bits here, but 1 bit in the self-test of s",
     ),
     Call("./vidlakost bench c.m s.mem", prints="fail 0 done 42"),
     Call("./vidlakost --help", prints="To begin with:"),

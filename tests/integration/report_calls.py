@@ -25,7 +25,7 @@ CALLS: List[Call] = [
     Call("tools/explain zzz", status=1, says="explain: nothing is known of 'zzz'"),
     Call(
         "tools/explain --said 5 'fault F4 line 1' -- sim c.m '<0w1r1/0/0>' 2 00 none 0 u",
-        prints="has two operations, and this command takes",
+        prints="has two operations, but this command takes",
     ),
     Call("tools/explain --said 3 'march M8 element 9 operation 9' -- judge c.m tf.list out"),
     Call("tools/explain --said 3", status=2, says="explain: "),
@@ -37,12 +37,12 @@ CALLS: List[Call] = [
     Call("tools/replay cut.report", status=2, says="replay: cut.report:4: the last line is no total"),
     Call("tools/replay .", status=2, says="replay: .: Is a directory"),
     Call("tools/replay count.report", status=2, says="replay: count.report:5: the total says"),
-    Call("tools/replay word.report", status=2, says="replay: word.report:3: the line is none"),
+    Call("tools/replay word.report", status=2, says="replay: word.report:3: a report has no such line"),
     Call("tools/replay way.report", status=2, says="replay: way.report:3: there are 2 directions for 3 elements"),
     Call(
         "tools/replay class.report",
         status=2,
-        says="replay: class.report:5: the lines of the classes above are not those",
+        says="replay: class.report:5: the lines of the classes above do not fit",
     ),
     Call("tools/replay bytes.m", status=2, says="replay: a file is not UTF-8"),
     Call("tools/replay kept.report", status=2, says="replay: kept.report.m is there, and does not hold"),
@@ -53,20 +53,20 @@ CALLS: List[Call] = [
     Call("tools/trace decoder.report", prints="both and AF: in element 1 y comes first, and the and of both cells is"),
     Call("tools/trace decoder.report 'both and' --steps", prints="  element 1   r0   x 0     01 * reads 0\n"),
     Call("tools/trace decoder.report other", status=2, says="trace: decoder.report has no escape of other"),
-    Call("tools/trace caught.report", status=1, prints="both and AF: is caught in element 1, and is no escape"),
+    Call("tools/trace caught.report", status=1, prints="both and AF: is caught in element 1, so it is no escape"),
     Call(
         "tools/trace place.report",
         status=2,
         says="trace: place.report:5: the array of the escape does not fit the march",
     ),
     Call("tools/trace order.report", status=2, says="trace: order.report:4: the line is no verdict on other"),
-    Call("tools/trace sum5.report", status=2, says="trace: sum5.report:7: the total is not that of the lines"),
+    Call("tools/trace sum5.report", status=2, says="trace: sum5.report:7: the total does not fit the lines"),
     Call("tools/trace linked.report", prints="LF1 <0w0/1/-> <1w1/0/->: neither primitive acts\n"),
     Call("tools/trace linked.report 'LF1 <0w0/1/-> <1w1/0/->' --steps", prints="  element 0   w0   cell 1  000\n"),
     Call("tools/trace linked.report LF1", status=2, says="trace: linked.report has no escape of LF1"),
-    Call("tools/trace linkhit.report", status=1, prints="is caught in element 1, and is no escape"),
+    Call("tools/trace linkhit.report", status=1, prints="is caught in element 1, so it is no escape"),
     Call(
-        "tools/trace linkcount.report", status=2, says="trace: linkcount.report:607: the count is not that of the lines"
+        "tools/trace linkcount.report", status=2, says="trace: linkcount.report:607: the count does not fit the lines"
     ),
     Call("tools/trace linkcell.report", status=2, says="trace: linkcell.report:13: the line is no verdict on a link"),
     Call(
@@ -88,12 +88,12 @@ CALLS: List[Call] = [
     Call(
         "tools/trace outside.report --memory t.mem",
         status=2,
-        says="trace: outside.report:3: the line is none of a report's",
+        says="trace: outside.report:3: a report has no such line",
     ),
     Call(
         "tools/trace shown.report --memory t.mem",
         status=1,
-        prints="is caught in background 0, element 1, and is no escape",
+        prints="is caught in background 0, element 1, so it is no escape",
     ),
     Call("tools/report inside.report --json", prints='"schema": "vidlakost-inword-1"'),
     Call("tools/report inside.report --html inside.html"),
@@ -105,11 +105,9 @@ CALLS: List[Call] = [
     Call(
         "tools/report a.report --inword a.report --json",
         status=2,
-        says="report: a.report:2: the second line is no memory's",
+        says="report: a.report:2: the second line is not the line of a memory",
     ),
-    Call(
-        "tools/report decoder.report --json", status=2, says="report: decoder.report:2: the line is none of a report's"
-    ),
+    Call("tools/report decoder.report --json", status=2, says="report: decoder.report:2: a report has no such line"),
     Call("tools/report a.report --json", prints='"schema": "vidlakost-report-1"'),
     Call("tools/report a.report --html a.html"),
     Call("tools/report a.report", status=2, says="report: give either --json or --html FILE"),
@@ -136,10 +134,10 @@ CALLS: List[Call] = [
     Call("tools/locate c.m scrambled.mem --line 'fail 1 done 9 cycle 11 expected 5 returned 4'", prints="bits 0"),
     Call("tools/locate c.m scrambled.mem 13 5 7 --mux 4", prints="index 1 row 0\naddress 5\nbits 1\ncolumns 5\n"),
     Call("tools/locate c.m scrambled.mem --line 'fail 0 done 9'", status=2, says="locate: the line names no read"),
-    Call("tools/locate c.m scrambled.mem 3", status=2, says="locate: in cycle 3 no answer comes"),
+    Call("tools/locate c.m scrambled.mem 3", status=2, says="locate: no answer comes in cycle 3"),
     Call("tools/locate c.m scrambled.mem x", status=2, says="locate: CYCLE is a number"),
-    Call("tools/locate c.m scrambled.mem 999999", status=2, says="locate: answers of this test stand"),
-    Call("tools/locate c.m scrambled.mem 11 4 5", status=2, says="locate: the expected word is 4, and this march"),
+    Call("tools/locate c.m scrambled.mem 999999", status=2, says="locate: this test has answers on rdata"),
+    Call("tools/locate c.m scrambled.mem 11 4 5", status=2, says="locate: the expected word is 4, but this march"),
     Call("tools/locate c.m scrambled.mem 11 zz 1", status=2, says="locate: 'zz' is no hexadecimal word"),
     Call("tools/locate c.m rows.mem 11", status=4, says="locate: memory D6"),
     Call("tools/locate c.m scrambled.mem", status=2, says="locate: after the memory comes a cycle"),
@@ -162,7 +160,7 @@ CALLS: List[Call] = [
     Call(
         "tools/locate c.m scrambled.mem --line 'unknown cycle 164 port en'",
         status=2,
-        says="locate: the cycles of this test are",
+        says="locate: this test has the cycles",
     ),
     Call("tools/locate c.m scrambled.mem 5 --elements", status=2, says="locate: --elements takes only a march"),
 ]

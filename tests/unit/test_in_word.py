@@ -63,8 +63,15 @@ class Couples(unittest.TestCase):
         self.assertEqual(
             self.steps("<0w1;0/1/->", 0, 1, "00"),
             [
-                ("", "00", False), ("w0", "00", False), ("r0", "00", False), ("w1", "11", True), ("r1", "11", False),
-                ("w0", "01", False), ("r0", "01", False), ("w1", "10", False), ("r1", "10", False),
+                ("", "00", False),
+                ("w0", "00", False),
+                ("r0", "00", False),
+                ("w1", "11", True),
+                ("r1", "11", False),
+                ("w0", "01", False),
+                ("r0", "01", False),
+                ("w1", "10", False),
+                ("r1", "10", False),
             ],
         )
 
@@ -99,7 +106,7 @@ class Reasons(unittest.TestCase):
         self.assertEqual(
             self.why("<0w0;1/0/->", 0, 1), "never acts: w0 never comes at the aggressor while the victim holds 1"
         )
-        self.assertEqual(self.why("<0;0/1/->", 0, 1), "is caught in background 0, element 1, and is no escape")
+        self.assertEqual(self.why("<0;0/1/->", 0, 1), "is caught in background 0, element 1, so it is no escape")
 
 
 if __name__ == "__main__":

@@ -84,7 +84,7 @@ class Reasons(unittest.TestCase):
             ("{up(w0,w1)}", "<0w0/1/-> acts in element 0, and <1w1/0/-> acts on it in element 0"),
             ("{up(w0,w0)}", "<0w0/1/-> acts in element 0, and w0 in element 0 writes over it before a read"),
             ("{up(w0)}", "<0w0/1/-> acts in element 0, and the victim is not visited again"),
-            ("{up(w0,r0)}", "is caught in element 0, and is no escape"),
+            ("{up(w0,r0)}", "is caught in element 0, so it is no escape"),
             ("{up(r0)}", "neither primitive acts"),
         ):
             verdict = LinkVerdict("LF1", *pair, None, None, 0, "000", "u")

@@ -5,14 +5,14 @@ import sys
 
 
 def tell_memory(kind, error, trace):  # type: ignore[no-untyped-def]
-    """Tells in a line that there was no memory, also where a tool has not begun; all else is told as always."""
+    """Says in a line that a tool ran out of memory, even before it begins; any other exception is shown as always."""
     is_none = isinstance(error, MemoryError) or getattr(error, "errno", None) == errno.ENOMEM
     if (
         is_none
         or isinstance(error, ImportError)
         and any(told in str(error) for told in ("allocate memory", "map segment"))
     ):
-        os.write(2, b"vidlakost: there was no memory\n")
+        os.write(2, b"vidlakost: out of memory\n")
         os._exit(9)
     sys.__excepthook__(kind, error, trace)
 

@@ -168,7 +168,7 @@ def start(main: Callable[[], int | None]) -> None:
         tell(f"{name}: {error.filename or 'what was written'}: {error.strerror or error}")
         leave(2)
     except MemoryError:
-        tell(f"{name}: there was no memory")
+        tell(f"{name}: out of memory")
         leave(9)
     except RecursionError:
         tell(f"{name}: an input is nested too deeply")

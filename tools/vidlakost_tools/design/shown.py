@@ -66,7 +66,7 @@ def length_told(answers: Answers) -> str:
         operations = sum(len(element.operations) for element in answers.elements)
         told += f", {operations - finder.given} more than {answers.words.behind}"
     if finder.best is None:
-        return f"{told}: no march was found that covers all that is asked for"
+        return f"{told}: the search found no march that covers all of this"
     if finder.is_shortest:
         return f"{told}, shortest: a search of all shorter ones finds none"
     return f"{told}, shortest found: at least {finder.given + finder.least}n are needed"
@@ -76,18 +76,18 @@ def why(answers: Answers, said: Said, name: str) -> str:
     """Why the march does not cover something."""
     if said.backgrounds:
         most = answers.words.backgrounds
-        return f"no list of at most {most} background{'s' if most > 1 else ''} was found with which it is covered"
+        return f"no list of at most {most} background{'s' if most > 1 else ''} was found that covers it"
     if said.command == "inword":
         is_found = answers.finder.best is not None
         return (
             "March SS does not cover it inside such a word"
             if is_found
-            else "no march was found that covers it there too"
+            else "the search found no march that covers it there too"
         )
     if name.split(" ")[0] in answers.beyond:
         most = answers.words.limits.operations
         return f"no march whose elements have at most {most} operation{'s' if most > 1 else ''} covers it"
-    return "no march was found that covers it too"
+    return "the search found no march that covers it too"
 
 
 def told(answers: Answers) -> Iterator[str]:

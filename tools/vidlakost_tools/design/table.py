@@ -107,7 +107,7 @@ def entries() -> List[Entry]:
             parts = [part.strip() for part in line.split("|")]
             if len(parts) != 4 or parts[1] not in BESIDE or not parts[2].isdecimal():
                 raise ToolError(
-                    f"{FILE}:{number}: the line has not a list, `-`, `decoder` or `linked`, a number and a march"
+                    f"{FILE}:{number}: the line needs a list, `-`, `decoder` or `linked`, then a number and a march"
                 )
             made.append(Entry(parts[0].split(), parts[1], int(parts[2]), parts[3]))
     return made

@@ -59,12 +59,12 @@ class Words:
         made.in_word, made.width = options.get("--inword"), number(options, "--width", 300, 100_000)
         if "--backgrounds" in options:
             if made.in_word is None:
-                raise ToolError("--backgrounds wants --inword, which names the memory")
+                raise ToolError("--backgrounds needs --inword, which names the memory")
             made.backgrounds = number(options, "--backgrounds", 0, MOST_BACKGROUNDS)
         if "--time" in options:
             mhz, memory = options["--time"]
             if not re.fullmatch(r"\d{1,6}(\.\d{1,6})?", mhz) or float(mhz) <= 0:
-                raise ToolError(f"--time has a positive number of MHz first, and not {shown(mhz)}")
+                raise ToolError(f"--time takes a positive number of MHz first, and not {shown(mhz)}")
             made.timed, made.clock = memory, Clock(float(mhz), read_memory(memory))
         return made
 
@@ -104,7 +104,7 @@ def behind_of(words: Words) -> Parts:
     if not words.limits.allow(parts):
         raise ToolError(f"{words.behind} has more elements, or more operations in one, than the march may have")
     if parts[0].order == "del":
-        raise ToolError(f"{words.behind} begins with a pause; what is extended begins with a write")
+        raise ToolError(f"{words.behind} begins with a pause; a march to extend begins with a write")
     return parts
 
 

@@ -148,8 +148,8 @@ def address_faults(test: Test) -> Iterator[AddressFault]:
     silent = silent_rules(test)
     outside = silent if test.memory.words & test.memory.words - 1 else ["and"]
     bridges: list[Tuple[str, Way]] = [
-        ("bridged, both as their and", lambda bits: [(bits[0] & bits[1],) * 2]),
-        ("bridged, both as their or", lambda bits: [(bits[0] | bits[1],) * 2]),
+        ("bridged, both as wired-AND", lambda bits: [(bits[0] & bits[1],) * 2]),
+        ("bridged, both as wired-OR", lambda bits: [(bits[0] | bits[1],) * 2]),
         ("bridged, both as the first", lambda bits: [(bits[0],) * 2]),
         ("bridged, both as the second", lambda bits: [(bits[1],) * 2]),
     ]
@@ -162,7 +162,7 @@ def address_faults(test: Test) -> Iterator[AddressFault]:
                     yield AddressFault((line,), f"selects nothing at {value}, which reads {rule}", lost(value), rule)
             for rule in ("and", "or"):
                 yield AddressFault(
-                    (line,), f"selects for both values, read as their {rule}", lambda bits: [(0,), (1,)], rule
+                    (line,), f"selects for both values, read as wired-{rule.upper()}", lambda bits: [(0,), (1,)], rule
                 )
         for pair in itertools.combinations(lines, 2):
             for name, way in bridges:
@@ -216,8 +216,8 @@ def log_of(found: Dict[int, Wrong]) -> Log:
 # what a word or a row reaches beside its own or in its stead, and how two that are read at once are read
 KINDS = (
     ("other", "reaches {y} instead", "and"),
-    ("both", "reaches {y} too, read as their and", "and"),
-    ("both", "reaches {y} too, read as their or", "or"),
+    ("both", "reaches {y} too, read as wired-AND", "and"),
+    ("both", "reaches {y} too, read as wired-OR", "or"),
 )
 
 

@@ -52,13 +52,13 @@ def asked_of(words: list[str], options: dict[str, Any], doc: str | None) -> Aske
     """What stands behind the log in the words of a call."""
     if "--unit" not in options:
         if len(words) != 3 or "--second" in options:
-            raise ToolError(f"a log, a march and a memory are wanted\n{usage_of(doc)}")
+            raise ToolError(f"give a log, a march and a memory\n{usage_of(doc)}")
         return Asked(words[1], march_of(words[1])[1], read_memory(words[2]), 0, words)
     number = number_of(options["--unit"], "--unit")
     if len(words) > 2:
         return of_whole(words, number, "--second" in options)
     if "--second" in options or is_list(words[1]):
-        raise ToolError(f"--second and a list are of a whole chip: give the files of its pins, too\n{usage_of(doc)}")
+        raise ToolError(f"--second and a list need a whole chip: give the files of its pins, too\n{usage_of(doc)}")
     chip = read_chip(words[1])
     if number >= len(chip.units):
         raise ToolError(f"--unit is 0 to {len(chip.units) - 1}, and not {number}")

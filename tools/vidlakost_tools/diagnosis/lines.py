@@ -65,8 +65,8 @@ def bridged(first: int, second: int) -> list[Reading]:
         return lambda held: held & ~(1 << follower) | (held >> leader & 1) << follower
 
     return [
-        Reading("bridged, read as their and", both),
-        Reading("bridged, read as their or", either),
+        Reading("bridged, read as wired-AND", both),
+        Reading("bridged, read as wired-OR", either),
         Reading(f"bridged, bit {first} read as bit {second}", follows(first, second)),
         Reading(f"bridged, bit {second} read as bit {first}", follows(second, first)),
     ]

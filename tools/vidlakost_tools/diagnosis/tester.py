@@ -18,7 +18,7 @@ from vidlakost_tools.tool import ToolError
 def word_of(text: str, bits: int, what: str) -> int:
     """A hexadecimal word."""
     if not re.fullmatch(r"(0[xX])?[0-9a-fA-F]{1,80}", text) or int(text, 16) >> bits:
-        raise ToolError(f"{what} is hexadecimal and has at most {bits} bits, and is not {shown(text)}")
+        raise ToolError(f"{what} has to be hexadecimal, of at most {bits} bits, and not {shown(text)}")
     return int(text, 16)
 
 
@@ -34,7 +34,7 @@ def bits_told(read: Read, memory: Memory, returned: int, mux: int) -> Iterator[s
     wrong = [bit for bit in range(memory.bits) if (read.expected ^ returned) >> bit & 1]
     if not wrong:
         word = memory.digits(returned)
-        raise ToolError(f"{word} is the word that the march expects there: another march, memory or cycle?")
+        raise ToolError(f"{word} is the word that the march expects there: is it another march, memory or cycle?")
     yield f"bits {' '.join(map(str, wrong))}"
     yield f"columns {' '.join(str(bit * mux + read.index % mux) for bit in wrong)}"
 
@@ -42,8 +42,8 @@ def bits_told(read: Read, memory: Memory, returned: int, mux: int) -> Iterator[s
 def check_expected(read: Read, memory: Memory, expected: int, where: str = "") -> None:
     if expected != read.expected:
         raise ToolError(
-            f"{where}the expected word is {memory.digits(expected)}, and this march expects"
-            f" {memory.digits(read.expected)} there: another march, memory or cycle?"
+            f"{where}the expected word is {memory.digits(expected)}, but this march expects"
+            f" {memory.digits(read.expected)} there: is it another march, memory or cycle?"
         )
 
 
@@ -56,7 +56,7 @@ def check_mux(memory: Memory, mux: int) -> None:
 def failing_units(bits: str, count: int) -> list[int]:
     """The units of the bits of `fail`, that of the first unit last."""
     if not re.fullmatch(f"[01]{{{count}}}", bits) or "1" not in bits:
-        form = f"FAILBITS has {count} digits 0 and 1, that of unit 0 last, and one of them is 1"
+        form = f"FAILBITS needs {count} digits 0 and 1, that of unit 0 last, with at least one 1"
         raise ToolError(f"{form}; it is {shown(bits)}")
     return [number for number in range(count) if bits[count - 1 - number] == "1"]
 
@@ -71,7 +71,7 @@ def at_cycle(chip: Chip, cycle: int, units: list[int]) -> list[tuple[int, Read]]
         except ToolError:
             why += f"; unit {number} answers from cycle {unit.start + 1 + unit.memory.latency} to {unit.done - 1}"
     if not found:
-        raise ToolError(f"in cycle {cycle} no answer of a failing unit stands on rdata{why}")
+        raise ToolError(f"no failing unit has an answer on rdata in cycle {cycle}{why}")
     return found
 
 
@@ -80,7 +80,9 @@ def in_chip(chip: Chip, cycle: int, units: list[int], words: list[str], mux: int
     found = at_cycle(chip, cycle, units)
     if words and len(found) > 1:
         names = ", ".join(str(number) for number, _ in found)
-        raise ToolError(f"the units {names} fail and answer in cycle {cycle}: whose are the words? Give one bit alone")
+        raise ToolError(
+            f"the units {names} fail and answer in cycle {cycle}: which unit gave the words? Set one bit alone"
+        )
     for number, read in found:
         unit = chip.units[number]
         yield f"unit {number} {unit.memory.name}, cycle {cycle - unit.start} of its test"
@@ -108,28 +110,26 @@ def register_of(target: Target, text: str) -> dict[str, int]:
     digits, wanted = len(re.sub("^0[xX]", "", text)), sorted({-(-bits // 4) for bits in sizes})
     if digits not in wanted:
         told = " or ".join(map(str, wanted))
-        raise ToolError(
-            f"the register is hexadecimal and has {told} digits, and {shown(text)} has {digits}: is it whole?"
-        )
+        raise ToolError(f"the register has {told} hexadecimal digits, but {shown(text)} has {digits}: is it whole?")
     if target.has_sib and value >> size != 1:
-        why = "while the register is in the path, and all above it are 0: is it another scan?"
-        raise ToolError(f"bit {size} of the scan is 1 {why}")
+        why = "and all bits above it 0, while the register is in the path: is it another scan?"
+        raise ToolError(f"bit {size} of the scan has to be 1, {why}")
     return {part.name: value >> part.low & (1 << part.width) - 1 for part in parts(target)}
 
 
 def state_lines(found: dict[str, int], target: Target) -> Iterator[str]:
     """The state of a test in words; a register that can't be one is refused."""
     if not found["start"]:
-        why = "no test runs, and what was found is gone. Keep start at 1 in the scan that reads"
-        raise ToolError(f"start is 0 there: {why}")
+        why = "so no test runs, and the result is lost. Keep start at 1 in the scan that reads"
+        raise ToolError(f"start is 0 in this scan, {why}")
     if found["seen"] and not found["fail"] or target.is_chip and bool(found["failing"]) != bool(found["fail"]):
-        raise ToolError("the bits of the state disagree: is the register turned round, or shifted by a bit?")
+        raise ToolError("the bits of the state disagree: is the register reversed, or shifted by a bit?")
     yield "done" if found["done"] else "not done: the test still runs, or its clock does not"
     if target.is_chip and found["failing"]:
         failing = [number for number in range(target.count) if found["failing"] >> number & 1]
         yield "fail " + ", ".join(f"{number} {target.units[number].memory.name}" for number in failing)
     if not found["seen"]:
-        yield "fail, and its cycle is not kept" if found["fail"] else "no wrong read was seen"
+        yield "fail, but its cycle was not kept" if found["fail"] else "no wrong read was seen"
 
 
 def of_register(target: Target, marches: list[list[Element]], text: str, mux: int) -> list[str]:
@@ -140,7 +140,7 @@ def of_register(target: Target, marches: list[list[Element]], text: str, mux: in
         return lines
     number = found.get("unit", 0)
     if number >= target.count:
-        raise ToolError(f"the unit is {number}, and there are {target.count}")
+        raise ToolError(f"the unit is {number}, but there are {target.count} units")
     unit = target.units[number]
     read = read_of(marches[number], unit.memory, found["cycle"] - unit.start)
     for word in ("expected", "returned"):

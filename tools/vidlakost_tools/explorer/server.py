@@ -312,7 +312,7 @@ class Handler(http.server.BaseHTTPRequestHandler):
             raise Refusal(415, "a question is an object of JSON")
         length = self.only("Content-Length") or ""
         if not (length.isascii() and length.isdigit() and len(length) < 10):
-            raise Refusal(411, "a question tells its length")
+            raise Refusal(411, "a question needs its length")
         if int(length) > BODY_BYTES:
             raise Refusal(413, f"a question has at most {BODY_BYTES:,} bytes")
         self.reader.allow(BODY_SECONDS, int(length) + 1)

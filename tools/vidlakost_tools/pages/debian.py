@@ -27,9 +27,9 @@ Section: electronics
 Priority: optional
 Description: memory BIST compiler with a march coverage prover
  Compiles a march and the description of a memory to a self-test module in
- Verilog, and tells which fault primitives of a list the march covers, with
+ Verilog, and says which fault primitives of a list the march covers, with
  an escape for each that it does not. {proof}
- It wants {processor}.
+ It needs {processor}.
 """
 COPYRIGHT = """Vidlakost, a memory BIST compiler with a march coverage prover.
 

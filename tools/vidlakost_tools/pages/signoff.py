@@ -55,12 +55,14 @@ def rows_of(reports: list[str], memories: list[str]) -> list[Row]:
     for name in memories:
         one = read_memory(name)
         if known.setdefault(one.name, one) != one:
-            raise ToolError(f"{name}: another description of {one.name} is given, and its test may take other cycles")
+            raise ToolError(f"{name}: the call has another description of {one.name}, whose test may take other cycles")
     rows = []
     for name in reports:
         report = read_report(name)
         if report.memory is None:
-            raise ToolError(f"{name}: this report is of `judge` and tells no memory; --all wants reports of `compile`")
+            raise ToolError(
+                f"{name}: this is a report of `judge`, which names no memory; --all needs reports of `compile`"
+            )
         memory = known.get(str(report.memory["name"]))
         if memory and told_of(memory, report) != tuple(
             report.memory[key] for key in ("words", "bits", "backgrounds", "commands")
@@ -69,7 +71,7 @@ def rows_of(reports: list[str], memories: list[str]) -> list[Row]:
         rows.append(Row(report, memory))
     unused = set(known) - {str(row.report.memory["name"]) for row in rows if row.report.memory}
     if unused:
-        raise ToolError(f"no report is of {', '.join(sorted(unused))}")
+        raise ToolError(f"there is no report of {', '.join(sorted(unused))}")
     return rows
 
 
@@ -125,8 +127,8 @@ def sign_off(rows: list[Row], mhz: float) -> str:
             f"all at once {max(cycles):,} cycles.</p>"
         )
     else:
-        why = "which tells its latency and its pauses"
-        body.append(f"<p>Cycles stand where the memory's description was given, {why}.</p>")
+        why = "which has its latency and its pauses"
+        body.append(f"<p>A memory has cycles here if the call has its description, {why}.</p>")
     return document(f"Self-test of {len(rows)} memories", [*body, f"<p>{FOOT}</p>"])
 
 
@@ -173,9 +175,9 @@ def tester_page(words: list[str], mhz: float) -> str:
         "<h2>Start and wait</h2>",
         (
             f"<p>Write 1 to start. The test takes {done:,} cycles of clk, {done / mhz / 1000:.3f} ms at {mhz:g} MHz,"
-            " and some more for the start to arrive. Read until done is 1; where it does not come in that time the"
-            " test does not end, which is a failure. Keep start at 1 in each scan that reads: what was found is gone"
-            " when it falls.</p>"
+            " and some more for the start to arrive. Read until done is 1. If it does not come in that time,"
+            " that is a failure. Keep start at 1 in each scan that reads: the result is lost when start"
+            " falls.</p>"
         ),
         "<h2>Pass</h2>",
         f"<p>{sound}. Anything else is a failure.</p>",
@@ -189,8 +191,8 @@ def tester_page(words: list[str], mhz: float) -> str:
         table(["opcode", "instruction", ""], [list(row) for row in tap.OPCODES]),
         "<h2>The register of the TAP, instruction BIST, lowest bit first</h2>",
         (
-            "<p>Each scan writes what is marked as written, start and of a chip ignore too: shift the bits of ignore in"
-            " again in each scan, or those that were set are gone.</p>"
+            "<p>Each scan writes the bits that are marked as written: start, and for a chip also ignore. Shift the bits"
+            " of ignore in again in each scan, or those that were set are lost.</p>"
         ),
         table(["bits", "part", ""], parts),
         "<h2>The registers of the APB block</h2>",

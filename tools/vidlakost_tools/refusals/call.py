@@ -29,7 +29,7 @@ def wrong_word(name: str, word: str, named: Mapping[str, str]) -> str | None:
     if not word:
         return f"{name} is empty"
     if word.startswith("-"):
-        return f"{name} is '{word}', and no word begins with '-'"
+        return f"{name} is '{word}', but no word may begin with '-'"
     size = int(named["SIZE"]) if re.fullmatch(r"\d{1,9}", named.get("SIZE", "")) else None
     if name in ("SIZE", "NUMBER"):
         least, most = (2, 4096) if name == "SIZE" else (0, 65534)
@@ -40,7 +40,7 @@ def wrong_word(name: str, word: str, named: Mapping[str, str]) -> str | None:
     if name == "CONTENT" and not re.fullmatch("[01]+", word):
         return f"CONTENT has the digits 0 and 1, one for each cell, and not '{word}'"
     if name == "CONTENT" and size is not None and len(word) != size:
-        return f"CONTENT has {len(word)} digits, and SIZE is {size}"
+        return f"CONTENT has {len(word)} digits, but SIZE is {size}"
     if name == "DIRS" and not re.fullmatch("[ud]{1,64}", word):
         return f"DIRS is a letter u or d for each element, 1 to 64 of them, and not '{word}'"
     if name in ("AGG", "VIC"):
@@ -56,13 +56,12 @@ def wrong_cell(name: str, word: str, named: Mapping[str, str], size: int | None)
         return (
             None
             if re.fullmatch(rf"{number}\.{number}", word)
-            else f"{name} is a cell as two numbers with a full stop between, its word's index and its bit, as 6.3, "
-            f"and not '{word}'"
+            else f"{name} names a cell by the index of its word, a full stop and its bit, as 6.3, and not '{word}'"
         )
     if not re.fullmatch(number, word):
         return f"{name} is the number of a cell{' or none' if name == 'AGG' else ''}, and not '{word}'"
     if size is not None and int(word) >= size:
-        return f"{name} is cell {word}, and there are the cells 0 to {size - 1}"
+        return f"{name} is cell {word}, but the cells are 0 to {size - 1}"
     return f"AGG and VIC are both cell {word}" if name == "VIC" and word == named.get("AGG") else None
 
 
@@ -86,7 +85,7 @@ def usage(words: list[str]) -> list[str]:
             else f"'{words[len(form)]}' is one word too many"
         )
         return [
-            f"{CONSOLE}: error: {words[0]} takes {len(form) - 1} words, and there are {len(words) - 1}: {what}",
+            f"{CONSOLE}: error: {words[0]} takes {len(form) - 1} words, but the call has {len(words) - 1}: {what}",
             *line,
         ]
     named = words_by_name(words)
@@ -100,9 +99,9 @@ def usage(words: list[str]) -> list[str]:
         if same:
             return [
                 (
-                    f"{CONSOLE}: error: {same} and {name} are both '{named[name]}', and no two files of a call have one"
-                    " name"
+                    f"{CONSOLE}: error: {same} and {name} are both '{named[name]}', but the files of a call need"
+                    " different names"
                 ),
                 *line,
             ]
-    return [f"{CONSOLE}: error: the words are not those of {words[0]}", *line]
+    return [f"{CONSOLE}: error: these words don't fit {words[0]}", *line]

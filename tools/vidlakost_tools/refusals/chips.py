@@ -24,7 +24,11 @@ def chip(name: str, text: bytes, code: str, values: Mapping[str, str]) -> Findin
     description = Description(name, text)
     if code == "C2":
         found = early("chip", name, text, "the last line")
-        return found if description.statements else Finding(name, text, None, "no line of the chip file says anything")
+        return (
+            found
+            if description.statements
+            else Finding(name, text, None, "the chip file is empty, or has only comments")
+        )
     if code == "C1":
         line = int(values["line"])
         if description.statements[0][0] == line and description.statement(line)[0] != "chip":
@@ -39,7 +43,7 @@ def chip(name: str, text: bytes, code: str, values: Mapping[str, str]) -> Findin
         return description.found(description.at(line, rest), f"there is no version {rest}: write 'chip 1'")
     if code == "C6":
         line = [number for number, word, _ in description.statements if word == "unit"][16]
-        return description.found(description.at(line), "this is the 17th unit, and a chip has at most 16")
+        return description.found(description.at(line), "this is the 17th unit, but a chip has at most 16")
     if code == "C8":
         return same_name(description, int(values["unit"]))
     return (out_of_range if code == "C5" else too_heavy)(description, int(values["line"]))
@@ -51,7 +55,7 @@ def out_of_range(description: Description, line: int) -> Finding:
     if word == "name":
         long = len(rest) > LONGEST_NAME
         why = (
-            f"it has {len(rest)} bytes, and a name at most {LONGEST_NAME}"
+            f"it has {len(rest)} bytes, but a name has at most {LONGEST_NAME}"
             if long
             else "it is a reserved word of Verilog"
         )
@@ -59,7 +63,7 @@ def out_of_range(description: Description, line: int) -> Finding:
     long_file = next((file for file in files if len(file) > LONGEST_FILE), None)
     if 1 <= int(first) <= MOST and long_file is not None:
         at = description.at(line) + len(word) + 1
-        return description.found(at, f"a name of a file has {len(long_file)} bytes, and at most {LONGEST_FILE} may be")
+        return description.found(at, f"a file name has {len(long_file)} bytes, but may have at most {LONGEST_FILE}")
     what = "a weight" if word == "unit" else "a budget"
     return description.found(description.at(line, first), f"{what} is 1 to {thousands(MOST)}, and not {first}")
 
@@ -68,8 +72,8 @@ def too_heavy(description: Description, line: int) -> Finding:
     weight, budget = description.statement(line)[1].split()[0], description.said("budget")
     return description.found(
         description.at(line, weight),
-        f"this unit weighs {weight}, and the budget of line {description.line_of('budget')} is {budget}",
-        "so it could never be tested",
+        f"this unit weighs {weight}, but the budget in line {description.line_of('budget')} is {budget}",
+        "so no group has room for it",
     )
 
 

@@ -102,7 +102,7 @@ def other_reader(command: str) -> list[str]:
     """The tool that takes what the subset has not; it asks `check` of modules of its own making, whose refusal it
     tells."""
     return (
-        ["`vidlakost audit` takes a controller in any Verilog, and with other names of its ports"]
+        ["`vidlakost audit` reads a controller in any Verilog, also with other port names"]
         if command == "check"
         else []
     )
@@ -132,7 +132,7 @@ def another_kind(subject: str, kind: str, text: bytes) -> Iterator[str]:
     elif not re.match(BEGINS[KINDS[kind]], text, re.DOTALL):
         other = next((what for what, begin in BEGINS.items() if re.match(begin, text, re.DOTALL)), None)
         if other:
-            yield f"the file looks like {other}, and {subject} is to be {KINDS[kind]}: have two words changed places?"
+            yield f"the file looks like {other}, but {subject} has to be {KINDS[kind]}: did you swap two words?"
 
 
 # ---- files
@@ -160,11 +160,11 @@ def why_not(word: str, mode: str) -> str:
         return f"there is no folder '{folder}'"
     if mode == "w" and not os.path.exists(word):
         return (
-            "no file may be made in this folder"
+            "you may not create files in this folder"
             if not os.access(folder, os.W_OK)
-            else "the system gave no more room, or failed"
+            else "the system had no more room, or failed"
         )
-    return "it may not be opened" if not os.access(word, os.R_OK if mode == "r" else os.W_OK) else "the system failed"
+    return "you may not open it" if not os.access(word, os.R_OK if mode == "r" else os.W_OK) else "the system failed"
 
 
 def file_of(words: list[str], said: str) -> list[str]:
@@ -174,8 +174,8 @@ def file_of(words: list[str], said: str) -> list[str]:
     if what == "absent":
         return absent(word)
     if what == "too large":
-        size = f"{os.path.getsize(word):,} bytes" if os.path.isfile(word) else "more bytes than may be"
-        return [f"{word}: error: the file has {size}, and an input at most 1,048,576"]
+        size = f"{os.path.getsize(word):,} bytes" if os.path.isfile(word) else "too many bytes"
+        return [f"{word}: error: the file has {size}, but an input may have at most 1,048,576"]
     mode, verb = ("r", "read") if what == "read failed" else ("w", "written")
     return [f"{word}: error: the file could not be {verb}: {why_not(word, mode)}"]
 
@@ -195,7 +195,7 @@ def device(words: list[str], said: str) -> list[str]:
         return [
             f"{CONSOLE}: error: "
             + (
-                "there is no model of a memory to run beside"
+                "the program has no model of a memory for this run"
                 if said == "device V4"
                 else "the model has too little room for this memory"
             )
@@ -216,8 +216,8 @@ def device(words: list[str], said: str) -> list[str]:
                 f" {memory.bits - 1}"
             ]
     return [
-        f"VIC: error: aggressor {named['AGG']} and victim {named['VIC']} are in one word; the cells have to stand"
-        " in two"
+        f"VIC: error: aggressor {named['AGG']} and victim {named['VIC']} are in one word; they have to be in"
+        " two words"
     ]
 
 
@@ -226,13 +226,13 @@ def misfit(words: list[str], said: str) -> list[str]:
     if said == "misfit aggressor":
         two = read_primitive(named["PRIM"]).aggressor is not None
         cells, wanted = ("two cells", "the cell of its aggressor") if two else ("one cell", "none")
-        return [f"AGG: error: {named['PRIM']} has {cells}, so AGG is {wanted}, and not '{named['AGG']}'"]
+        return [f"AGG: error: {named['PRIM']} has {cells}, so AGG has to be {wanted}, not '{named['AGG']}'"]
     if not is_there_still(named["MARCH"]):
         return []
     elements = elements_of(read_text(named["MARCH"]))
     directions = named["DIRS"]
     lines = [
-        f"DIRS: error: '{directions}' has {len(directions)} letters, and {named['MARCH']} has {len(elements)} elements"
+        f"DIRS: error: '{directions}' has {len(directions)} letters, but {named['MARCH']} has {len(elements)} elements"
     ]
     shown = [
         f"  {element.text:24} {directions[place] if place < len(directions) else '(no letter)'}"
@@ -243,7 +243,7 @@ def misfit(words: list[str], said: str) -> list[str]:
         if letter != wants:
             shown[place] += "   a pause has u" if element.is_pause else f"   this element goes {element.order}: {wants}"
             lines[0] = (
-                f"DIRS: error: letter {place} is '{letter}', and does not agree with element {place}"
+                f"DIRS: error: letter {place} is '{letter}', which does not fit element {place}"
                 if len(directions) == len(elements)
                 else lines[0]
             )
@@ -254,21 +254,21 @@ def too_long(words: list[str], said: str) -> list[str]:
     named = words_by_name(words)
     if not is_there_still(named["MEMORY"]) or not is_there_still(named["MARCH"]):
         return [
-            f"{named['MEMORY']}: error: the test takes {thousands(said.split(' ')[2])} cycles, and at most 2,000,000"
-            " are run"
+            f"{named['MEMORY']}: error: the test takes {thousands(said.split(' ')[2])} cycles, but the program runs"
+            " at most 2,000,000"
         ]
     memory, elements = memory_file(named), elements_of(read_text(named["MARCH"]))
     one = sum(map(memory.cycles_of, elements))
     most = (2000000 - memory.latency - 2) // one if one <= 2000000 else 0
     cure = (
-        f"with {most} background{'s' if most > 1 else ''} it would not be too long"
+        f"with {most} background{'s' if most > 1 else ''} the test would fit"
         if most
-        else "a shorter march, or fewer words, would do"
+        else "use a shorter march, or fewer words"
     )
     return [
         (
-            f"{named['MEMORY']}: error: the test takes {thousands(said.split(' ')[2])} cycles, and at most 2,000,000"
-            " are run"
+            f"{named['MEMORY']}: error: the test takes {thousands(said.split(' ')[2])} cycles, but the program runs"
+            " at most 2,000,000"
         ),
         f"  the march takes {thousands(one)} cycles in each of {len(memory.backgrounds)} backgrounds; {cure}",
         "  (compile has no such limit)",
@@ -314,7 +314,7 @@ def told_lines(words: list[str], said: str, status: int) -> list[str]:
             return by_status[status](words, said)
         return {
             8: [f"{CONSOLE}: error: the line of the answer could not be written"],
-            9: [f"{CONSOLE}: error: there was no memory"],
+            9: [f"{CONSOLE}: error: out of memory"],
             16: not_text(words),
         }.get(status, [])
     except (OSError, IndexError, ValueError, KeyError, StopIteration, TypeError, ToolError):

@@ -251,4 +251,4 @@ def could_stand(kind: str, text: bytes, at: int, is_word: bool = False) -> tuple
     """The tokens that could stand at a byte, the note that lists them, and whether the word in front is whole."""
     found, whole = Trier(kind, is_word).fitting(text, at)
     shown = list(dict.fromkeys(SHOWN.get(kind, {}).get(token, token) for token in found))
-    return found, [f"here could stand {listed(shown)}"] if shown else [], whole
+    return found, [f"expected here: {listed(shown)}"] if shown else [], whole

@@ -14,22 +14,25 @@ from vidlakost_tools.verilog.reserved_words import OF_SYSTEM_VERILOG
 
 # what may stand in a comment, or as a blank, and why another tool may go another way
 IN_TEXT = [
-    (rb"\r(?!\n)", "a carriage return that no line feed follows: some tools end a line, and a comment with it, there"),
-    (rb"\f", "a form feed: some tools end a line, and a comment with it, there"),
+    (rb"\r(?!\n)", "a carriage return without a line feed: some tools end the line there, and a comment with it"),
+    (rb"\f", "a form feed: some tools end the line there, and a comment with it"),
 ]
 IN_COMMENT = [
-    (rb"\x0b", "a vertical tab in a comment: some tools end a line, and the comment with it, there"),
-    (rb"[\x00-\x08\x0e-\x1f\x7f]", "a control byte in a comment: some tools end the text, or the comment, there"),
+    (rb"\x0b", "a vertical tab in a comment: some tools end the line there, and the comment with it"),
+    (rb"[\x00-\x08\x0e-\x1f\x7f]", "a control byte in a comment: some tools end the text or the comment there"),
     (rb"`", "a back quote in a comment: some tools obey a directive there"),
-    (rb"\\\r?(?:\n|\Z)", "a backslash that ends a line of a comment: to some tools the next line is the comment's too"),
+    (
+        rb"\\\r?(?:\n|\Z)",
+        "a backslash that ends a line of a comment: for some tools the comment goes on in the next line",
+    ),
     (
         rb"\b(?:(?:translate|synthesis)_o(?:n|ff)|full_case|parallel_case|synopsys|pragma|synthesis[ \t]+\w+)\b",
-        "a comment that tools which make gates obey",
+        "a comment that synthesis tools obey",
     ),
 ]
 BEHIND_DECIMAL = (
     rb"'[dD][0-9][0-9_]*(\?)",
-    "a `?` right behind a decimal literal: Verilator and Yosys take it for a digit, and refuse the module",
+    "a `?` right after a decimal literal: Verilator and Yosys take it for a digit, and refuse the module",
 )
 # from here on Yosys takes the amount of a shift for a negative number
 FAR = 1 << 31
@@ -108,7 +111,7 @@ def of_module(name: str, text: bytes) -> list[str]:
     for at, why in sorted(places_in(text)):
         row, column = place(text, at)
         lines.append(f"{name}:{row}:{column}: warning: {why}")
-    return [*lines, "  what is found of this module need not hold in a tool that does so"] if lines else []
+    return [*lines, "  in such a tool this answer need not hold"] if lines else []
 
 
 def of_chip(name: str, text: str) -> list[str]:

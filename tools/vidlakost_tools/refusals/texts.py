@@ -47,7 +47,7 @@ def march(name: str, text: bytes, code: str, values: Mapping[str, str]) -> Findi
             name,
             text,
             None,
-            "the march has pauses alone, and visits no cell" if elements else "the march has no element",
+            "the march has only pauses, and visits no cell" if elements else "the march has no element",
         )
     if code == "M4":
         return Finding(
@@ -85,7 +85,7 @@ def march(name: str, text: bytes, code: str, values: Mapping[str, str]) -> Findi
         text,
         at,
         (
-            f"{word} expects {word[1]}, and {before[2]} of element {before[0]} (line {row}, column {column}) wrote"
+            f"{word} expects {word[1]}, but {before[2]} of element {before[0]} (line {row}, column {column}) wrote"
             f" {before[2][1]} last"
         ),
     )
@@ -108,7 +108,7 @@ def unexpected(kind: str, name: str, text: bytes, at: int, names: list[str], is_
     if not word:
         message = "the primitive can't end here" if is_word else "the line can't end here"
     else:
-        message = f"'{word}' can't stand here" if word.strip() else "a blank can't stand here"
+        message = f"'{word}' is not allowed here" if word.strip() else "a blank is not allowed here"
     if meant and meant != word:
         message += f"; did you mean '{meant}'?"
     return Finding(name, text, start, message, notes)
@@ -120,11 +120,12 @@ def early(kind: str, name: str, text: bytes, what: str, is_word: bool = False) -
         return Finding(name, text, None, "the file is empty")
     end = len(text.rstrip(b" \t\r\n")) if kind in ("march", "verilog") else len(text)
     return Finding(
-        name, text, end, f"{what} stops here, and is not whole", could_stand(kind, text, len(text), is_word)[1]
+        name, text, end, f"{what} ends here, but is not complete", could_stand(kind, text, len(text), is_word)[1]
     )
 
 
 # ---- lists and primitives
+
 
 def fault(name: str, text: bytes, code: str, values: Mapping[str, str], is_word: bool) -> Finding:
     """What is wrong with a list, or with a primitive among the words of a call."""
@@ -147,7 +148,7 @@ def no_item(name: str, text: bytes, at: int, is_word: bool) -> Finding:
     found = unexpected("list", name, text, at, [*CLASSES, *GROUPS], is_word)
     word = word_at(text, at)
     if is_word and re.fullmatch(rb"[A-Za-z]\w*", text):
-        return Finding(name, text, 0, "a primitive has to stand here, as <0w1/0/->, and no class")
+        return Finding(name, text, 0, "a primitive is needed here, as <0w1/0/->, not a class")
     meaning, meant = old_names.meaning_of(word), old_names.class_of(word)
     if meaning is not None:
         return Finding(name, text, found.at, f"'{word}' is no name of a class here", [meaning])
@@ -162,10 +163,10 @@ def too_many_operations(primitive: Primitive, is_word: bool) -> str:
         primitive.aggressor is not None and bool(primitive.aggressor.operations) and bool(primitive.victim.operations)
     )
     if count == 2 and parted:
-        return "the primitive has an operation on each cell; a primitive has them on one"
+        return "the primitive has an operation on each cell; it may have operations on one cell alone"
     if count == 2 and is_word:
-        return "the primitive has two operations, and this command takes primitives of at most one; a list may hold it"
-    return f"the primitive has {count} operations; it has at most one, or two in one part"
+        return "the primitive has two operations, but this command takes at most one; a list may have it"
+    return f"the primitive has {count} operations; it may have one at most, or two in one part"
 
 
 def why_no_fault(primitive: Primitive) -> str:
@@ -175,20 +176,20 @@ def why_no_fault(primitive: Primitive) -> str:
         left = part.state
         for operation in part.operations:
             if operation[0] == "r" and int(operation[1]) != left:
-                return f"{operation} reads {operation[1]}, and the cell holds {left} before it"
+                return f"{operation} reads {operation[1]}, but the cell holds {left} before it"
             left = int(operation[1]) if operation != "t" else left
     operations = primitive.operations
     if "t" in operations and (primitive.aggressor or len(operations) > 1):
-        return "a pause (t) stands alone, behind the state of a cell without an aggressor"
+        return "a pause (t) comes alone, after the state of a single cell, without an aggressor"
     reads = primitive.victim.operations[-1:] != [] and primitive.victim.operations[-1][0] == "r"
     if reads and primitive.answer is None:
-        return "S ends in a read of the victim, so R is the bit that it answers, and not '-'"
+        return "S ends in a read of the victim, so R has to be the bit that it answers, not '-'"
     if not reads and primitive.answer is not None:
-        return "S does not end in a read of the victim, so R is '-'"
+        return "S does not end in a read of the victim, so R has to be '-'"
     if primitive.after == left and primitive.answer in (None, left):
         answer = ", and the read answers it" if reads else ""
         return f"nothing goes wrong, since the victim ends with {left}{answer}, as it does without a fault"
-    return "it is in none of the classes"
+    return "it belongs to no class"
 
 
 # ---- memory descriptions
@@ -245,7 +246,7 @@ def memory(name: str, text: bytes, code: str, values: Mapping[str, str]) -> Find
         return (
             early("memory", name, text, "the last line")
             if description.statements
-            else Finding(name, text, None, "no line of the description says anything")
+            else Finding(name, text, None, "the description is empty, or has only comments")
         )
     if code == "D1":
         return unexpected_statement(description, values)
@@ -278,8 +279,8 @@ def missing(description: Description, field: str) -> Finding:
     rows, width = description.rows(), description.width()
     return description.found(
         description.at(rows[min(rows)][0]),
-        f"there is no row {field}, and a scrambling has a row for each bit of an address, a0 to a{width - 1}",
-        f"the rows that stand are {listed([f'a{row}' for row in sorted(rows)], 'and')}",
+        f"row {field} is missing: a scrambling has a row for each address bit, a0 to a{width - 1}",
+        f"the description has {listed([f'a{row}' for row in sorted(rows)], 'and')}",
     )
 
 
@@ -292,7 +293,7 @@ def repeated(description: Description, line: int) -> Finding:
         if kind == word and (row is None or int(said.split("=")[0].strip()[1:]) == row)
     )
     what = f"row a{row}" if row is not None else f"'{word}'"
-    return description.found(description.at(line), f"{what} stands in line {first} already")
+    return description.found(description.at(line), f"line {first} already has {what}")
 
 
 RANGES = {
@@ -312,7 +313,9 @@ def out_of_range(description: Description, line: int) -> Finding:
         )
     if word == "name":
         why = (
-            f"it has {len(rest)} bytes, and a name at most 48" if len(rest) > 48 else "it is a reserved word of Verilog"
+            f"it has {len(rest)} bytes, but a name has at most 48"
+            if len(rest) > 48
+            else "it is a reserved word of Verilog"
         )
         return description.found(description.at(line, rest), f"'{rest}' can't name a memory: {why}")
     if word == "scramble":
@@ -322,7 +325,7 @@ def out_of_range(description: Description, line: int) -> Finding:
     what = "the polarity" if word == "polarity" else "the background"
     return description.found(
         description.at(line, wide),
-        f"{what} {wide} needs {int(wide, 16).bit_length()} bits, and a word of this memory has {bits}",
+        f"{what} {wide} needs {int(wide, 16).bit_length()} bits, but a word of this memory has {bits}",
     )
 
 
@@ -352,7 +355,7 @@ def dependent(description: Description, names: list[str]) -> Finding:
     rows = description.rows()
     line, (_, constant) = rows[int(last[1:])]
     differs = (constant + sum(rows[int(name[1:])][1][1] for name in others)) % 2
-    but = ", but for the constant 1" if differs else ""
+    but = ", apart from the constant 1" if differs else ""
     if not others:
         why = f"row {last} has no index bit, so this bit of an address never changes"
     elif len(others) == 1:
@@ -367,8 +370,8 @@ def no_power(description: Description) -> Finding:
     below = 1 << (words.bit_length() - 1)
     return description.found(
         description.at(description.line_of("words")),
-        f"the memory has a scrambling, and words {words} is no power of two",
-        f"a scrambling wants words {below} or {below * 2}; without scramble lines any number will do",
+        f"the memory has a scrambling, but words {words} is no power of two",
+        f"a scrambling needs words {below} or {below * 2}; without scramble lines any number works",
     )
 
 
@@ -381,7 +384,7 @@ def no_solid(description: Description) -> Finding:
 
 def too_many(description: Description) -> Finding:
     line, words = description.line_of("backgrounds"), (description.said("backgrounds") or "").split()
-    return description.found(description.at(line), f"there are {len(words)} backgrounds, and at most 8 are run")
+    return description.found(description.at(line), f"there are {len(words)} backgrounds, but a memory has at most 8")
 
 
 def other_version(description: Description) -> Finding:

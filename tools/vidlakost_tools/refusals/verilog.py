@@ -156,8 +156,8 @@ def broken(module: Events, event: Event, code: str, what: str, values: Mapping[s
         if event.kind != "width" or event.detail != widths:
             return None
         if event.detail[0] == 64 and event.detail[1] > 64:
-            return f"this concatenation has {event.detail[1]} bits, and at most 64 are taken"
-        return f"one side has {bits(widths[0])} and the other {widths[1]}, and they have to be as wide as one another"
+            return f"this concatenation has {event.detail[1]} bits, but may have at most 64"
+        return f"one side has {bits(widths[0])} and the other {widths[1]}, but both have to be equally wide"
     if event.name != what:
         return None
     declared = module.names.get(what)
@@ -174,7 +174,7 @@ def broken(module: Events, event: Event, code: str, what: str, values: Mapping[s
     if code == "N6" and event.kind == "select":
         width, high, low = event.detail
         if width == 1:
-            return f"'{what}' has one bit, of which nothing can be selected"
+            return f"'{what}' has one bit, so nothing can be selected from it"
         return f"'{what}' has the bits 0 to {width - 1}" + (
             f", and not {high}" if high >= width else f", and {low} is above {high}"
         )
@@ -196,7 +196,7 @@ def clock(module: Events, event: Event, what: str) -> str | None:
     if event.kind == "clock" and (what != "clk" or not is_input):
         return "the clock has to be an input of one bit named 'clk'"
     if event.kind == "use" and what == "clk":
-        return "'clk' is the clock, and stands in no expression"
+        return "'clk' is the clock, so no expression may use it"
     if event.kind == "declared" and what == "clk" and not is_input:
         return "'clk' can only be an input of one bit"
     return None
@@ -211,7 +211,7 @@ def loop(name: str, text: bytes, module: Events, names: list[str]) -> Finding:
         name,
         text,
         places[0],
-        "these wires form a loop, each uses the next" if len(names) > 1 else "this wire uses itself",
+        "these wires form a loop: each uses the next" if len(names) > 1 else "this wire uses itself",
         [circle],
     )
 
@@ -258,10 +258,10 @@ def port(name: str, text: bytes, what: str, memory: Memory) -> Finding:
     way = "input" if has.kind == "input" else "output"
     if way != kind:
         return Finding(
-            name, text, has.at, f"'{what}' is an {way} here, and an {kind} of the self-test of {memory.name}"
+            name, text, has.at, f"'{what}' is an {way} here, but an {kind} of the self-test of {memory.name}"
         )
     return Finding(
-        name, text, has.at, f"'{what}' has {bits(has.width)} here, and {bits(width)} in the self-test of {memory.name}"
+        name, text, has.at, f"'{what}' has {bits(has.width)} here, but {bits(width)} in the self-test of {memory.name}"
     )
 
 
@@ -272,8 +272,8 @@ def too_deep(text: bytes, at: int) -> str:
             "with parentheses round each operator, this module opens more than 64 of (, {, begin, case and if at once"
         )
     if re.compile(rb"[({]|(begin|case|if)\b").match(text, at):
-        return "this opens the 65th of (, {, begin, case and if that are open at once; at most 64 may be"
-    return "this is the 257th operator of an expression, and at most 256 may be"
+        return "this opens the 65th of (, {, begin, case and if that are open at once; at most 64 may be open"
+    return "this is the 257th operator of an expression; it may have at most 256"
 
 
 def verilog(name: str, text: bytes, code: str, values: Mapping[str, str], memory_file: str | None) -> Finding:

@@ -16,8 +16,13 @@ USES = {"std_1149_1_1990", "std_1149_1_1994", "std_1149_1_2001", "std_1149_1_201
 INPUTS = ("tap_scan_in", "tap_scan_mode", "tap_scan_reset", "tap_scan_clock")
 ROLES = {"tap_scan_out": "out", **dict.fromkeys(INPUTS, "in")}
 WANTED = (
-    "component_conformance", "pin_map", "instruction_length", "instruction_opcode", "instruction_capture",
-    "boundary_length", "boundary_register",
+    "component_conformance",
+    "pin_map",
+    "instruction_length",
+    "instruction_opcode",
+    "instruction_capture",
+    "boundary_length",
+    "boundary_register",
 )
 CELL = r"(\d+)\s*\(\s*BC_\d+\s*,\s*(\*|\w+)\s*,\s*(\w+)\s*,\s*[01X]\s*\)"
 REGISTER = r"(\w+)\[(\d+)\]\s*\((\w+(?:\s*,\s*\w+)*)\)"
@@ -59,12 +64,12 @@ class Reader:
     def take(self, *wanted: str) -> None:
         for word in wanted:
             if self.next != word:
-                raise ToolError(f"BSDL: {word!r} is wanted, and {self.next} comes")
+                raise ToolError(f"BSDL: {word!r} is expected, but {self.next} comes")
             self.at += 1
 
     def word(self, form: str = "[a-z].*") -> str:
         if not re.fullmatch(form, self.next):
-            raise ToolError(f"BSDL: {self.next} can't stand where it does")
+            raise ToolError(f"BSDL: {self.next} is not allowed here")
         self.at += 1
         return self.found[self.at - 1]
 
@@ -161,7 +166,7 @@ def opcodes_of(found: dict[str, object]) -> dict[str, list[str]]:
         name, codes = match[1].upper(), re.split(r"\s*,\s*", match[2].strip())
         for code in codes:
             if len(code) != length or not re.fullmatch("[01]+", code):
-                raise ToolError(f"BSDL: {code} of {name} has not {length} bits")
+                raise ToolError(f"BSDL: {code} of {name} does not have {length} bits")
             other = owners.setdefault(code, name)
             if other != name and {other, name} != {"SAMPLE", "PRELOAD"}:
                 raise ToolError(f"BSDL: {code} is of {other} and of {name}")
@@ -205,7 +210,7 @@ def read(text: str) -> Bsdl:
     found, roles = attributes(reader, name, pins)
     reader.take("end", name, ";")
     if reader.next != "the end" or any(one not in found for one in WANTED) or found["pin_map"] != "physical_pin_map":
-        raise ToolError(f"BSDL: of {', '.join(WANTED)} one is missing, or more comes behind the entity")
+        raise ToolError(f"BSDL: one of {', '.join(WANTED)} is missing, or something follows the entity")
     if not {"tap_scan_in", "tap_scan_mode", "tap_scan_out", "tap_scan_clock"} <= set(roles.values()):
         raise ToolError("BSDL: a pin of the TAP is missing")
     check_map(found, default, pins)
@@ -227,4 +232,4 @@ def check_map(found: dict[str, object], default: str, pins: dict[str, str]) -> N
     told = found.get(f"map {default.lower()}")
     places = listed(told, r"(\w+)\s*:\s*(\w+)", "map of pins") if told else []
     if sorted(one[1].lower() for one in places) != sorted(pins) or len({one[2] for one in places}) != len(places):
-        raise ToolError(f"BSDL: the map {default} has not each pin once")
+        raise ToolError(f"BSDL: the map {default} does not have each pin once")

@@ -12,17 +12,36 @@ LEXEME = re.compile(
     re.DOTALL,
 )
 PORTS = {
-    "TCKPort", "TMSPort", "TRSTPort", "SelectPort", "CaptureEnPort", "ShiftEnPort", "UpdateEnPort", "ScanInPort",
-    "ScanOutPort", "ResetPort", "DataInPort", "DataOutPort", "ToSelectPort", "ToCaptureEnPort", "ToShiftEnPort",
-    "ToUpdateEnPort", "ToResetPort", "ToTCKPort",
+    "TCKPort",
+    "TMSPort",
+    "TRSTPort",
+    "SelectPort",
+    "CaptureEnPort",
+    "ShiftEnPort",
+    "UpdateEnPort",
+    "ScanInPort",
+    "ScanOutPort",
+    "ResetPort",
+    "DataInPort",
+    "DataOutPort",
+    "ToSelectPort",
+    "ToCaptureEnPort",
+    "ToShiftEnPort",
+    "ToUpdateEnPort",
+    "ToResetPort",
+    "ToTCKPort",
 }
 # what a port may be linked to, where it is one of an instance
 MATCHES = {
-    "SelectPort": ("SelectPort", "ToSelectPort"), "CaptureEnPort": ("CaptureEnPort", "ToCaptureEnPort"),
-    "ShiftEnPort": ("ShiftEnPort", "ToShiftEnPort"), "UpdateEnPort": ("UpdateEnPort", "ToUpdateEnPort"),
-    "ResetPort": ("ResetPort", "ToResetPort"), "TCKPort": ("TCKPort", "ToTCKPort"),
+    "SelectPort": ("SelectPort", "ToSelectPort"),
+    "CaptureEnPort": ("CaptureEnPort", "ToCaptureEnPort"),
+    "ShiftEnPort": ("ShiftEnPort", "ToShiftEnPort"),
+    "UpdateEnPort": ("UpdateEnPort", "ToUpdateEnPort"),
+    "ResetPort": ("ResetPort", "ToResetPort"),
+    "TCKPort": ("TCKPort", "ToTCKPort"),
     "ScanInPort": ("ScanInPort", "ScanOutPort"),
 }
+
 
 @dataclasses.dataclass
 class Signal:
@@ -97,12 +116,12 @@ class Reader:
     def take(self, *wanted: str) -> None:
         for word in wanted:
             if self.next != word:
-                raise ToolError(f"ICL: {word!r} is wanted, and {self.next} comes")
+                raise ToolError(f"ICL: {word!r} is expected, but {self.next} comes")
             self.at += 1
 
     def word(self, form: str = r"[A-Za-z]\w*") -> str:
         if self.at >= len(self.found) or not re.fullmatch(form, self.next):
-            raise ToolError(f"ICL: {self.next} can't stand where it does")
+            raise ToolError(f"ICL: {self.next} is not allowed here")
         self.at += 1
         return self.found[self.at - 1]
 
@@ -251,7 +270,11 @@ def alias(reader: Reader, module: Module) -> None:
 
 
 ITEMS = {
-    "ScanRegister": register, "ScanMux": mux, "Instance": instance, "ScanInterface": interface, "AccessLink": access,
+    "ScanRegister": register,
+    "ScanMux": mux,
+    "Instance": instance,
+    "ScanInterface": interface,
+    "AccessLink": access,
     "Alias": alias,
 }
 
@@ -270,7 +293,7 @@ def read(text: str) -> dict[str, Module]:
             elif what in ITEMS:
                 ITEMS[what](reader, module)
             else:
-                raise ToolError(f"ICL: {what} can't stand in a module")
+                raise ToolError(f"ICL: {what} is not allowed in a module")
         if module.name in modules:
             raise ToolError(f"ICL: the module {module.name} is there twice")
         modules[module.name] = module
@@ -319,13 +342,13 @@ class Checked:
         it = self.module
         for name, port_is in it.ports.items():
             if port_is.source and sum(map(self.width, port_is.source)) != port_is.width:
-                raise ToolError(f"ICL: the source of {name} has not its width")
+                raise ToolError(f"ICL: the source of {name} has another width")
             if port_is.kind == "ScanOutPort":
                 self.is_one(port_is.source[0] if len(port_is.source) == 1 else None)
         for name, one in it.registers.items():
             self.is_one(one.source)
             if one.capture and sum(map(self.width, one.capture)) != one.width:
-                raise ToolError(f"ICL: what {name} captures has not its width")
+                raise ToolError(f"ICL: what {name} captures has another width")
             if one.reset is not None and one.reset >> one.width:
                 raise ToolError(f"ICL: the reset value of {name} has more bits")
         for name, choice in it.muxes.items():
@@ -335,7 +358,7 @@ class Checked:
                 raise ToolError(f"ICL: {name} has not a way for each value of a register")
         for name, (width, parts) in it.aliases.items():
             if sum(map(self.width, parts)) != width or any(part.name not in it.registers for part in parts):
-                raise ToolError(f"ICL: the alias {name} has not the width of its bits")
+                raise ToolError(f"ICL: the alias {name} has another width than its bits")
         for name, ports in it.interfaces.items():
             if set(ports) - set(it.ports) or len(set(ports)) != len(ports):
                 raise ToolError(f"ICL: {name} has a port that is not there, or twice")

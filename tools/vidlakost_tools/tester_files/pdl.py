@@ -131,7 +131,7 @@ def read(text: str) -> Procedures:
         elif words[0] == "iProc" and is_head(words[2:]) and module and words[1] not in found[module]:
             proc = found[module].setdefault(words[1], Procedure(words[3:-2]))
         else:
-            raise ToolError(f"PDL: {' '.join(words)} can't stand where it does")
+            raise ToolError(f"PDL: {' '.join(words)} is not allowed here")
     if proc is not None:
         raise ToolError("PDL: a procedure has no end")
     return found

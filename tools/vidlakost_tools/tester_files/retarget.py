@@ -30,7 +30,7 @@ class Session:
     def __init__(self, modules: Mapping[str, Module], bsdl: Bsdl):
         tops = [module for module in modules.values() if module.links]
         if len(tops) != 1 or tops[0].entity.lower() != bsdl.name:
-            raise ToolError("not one module of ICL has an access link, or it is of another entity than that of BSDL")
+            raise ToolError("ICL needs exactly one module with an access link, and BSDL its entity")
         self.modules, self.bsdl, self.top = modules, bsdl, tops[0].name
         self.state: Dict[Bit, int] = {}
         self.kept: Set[Bit] = set()
@@ -56,7 +56,7 @@ class Session:
         for link in self.modules[self.top].links:
             told, found = self.bsdl.registers.get(link), len(path(self.modules, self.top, link, self.state))
             if told is None or told[1] != found:
-                raise ToolError(f"the path of {link} has {found} bits by ICL, and BSDL tells {told}")
+                raise ToolError(f"the path of {link} has {found} bits by ICL, but {told} by BSDL")
 
     def begin(self) -> Iterator[Cycle]:
         """The reset."""
@@ -81,7 +81,7 @@ class Session:
         """Where the one instance of a module stands."""
         found = [where for where, it in every(self.modules, self.top) if it.name == module]
         if len(found) != 1:
-            raise ToolError(f"{module} stands {len(found)} times in {self.top}")
+            raise ToolError(f"{self.top} has {module} {len(found)} times")
         return found[0]
 
     def run(self, procedures: Procedures, module: str, name: str, *given: str) -> Iterator[Cycle]:
@@ -146,7 +146,7 @@ def take(taken: Dict[Bit, str], more: Mapping[Bit, str]) -> None:
     """Takes what a command asks of some bits, of which no other may ask something else."""
     for bit, value in more.items():
         if taken.setdefault(bit, value) != value:
-            raise ToolError(f"PDL: bit {bit[2]} of {bit[1]} is to be {taken[bit]} and {value}")
+            raise ToolError(f"PDL: bit {bit[2]} of {bit[1]} has to be both {taken[bit]} and {value}")
 
 
 def asked(where: Where, module: Module, command: Command) -> Dict[Bit, str]:

@@ -28,7 +28,7 @@ def path(modules: Mapping[str, Module], top: str, link: str, state: Mapping[Bit,
     inner = modules[modules[top].instances[of][0]]
     outs = [name for name in inner.interfaces[end] if inner.ports[name].kind == "ScanOutPort"]
     if len(outs) != 1:
-        raise ToolError(f"ICL: {of}.{end} has not one scan output")
+        raise ToolError(f"ICL: {of}.{end} does not have exactly one scan output")
     where: Where = (of,)
     at: Signal | None = Signal("", outs[0])
     steps = 0
@@ -42,8 +42,9 @@ def path(modules: Mapping[str, Module], top: str, link: str, state: Mapping[Bit,
     return found
 
 
-def before(modules: Mapping[str, Module], top: str, where: Where, at: Signal, state: Mapping[Bit, int], found: List[Bit]
-           ) -> Tuple[Where, Signal | None]:
+def before(
+    modules: Mapping[str, Module], top: str, where: Where, at: Signal, state: Mapping[Bit, int], found: List[Bit]
+) -> Tuple[Where, Signal | None]:
     """What stands in front of a signal in the path; the bits of a register are added to those that were found."""
     module = module_at(modules, top, where)
     if at.instance:

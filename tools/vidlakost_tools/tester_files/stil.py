@@ -148,7 +148,7 @@ def read(text: str) -> list[Cycle]:
     timing = block_of(whole, "Timing", *run.get("Timing", ["no timing"]))
     patterns = block_of(block_of(whole, "PatternBurst", *run.get("PatternBurst", ["no burst"])), "PatList")
     if len(patterns) != 1 or len(timing) != 1 or timing[0].words[:1] != ["WaveformTable"]:
-        raise ToolError("STIL: one pattern and one table of waveforms are wanted")
+        raise ToolError("STIL: the text needs one pattern and one table of waveforms")
     table = timing[0].words[1]
     waves = waves_of(timing[0].inner)
     check_waves(waves)

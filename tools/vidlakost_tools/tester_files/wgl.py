@@ -33,12 +33,12 @@ class Reader:
     def take(self, *wanted: str) -> None:
         for word in wanted:
             if self.next != word:
-                raise ToolError(f"WGL: {word!r} is wanted, and {self.next} comes")
+                raise ToolError(f"WGL: {word!r} is expected, but {self.next} comes")
             self.at += 1
 
     def word(self, form: str = r"[A-Za-z]\w*") -> str:
         if self.at >= len(self.found) or not re.fullmatch(form, self.next):
-            raise ToolError(f"WGL: {self.next} can't stand where it does")
+            raise ToolError(f"WGL: {self.next} is not allowed here")
         self.at += 1
         return self.found[self.at - 1]
 
@@ -139,5 +139,5 @@ def read(text: str) -> list[Cycle]:
         found.append(vector(reader, plate))
     reader.take("end", "end")
     if reader.next != "the end":
-        raise ToolError(f"WGL: {reader.next} comes behind the waveform")
+        raise ToolError(f"WGL: {reader.next} comes after the waveform")
     return found

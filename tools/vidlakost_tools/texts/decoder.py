@@ -145,7 +145,7 @@ def read_report(path: Path) -> DecoderReport:
             raise ToolError(f"{path}:{count}: {error}; this is no report of `decoder`") from error
     total = TOTAL.fullmatch(lines[-1])
     if total is None or (int(total[1]), int(total[2])) != (report.covered, len(report.escapes)):
-        raise ToolError(f"{path}:{len(lines)}: the total is not that of the lines; this is no report of `decoder`")
+        raise ToolError(f"{path}:{len(lines)}: the total does not fit the lines; this is no report of `decoder`")
     return report
 
 
@@ -171,7 +171,7 @@ def reason(verdict: DecoderVerdict, elements: list[Element]) -> tuple[str, list[
     """Why an escape escapes, and its steps."""
     steps = list(verdict.steps(elements))
     if steps[-1].differs:
-        return f"is caught in element {steps[-1].element}, and is no escape", steps
+        return f"is caught in element {steps[-1].element}, so it is no escape", steps
     kind, _, end = verdict.name.partition(" ")
     if kind == "none":
         return f"a read of x answers {end}, and no read expects {1 - int(end)}", steps

@@ -116,15 +116,15 @@ def read_in_word(path: Path) -> InWordReport:
         refuse(1, "the first line is no march, or others are missing")
     shape, apart, total = SHAPE.fullmatch(lines[1]), APART.fullmatch(lines[-2]), TOTAL.fullmatch(lines[-1])
     if shape is None:
-        refuse(2, "the second line is no memory's")
+        refuse(2, "the second line is not the line of a memory")
     if apart is None or total is None:
-        refuse(len(lines), "the last lines do not count the primitives apart, and the total")
+        refuse(len(lines), "the last lines are not `apart` and the total")
     memory: Shape = {key: value if key == "name" else int(value) for key, value in shape.groupdict().items()}
     verdicts = []
     for count, line in enumerate(lines[2:-2], 3):
         verdict = verdict_of(line, int(shape["bits"]))
         if verdict is None:
-            refuse(count, "the line is none of a report's")
+            refuse(count, "a report has no such line")
         verdicts.append(verdict)
     try:
         elements = elements_of(lines[0][len("march ") :])
@@ -132,7 +132,7 @@ def read_in_word(path: Path) -> InWordReport:
         refuse(1, error)
     report = InWordReport(lines[0][len("march ") :], elements, memory, verdicts, int(apart["apart"]))
     if report.total != (int(total["count"]), int(total["covered"]), int(total["escapes"])):
-        refuse(len(lines), "the total is not that of the lines above")
+        refuse(len(lines), "the total does not fit the lines above")
     return report
 
 
@@ -313,6 +313,6 @@ def reason(verdict: WordVerdict, elements: list[Element], memory: Memory) -> tup
     """Why an escape escapes, and its steps."""
     steps = list(steps_of(verdict, elements, memory))
     if steps[-1].differs:
-        return f"is caught {place(steps[-1], memory)}, and is no escape", steps
+        return f"is caught {place(steps[-1], memory)}, so it is no escape", steps
     found = hidden(steps, memory)
     return "; ".join(found) if found else f"never acts: {why_never(verdict, steps)}", steps

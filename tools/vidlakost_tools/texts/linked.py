@@ -197,7 +197,7 @@ def read_report(path: Path) -> LinkedReport:
     told.append(f"total {count} covered {report.covered} escapes {len(report.escapes)}")
     for number, (line, right) in enumerate(zip(lines[count + 1 :], told), count + 2):
         if line != right:
-            raise ToolError(f"{path}:{number}: the count is not that of the lines; this is no report of `linked`")
+            raise ToolError(f"{path}:{number}: the count does not fit the lines; this is no report of `linked`")
     return report
 
 
@@ -235,7 +235,7 @@ def reason(verdict: LinkVerdict, elements: list[Element]) -> tuple[str, list[Lin
     """Why an escape escapes, and its steps."""
     steps = list(verdict.steps(elements))
     if steps[-1].differs:
-        return f"is caught in element {steps[-1].element}, and is no escape", steps
+        return f"is caught in element {steps[-1].element}, so it is no escape", steps
     found = [
         f"{verdict.first} acts in element {step.element}, and {fate(verdict, steps, place)}"
         for place, step in enumerate(steps)

@@ -57,7 +57,7 @@ def elements_of(march: str) -> list[Element]:
     """The elements of the text of an accepted march."""
     elements = read_elements(march)
     if not elements:
-        raise ToolError("a march has an element")
+        raise ToolError("a march needs an element")
     if len(elements) > 64 or any(len(element.operations) > 16 for element in elements):
         raise ToolError("a march has at most 64 elements of at most 16 operations")
     return elements

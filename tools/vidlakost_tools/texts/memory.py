@@ -32,7 +32,7 @@ class Memory:
         if not all(least <= value <= most for value, least, most in limits) or any(word >> self.bits for word in words):
             raise ToolError(f"the description of {self.name} has a number out of its range")
         if not 1 <= len(self.backgrounds) <= 8 or not rows or self.rows is not None and len(self.rows) != self.width:
-            raise ToolError(f"the description of {self.name} has rows or backgrounds that are none")
+            raise ToolError(f"the description of {self.name} has wrong rows or backgrounds")
 
     @property
     def width(self) -> int:

@@ -24,8 +24,8 @@ MEANINGS: Dict[str, str] = {
     "lf": LINKED,
     "linked": LINKED,
     **{kind.lower(): LINKED for kind in linked.KINDS},
-    "sof": "a stuck-open cell is no primitive, and no verdict speaks of it",
-    "npsf": "neighbourhoods of cells are no primitives, and no verdict speaks of them",
+    "sof": "a stuck-open cell is no primitive, and there is no verdict on it",
+    "npsf": "neighbourhoods of cells are no primitives, and there is no verdict on them",
     "static": "the 48 static primitives without a pause are 'all'",
     "dynamic": "the dynamic primitives are 'dyn1' and 'dyn2'",
 }

@@ -69,9 +69,10 @@ def read_of(elements: list[Element], memory: Memory, answered: int) -> Read:
     cycle, last = answered - memory.latency, last_command(elements, memory)
     if not 1 <= cycle <= last:
         first, end = 1 + memory.latency, last + memory.latency
-        raise ToolError(f"answers of this test stand on rdata in the cycles {first} to {end}, and not in {answered}")
+        raise ToolError(f"this test has answers on rdata in the cycles {first} to {end}, but not in {answered}")
     span = span_of(elements, memory, cycle)
-    before = f"in cycle {answered} no answer comes: {memory.latency} earlier element {span.number}"
+    earlier = f"{memory.latency} cycle{'s' if memory.latency > 1 else ''} earlier"
+    before = f"no answer comes in cycle {answered}: {earlier} element {span.number}"
     if span.element.is_pause:
         raise ToolError(f"{before} is a pause")
     visit = visit_of(span, memory, cycle)
@@ -116,7 +117,7 @@ def due_lines(elements: list[Element], memory: Memory, cycle: int) -> list[str]:
     """What is due at the ports in a cycle of the test, in words."""
     last = last_command(elements, memory)
     if cycle > last + memory.latency + 1:
-        raise ToolError(f"the cycles of this test are 0 to {last + memory.latency + 1}, and {cycle} is none")
+        raise ToolError(f"this test has the cycles 0 to {last + memory.latency + 1}, but not {cycle}")
     if not 1 <= cycle <= last:
         return ["the reset" if cycle == 0 else "the last answer comes" if cycle <= last + memory.latency else "done"]
     span = span_of(elements, memory, cycle)

@@ -27,7 +27,7 @@ def why_never(verdict: Verdict, elements: list[Element], steps: list[Step]) -> s
         return "its states never hold together"
     if "t" in operations:
         pauses = any(element.is_pause for element in elements)
-        return f"in no pause the cell holds {array.primitive.victim.state}" if pauses else "the march has no pause"
+        return f"the cell never holds {array.primitive.victim.state} in a pause" if pauses else "the march has no pause"
     state = array.senses[array.own_cell()].state
     actor = (
         "the aggressor" if array.actor != array.victim else "the victim" if array.primitive.aggressor else "the cell"
@@ -35,7 +35,7 @@ def why_never(verdict: Verdict, elements: list[Element], steps: list[Step]) -> s
     if not meets_alone(verdict, steps):
         return f"no {operations[0]} comes at {actor} while it holds {state}"
     if len(operations) == 2:
-        return f"{operations[1]} never comes right behind {operations[0]} with its states held before"
+        return f"{operations[1]} never comes right after {operations[0]} with its states held before"
     other = "the victim" if array.actor != array.victim else "the aggressor"
     held = next(part.state for cell, part in array.senses.items() if cell != array.actor)
     return f"{operations[0]} never comes while {other} holds {held}"
@@ -71,6 +71,6 @@ def reason(verdict: Verdict, elements: list[Element]) -> tuple[str, list[Step]]:
     """Why an escape escapes, and its steps."""
     steps = list(verdict.array().march(elements, verdict.directions))
     if steps[-1].differs:
-        return f"is caught in element {steps[-1].element}, and is no escape", steps
+        return f"is caught in element {steps[-1].element}, so it is no escape", steps
     found = hidden(verdict, steps)
     return "; ".join(found) if found else f"never acts: {why_never(verdict, elements, steps)}", steps

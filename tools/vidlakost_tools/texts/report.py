@@ -181,10 +181,10 @@ def read_report(path: Path) -> Report:
         refuse(
             len(lines),
             f"the total says {report.total[0]} primitives, {report.total[1]} covered and {report.total[2]} "
-            f"escapes, and the lines are {counts[0]}, {counts[1]} and {counts[2]}",
+            f"escapes, but the lines have {counts[0]}, {counts[1]} and {counts[2]}",
         )
     if report.classes != classes_of(report.verdicts):
-        refuse(len(lines), "the lines of the classes above are not those of the primitives")
+        refuse(len(lines), "the lines of the classes above do not fit the primitives")
     return report
 
 
@@ -206,11 +206,11 @@ def take_line(report: Report, line: str, is_second: bool) -> str | None:
     elif verdict and not report.classes:
         report.verdicts.append(verdict)
         if len(report.verdicts) > 1024:
-            return "this is the 1,025th primitive, and a list has at most 1,024"
+            return "this is the 1,025th primitive, but a list has at most 1,024"
         try:
             return None if verdict.covered else check_escape(verdict, report.elements)
         except ToolError as error:
             return str(error)
     else:
-        return "the line is none of a report's"
+        return "a report has no such line"
     return None

@@ -142,7 +142,7 @@ function completion(field, into, kind) {
     const told = await ask("complete", { kind, before, after }, signal);
     into.replaceChildren();
     if (told.words.length + told.notes.length === 0) return;
-    into.append(make("span", { class: "soft" }, "here could stand"));
+    into.append(make("span", { class: "soft" }, "expected here:"));
     for (const word of told.words) {
       into.append(make("button", { type: "button", click: () => put(word, told) }, word));
     }
