@@ -1,4 +1,4 @@
-"""What the tools of Vidlakost share: a module for each text, the calls of the program, and what stands beside them."""
+"""What the tools of Vidlakost share: a module for each text, the calls of the program, and what goes with them."""
 import errno
 import os
 import sys

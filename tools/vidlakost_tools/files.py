@@ -10,13 +10,13 @@ from typing import Collection, Iterable
 from vidlakost_tools.text import INPUT_BYTES, LARGE_BYTES, lines_of, read_described, shown
 from vidlakost_tools.tool import ToolError, refuse_inputs, write_all
 
-# what stands in the first line of a file that may be written anew, and where the sum of the file is put
+# the mark in the first line of a file that a tool may write again, and the place of the file's sum there
 OWN = re.compile(r"made by vidlakost [a-z]+")
 SUM = re.compile(r"(made by vidlakost [a-z]+) \(([0-9a-f]{16})\)")
-# where a list of files tells the sum of one that has no such line
+# the sum in a list of files, for a file that has no such line
 LISTED = re.compile(r"// ([A-Za-z0-9_.]+) \(([0-9a-f]{16})\)")
 LIST = "files.f"
-# how a comment stands in a file of each kind
+# how a comment looks in a file of each kind
 COMMENTS = {
     **dict.fromkeys((".v", ".sv", ".hex", ".cpp", ".rdl", ".icl", ".f", ".stil"), "// {}"),
     **dict.fromkeys((".vhd", ".bsdl", ".txt"), "-- {}"),
@@ -27,7 +27,7 @@ COMMENTS = {
 
 
 def marked(tool: str, texts: dict[str, str]) -> dict[str, str]:
-    """The texts, each behind a line that says whose it is."""
+    """The texts, each after a line that says which tool made it."""
     lines = {name: COMMENTS[pathlib.PurePath(name).suffix].format(f"made by vidlakost {tool}") for name in texts}
     return {name: f"{lines[name]}\n{text}" for name, text in texts.items()}
 
@@ -37,14 +37,14 @@ def sum_of(text: str) -> str:
 
 
 def summed(text: str) -> str:
-    """The text with its sum in the first line, where that says whose it is."""
+    """The text with its sum in the first line, if that line says which tool made it."""
     head, line, rest = text.partition("\n")
     return OWN.sub(lambda match: f"{match[0]} ({sum_of(text)})", head, count=1) + line + rest
 
 
 def is_own(path: pathlib.Path) -> bool:
-    """Whether a tool wrote a file, and nobody changed it since: it has its own sum, or the list beside it tells it.
-    A pipe or a device is nobody's, and is not read, which might not end."""
+    """Whether a tool wrote a file and nobody changed it since: its own first line or the list beside it has its sum. A
+    pipe or a device is nobody's. It is not read, since that might never end."""
     if not path.is_file() or path.stat().st_size > LARGE_BYTES:
         return False
     text = read_described(path, LARGE_BYTES)
@@ -60,7 +60,7 @@ def is_own(path: pathlib.Path) -> bool:
 
 
 def refuse_twins(names: Collection[str]) -> None:
-    """Refuses two names that differ in case alone, of which a file system may keep one."""
+    """Refuses two names that differ only in case, since a file system may keep only one of them."""
     lower = [name.lower() for name in names]
     twice = next((name for name in names if lower.count(name.lower()) > 1), None)
     if twice:
@@ -84,8 +84,8 @@ def refuse_no_folder(folder: pathlib.Path) -> None:
 
 
 def look_first(folder: pathlib.Path, name: str, head: str) -> None:
-    """Refuses what `write_own` would of a file, before its text is made; a text that begins with this head may be one
-    of an older version."""
+    """Refuses a file that `write_own` would refuse, before its text is made. A text that begins with this head may be
+    one of an older version."""
     refuse_no_folder(folder)
     path = folder / name
     if not is_plain(path) or not read_described(path, LARGE_BYTES).startswith(head):
@@ -98,7 +98,7 @@ def begins(text: str) -> str:
 
 
 def refuse_another_list(folder: pathlib.Path, text: str) -> None:
-    """Refuses to write over the list of something else, whose testbench would then have none."""
+    """Refuses to write over the list of another testbench, which would lose it."""
     path = folder / LIST
     first = begins(read_described(path)) if path.is_file() and path.stat().st_size <= INPUT_BYTES else ""
     if first not in ("", begins(text)):
@@ -111,15 +111,16 @@ def is_plain(path: pathlib.Path) -> bool:
 
 
 def is_unmarked(path: pathlib.Path, text: str) -> bool:
-    """Whether a file holds what is to be written but for the line that says whose it is, as older versions wrote it."""
+    """Whether a file has the text to write, apart from the line that says which tool made it. Older versions wrote
+    files so."""
     head, _, rest = text.partition("\n")
     return OWN.search(head) is not None and is_plain(path) and read_described(path, LARGE_BYTES) == rest
 
 
 def write_own(folder: pathlib.Path, texts: dict[str, str], inputs: list[str], told: list[str] | None = None) -> None:
-    """Writes files that may be written anew where nobody changed them, all of them or none, and no one over an input.
-    Those without a line that says whose they are are told with their sums in the list beside them. Only then it says
-    their names, or those in `told`: who closes the pipe behind the first line has them all."""
+    """Writes all of these files or none, and none over an input. It replaces a file only if nobody changed it. The list
+    beside the files has the sums of those without a first line that says which tool made them. Only after that it
+    prints the names of the files, or those in `told`: whoever closes the pipe after the first line has all files."""
     refuse_no_folder(folder)
     for name in texts:
         refuse_inputs(str(folder / name), [("what is read", given) for given in inputs])

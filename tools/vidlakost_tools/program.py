@@ -1,4 +1,4 @@
-"""The program: which one answers, its commands as tools/commands.txt and docs/FORMATS.md tell them, and calls of it."""
+"""Which program answers, its commands by tools/commands.txt and docs/FORMATS.md, and calls of it."""
 from __future__ import annotations
 
 import dataclasses
@@ -14,7 +14,7 @@ from vidlakost_tools.text import LARGE_BYTES, Path, lines_of, read_described, re
 from vidlakost_tools.tool import Refused, ToolError
 
 ROOT = pathlib.Path(__file__).resolve().parent.parent.parent
-# what stands in RELEASE where the program of a release is not known to be proved
+# the line in RELEASE if the program of a release is not known to be proved
 UNPROVED = "\nunproved"
 
 
@@ -27,7 +27,7 @@ PROGRAM = as_file(os.environ.get("VIDLAKOST") or str(ROOT / "vidlakost"))
 FORMATS = ROOT / "docs" / "FORMATS.md"
 COMMANDS = ROOT / "tools" / "commands.txt"
 Answer = TypeVar("Answer")
-# how long a call may take; without a bound where nothing is said
+# how long a call may take; None is without a bound
 SECONDS: float | None = None
 
 
@@ -102,15 +102,15 @@ def version() -> tuple[str, str, str]:
 
 
 def of_git(*words: str) -> str:
-    """What git says of this checkout; nothing where there is none."""
+    """What git says of this checkout; an empty text without one."""
     call = ["git", "-C", str(ROOT), *words]
     done = subprocess.run(call, stdout=subprocess.PIPE, stderr=subprocess.DEVNULL, text=True, check=False)
     return done.stdout.strip()
 
 
 def tagged(described: str) -> str:
-    """The version by the newest tag below, as `git describe --long` tells it: v1.2 itself is 1.2, and 1.2+3.gabc0123
-    is three commits further."""
+    """The version by the newest tag below, from `git describe --long`: v1.2 itself is 1.2, and 1.2+3.gabc0123 is three
+    commits further."""
     found = re.fullmatch(r"v(.+)-(\d+)-(g[0-9a-f]+)", described)
     if not found:
         return ""
@@ -118,7 +118,8 @@ def tagged(described: str) -> str:
 
 
 def quick_program() -> str | None:
-    """A program that answers in milliseconds: the one that is named, or the proved one that the launcher takes."""
+    """A program that answers in milliseconds: the one that the environment names, or the proved one that the launcher
+    takes."""
     named = as_file(os.environ.get("VIDLAKOST_PROGRAM") or os.environ.get("VIDLAKOST") or PROGRAM)
     launcher = ROOT / "vidlakost"
     if not (os.path.exists(named) and os.path.samefile(named, launcher)):
@@ -130,8 +131,8 @@ def quick_program() -> str | None:
 
 
 def settle(seconds: float) -> str | None:
-    """For a tool that asks many times: looks up once which program answers at once (None: there is none, and the
-    launcher answers unproved), asks it without the launcher from now on, and bounds the time of each call."""
+    """For a tool with many calls. It looks up once which program answers at once; without one (None) the launcher gives
+    unproved answers. From then on calls go without the launcher, and each has a time limit."""
     global PROGRAM, SECONDS
     quick = quick_program()
     if quick:
@@ -141,7 +142,7 @@ def settle(seconds: float) -> str | None:
 
 
 def sum_of_sources() -> str:
-    """The sum of the sources that are proved, as the launcher takes it."""
+    """The sum of the proved sources, as the launcher computes it."""
     done = subprocess.run(
         [ROOT / "vidlakost", "--sources"], stdout=subprocess.PIPE, stderr=subprocess.DEVNULL, text=True, check=False
     )
@@ -149,8 +150,8 @@ def sum_of_sources() -> str:
 
 
 def proof_of(program: Path) -> str | None:
-    """The line of the kit that proved a program of the sources that are here, as the file `kit` beside it tells, which
-    its proof left; None where nothing says that it was."""
+    """The line of the kit that proved a program from the present sources. The file `kit` beside the program has it,
+    which its proof left. None if nothing says so."""
     path = pathlib.Path(program)
     kept = path.with_name("kit")
     told = lines_of(read_described(kept)) if kept.is_file() and path.is_file() else []
@@ -164,8 +165,8 @@ def proof_of(program: Path) -> str | None:
 
 
 def is_proved(program: str | None, named: bool) -> bool:
-    """Whether a program is known to be proved: the launcher takes no other by itself; of one that was named its proof
-    has left the file `kit` beside it, or it is a release's own."""
+    """Whether a program is known to be proved. The launcher takes no other by itself. A named program is proved if its
+    proof left the file `kit` beside it, or if it belongs to a release."""
     release = ROOT / "RELEASE"
     own = ROOT / "libexec" / "vidlakost"
     if release.exists() and (not named or program is not None and pathlib.Path(program).resolve() == own.resolve()):
@@ -176,7 +177,7 @@ def is_proved(program: str | None, named: bool) -> bool:
 def run(*words: object) -> tuple[int, str]:
     """The program's status and its line for these words."""
     quiet = {**os.environ, "VIDLAKOST_EXPLAIN": "0"}
-    # that answers are unproved is told once a tool
+    # a tool says once that answers are unproved
     os.environ.setdefault("VIDLAKOST_UNPROVED", "told")
     try:
         done = subprocess.run(
@@ -196,7 +197,7 @@ def run(*words: object) -> tuple[int, str]:
 
 
 def ask(*words: object) -> str:
-    """The line of a call that is done; a refusal is handed on."""
+    """The line of a finished call; a refusal becomes an exception."""
     status, said = run(*words)
     if status > 1 or status < 0:
         raise Refused([str(word) for word in words], said, status)
@@ -204,7 +205,7 @@ def ask(*words: object) -> str:
 
 
 def with_text(text: str, use: Callable[[pathlib.Path], Answer]) -> Answer:
-    """What `use` answers of a file that holds the text for as long as the call takes."""
+    """What `use` answers for a file that holds the text during the call."""
     with tempfile.TemporaryDirectory() as folder:
         path = pathlib.Path(folder) / "text"
         path.write_text(text, encoding="utf-8")
@@ -212,8 +213,8 @@ def with_text(text: str, use: Callable[[pathlib.Path], Answer]) -> Answer:
 
 
 def take_module(path: Path, text: str) -> None:
-    """Hands on what the program refuses of the module of a file. One that it takes, with or without full parentheses,
-    it has read when it misses the march behind it."""
+    """Raises what the program refuses in the module of a file. If it accepts the module, with or without full
+    parentheses, its next complaint is the missing march."""
 
     def ask_both(copy: pathlib.Path) -> None:
         missing = [copy.with_name(name) for name in ("march", "memory")]
@@ -226,7 +227,7 @@ def take_module(path: Path, text: str) -> None:
 
 
 def vectors_of(march: Path, memory: Path) -> list[str]:
-    """The lines of `vectors`; a march or a memory that is refused is told."""
+    """The lines of `vectors`; a refused march or memory becomes an exception."""
     with tempfile.TemporaryDirectory() as folder:
         path = pathlib.Path(folder) / "vectors"
         ask("vectors", march, memory, path)

@@ -8,7 +8,7 @@ from vidlakost_tools.program import ROOT, command_table
 from vidlakost_tools.text import read_text
 
 TOOLS = ROOT / "tools"
-# names that a tool had before
+# old names of tools, by the old name
 OLD = {"replay": "trace"}
 TASKS = {
     "To begin with": ["judge", "compile", "bench", "show", "explain"],
@@ -59,7 +59,7 @@ def doc_of(tool: str) -> str:
 
 
 def line_of(name: str) -> str:
-    """What a command or a tool is for, in a line. Of a tool its own first sentence says it."""
+    """What a command or a tool is for, in a line. For a tool this is the first sentence of its head."""
     purpose = next((command.purpose for command in command_table() if command.name == name), None)
     if purpose is not None:
         return purpose
@@ -68,7 +68,7 @@ def line_of(name: str) -> str:
 
 
 def by_task() -> list[tuple[str, list[str]]]:
-    """The names of all commands and tools that are here; what no task names comes last."""
+    """The names of all commands and tools that are here. Those that no task names come last."""
     known = [*(command.name for command in command_table()), *tools()]
     listed = [(title, [name for name in names if name in known]) for title, names in TASKS.items()]
     named = {name for _, names in listed for name in names}

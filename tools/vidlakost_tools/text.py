@@ -12,14 +12,13 @@ from typing import Iterator, Union
 Path = Union[str, "os.PathLike[str]"]
 
 
-# how many bytes of an input are read: as the program of its own inputs; of sources and models; and of what Yosys or a
-# line after the other is to read, or what tools have written
+# the most bytes that a tool reads: of an input, as the program does; of sources and models; and of a text that Yosys
+# reads, that a tool reads line by line, or that tools wrote
 INPUT_BYTES, SOURCE_BYTES, LARGE_BYTES = 1 << 20, 1 << 24, 1 << 26
 
 
 def read_bytes(path: Path, most: int = INPUT_BYTES) -> bytes:
-    """What a file holds. One that is longer, or a device that never ends, is told by `start`, as are a folder and a
-    missing file."""
+    """The bytes of a file. `start` reports one that is longer or never ends, a folder and a missing file."""
     with open(path, "rb") as file:
         content = file.read(most + 1)
     if len(content) > most:
@@ -28,18 +27,17 @@ def read_bytes(path: Path, most: int = INPUT_BYTES) -> bytes:
 
 
 def read_text(path: Path, most: int = INPUT_BYTES) -> str:
-    """A file's text, byte for byte: a carriage return in it stays one. Bytes that are no text are told by `start`."""
+    """A file's text, byte for byte: a carriage return in it stays one. `start` reports bytes that are not UTF-8."""
     return read_bytes(path, most).decode("utf-8")
 
 
 def read_described(path: Path, most: int = INPUT_BYTES) -> str:
-    """The same of a text whose comments may hold any bytes, as those of memories and chips."""
+    """The same for a text whose comments may hold any bytes, as those of memories and chips."""
     return read_bytes(path, most).decode("utf-8", "replace")
 
 
 def stream(path: Path, most: int) -> Iterator[str]:
-    """The lines of a long text one by one, each without its line feed but the last, which has none if the text ends
-    without it; a line is one of an input at most."""
+    """The lines of a long text one by one, with their line feeds. A line is at most as long as an input."""
     left = most
     with open(path, "rb") as file:
         while True:
@@ -59,7 +57,7 @@ def lines_of(text: str) -> list[str]:
     return lines[:-1] if lines[-1] == "" else lines
 
 
-# what of a text separates words: a space, a tab or a carriage return
+# what separates words: a space, a tab or a carriage return
 BLANKS = " \t\r"
 
 
@@ -69,7 +67,7 @@ def words_in(line: str) -> list[str]:
 
 
 def statements(text: str) -> list[tuple[int, str, str]]:
-    """Of each line of a description that says something its number, its first word and the rest."""
+    """For each line of a description that is not empty: its number, its first word and the rest."""
     found = []
     for count, line in enumerate(lines_of(text), 1):
         words = words_in(line)
@@ -78,35 +76,35 @@ def statements(text: str) -> list[tuple[int, str, str]]:
     return found
 
 
-# how much of a text a message quotes, and how long a line of one is
+# how much of a text a message quotes, and how long a line of a message is
 QUOTED, LONGEST = 200, 500
 
 
 def shown(text: str) -> str:
-    """A text in quotes with what a terminal would obey made visible; of a long one its begin."""
+    """A text in quotes, shortened at its end if it is long. Characters that a terminal would obey become visible."""
     return "'" + visible(text[:QUOTED]) + ("'.." if len(text) > QUOTED else "'")
 
 
 def visible(text: str) -> str:
-    """A text without what a terminal would obey: each such character as its number."""
+    """A text in which each character that a terminal would obey is replaced by its number."""
     return "".join(letter if letter.isprintable() else f"\\x{ord(letter):02x}" for letter in text)
 
 
 def cut(line: str) -> str:
-    """A line of a message; of a long one its begin and its end."""
+    """A line of a message; a long one is shortened in its middle."""
     return line if len(line) <= LONGEST else f"{line[: LONGEST - 100]} .. {line[-90:]}"
 
 
 def harmless(text: str) -> str:
-    """The lines of an answer without what a terminal would obey. Bytes that are no text, as in the name of a folder,
-    stay as they came."""
+    """The lines of an answer, with nothing that a terminal would obey. Bytes that are not UTF-8, as in the name of a
+    folder, stay as they came."""
     if text.replace("\n", "").replace("\t", "").isprintable():
         return text
     return "".join(letter if letter in "\n\t" or "\udc80" <= letter <= "\udcff" else visible(letter) for letter in text)
 
 
 class Template(string.Template):
-    """A text with `@@{NAME}` for what is filled in: a `$` and a brace are those of its language."""
+    """A text with `@@{NAME}` for each part to fill in. A `$` or a brace belongs to the text."""
 
     delimiter = "@@"
 

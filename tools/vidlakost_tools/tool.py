@@ -23,13 +23,13 @@ from typing import Any, Callable, Iterable, Iterator, Mapping, NoReturn, Sequenc
 from vidlakost_tools.text import Path, cut, harmless, shown, visible
 
 
-# what is begun beside a file, by a tool or by the program, and for how long it may be somebody's who still runs
+# temporary files of a tool or of the program, and how long their owner may still run
 LEFT = re.compile(r"\.vidlakost-(?:[a-z0-9_]{8}|[0-9]{19})")
 LEFT_SECONDS = 3600
 
 
 class ToolError(Exception):
-    """What a tool says of wrong words or files, and the status that it ends with."""
+    """What a tool says about wrong words or files, and the status that it ends with."""
 
     def __init__(self, message: str, status: int = 2):
         super().__init__(message)
@@ -50,19 +50,19 @@ def usage_of(doc: str | None) -> str:
     return found[0] if found else doc or ""
 
 
-# what a word with one dash has in front while the words are read
+# a mark in front of each word with one dash, while argparse reads the words
 PLAIN = "\0"
 
 
 def plain(value: Any) -> Any:
-    """A word, or some, as they came."""
+    """A word or a list of words without that mark."""
     if isinstance(value, list):
         return [plain(one) for one in value]
     return value[len(PLAIN) :] if isinstance(value, str) and value.startswith(PLAIN) else value
 
 
 class Words(argparse.ArgumentParser):
-    """The words of a call and its options; what is wrong with them is a `ToolError` that shows the usage."""
+    """The words of a call and its options. Wrong ones become a `ToolError` that shows the usage."""
 
     def __init__(self, doc: str, allowed: Mapping[str, int | list[str]]):
         super().__init__(add_help=False, allow_abbrev=False, argument_default=argparse.SUPPRESS)
@@ -92,13 +92,13 @@ def words_of(
     least: int = 0,
     most: int | None = None,
 ) -> tuple[list[str], dict[str, Any]]:
-    """The words of a call and its options. `allowed` gives of each option how many words it takes, a list where it may
-    come many times; `--help` prints the description."""
+    """The words of a call and its options. `allowed` has for each option how many words it takes, or a list if it may
+    come many times. `--help` prints the description."""
     doc = doc or ""
     if "--help" in arguments or [*arguments] == ["-h"]:
         print(doc.strip())
         raise SystemExit(0)
-    # a word with one dash is a word, and no option
+    # a word with one dash is a word, not an option
     kept = [f"{PLAIN}{word}" if word.startswith("-") and not word.startswith("--") else word for word in arguments]
     found, unknown = Words(doc, allowed or {}).parse_known_intermixed_args(kept)
     if unknown:
@@ -111,7 +111,7 @@ def words_of(
 
 
 class Answers:
-    """Standard output, on which nothing is said that a terminal would obey."""
+    """Standard output that prints nothing that a terminal would obey."""
 
     def __init__(self, inner: TextIO):
         self.inner = inner
@@ -124,7 +124,7 @@ class Answers:
 
 
 def command(name: str, *before: str) -> None:
-    """Runs the tool of this name with the words of the call, and some before them."""
+    """Runs the tool of this name with the words `before` and those of the call."""
 
     def main() -> int | None:
         tool = importlib.import_module(f"vidlakost_tools.commands.{name}")
@@ -142,7 +142,7 @@ def start(main: Callable[[], int | None]) -> None:
     for number in (signal.SIGTERM, signal.SIGHUP):
         if signal.getsignal(number) == signal.SIG_DFL:
             signal.signal(number, stop)
-    # what came as bytes that are no text, as the name of a folder, goes out as it came
+    # bytes that are not UTF-8, as in the name of a folder, go out as they came
     if isinstance(sys.stdout, io.TextIOWrapper):
         sys.stdout.reconfigure(encoding="utf-8", errors="surrogateescape")
     sys.stdout = cast(TextIO, Answers(sys.stdout))
@@ -158,7 +158,7 @@ def start(main: Callable[[], int | None]) -> None:
         tell(f"{name}: {error}")
         sys.exit(error.status)
     except BrokenPipeError:
-        # nobody reads any more, which is no failure of the tool; nothing more may be written at exit
+        # nobody reads any more: that is no failure of the tool, and nothing more may be written at exit
         os.dup2(os.open(os.devnull, os.O_WRONLY), 1)
         os._exit(141)
     except UnicodeError as error:
@@ -178,26 +178,26 @@ def start(main: Callable[[], int | None]) -> None:
 
 
 def no_text(error: UnicodeError) -> str:
-    """What is said of bytes that are no text: those of a file that is read, or of a name that is to be written."""
+    """The message about bytes that are not UTF-8: in a file that is read, or in a name that is to be written."""
     if isinstance(error, UnicodeDecodeError):
         return f"a file is not UTF-8: {error.reason} at byte {error.start}"
     return "a name that is not UTF-8 would be in what is written"
 
 
 def stop(number: int, frame: object) -> None:
-    """Ends a tool by a signal, so that what it began ends with it, and its own files are removed."""
+    """Ends a tool after a signal. Its own processes end too, and its temporary files are removed."""
     raise SystemExit(128 + number)
 
 
 def leave(status: int) -> None:
-    """Ends with this status, whether or not what is still to be written can be."""
+    """Ends with this status, even if the rest of the output can't be written."""
     os.dup2(os.open(os.devnull, os.O_WRONLY), 1)
     os._exit(status)
 
 
 @contextlib.contextmanager
 def telling(what: str, how_far: Callable[[], str] | None = None) -> Iterator[None]:
-    """Says each ten seconds what is being done and how far it is, for as long as it takes."""
+    """Says every ten seconds what the tool is doing, how far it is, and for how long it runs."""
     is_over, name = threading.Event(), pathlib.Path(sys.argv[0]).name
 
     def tell_on() -> None:
@@ -217,7 +217,7 @@ def telling(what: str, how_far: Callable[[], str] | None = None) -> Iterator[Non
 
 
 def progress(cycles: Iterable[int], what: str) -> Iterator[int]:
-    """The cycles, one after another, and each ten seconds the one at which it is."""
+    """The cycles, one after another. Every ten seconds it says which one it is at."""
     at = 0
     with telling(what, lambda: f"cycle {at}"):
         for at in cycles:
@@ -225,8 +225,8 @@ def progress(cycles: Iterable[int], what: str) -> Iterator[int]:
 
 
 def tell(line: str) -> None:
-    """Says something on standard error; of what a terminal would obey only the number is shown, and long lines are
-    cut."""
+    """Prints a message on standard error. Characters that a terminal would obey become their numbers, and long lines
+    are cut."""
     if sys.stderr is None:
         return
     try:
@@ -252,7 +252,7 @@ def number_of(text: str, what: str, least: int = 0) -> int:
 
 
 def identifier(name: str, what: str = "the name") -> str:
-    """A name that is about to become a part of a path or of a Verilog text: a plain one, whatever was read."""
+    """A name for a part of a path or of a Verilog text; anything but a simple identifier is refused."""
     if not re.fullmatch("[A-Za-z_][A-Za-z0-9_$]{0,63}", name):
         raise ToolError(f"{what} is a simple identifier of Verilog of at most 64 bytes, and not {shown(name)}")
     return name
@@ -269,13 +269,14 @@ def refuse_inputs(target: str | None, inputs: list[tuple[str, str]]) -> None:
 
 
 def write_whole(target: Path, text: str) -> None:
-    """Writes a text to a file, so that a full disk or a kill leaves what stood there. A device is written as it is."""
+    """Writes a text to a file. After a full disk or a kill the file still has its old text. A device is written
+    directly."""
     write_all({pathlib.Path(target): text})
 
 
 def write_all(texts: Mapping[pathlib.Path, str], keeps_names: bool = True) -> None:
-    """Writes several files: none takes its place before the texts of all are on the disk. What is no plain file and a
-    link are written as they are, and so is a file with several names, unless the other names are to keep the old
+    """Writes several files; each takes its place only when the texts of all are on the disk. Links and what is not a
+    plain file are written directly. So is a file with several names, unless the other names are to keep the old
     text."""
     staged: dict[pathlib.Path, str] = {}
     as_they_are = [path for path in texts if is_written_as_it_is(path, keeps_names)]
@@ -290,7 +291,7 @@ def write_all(texts: Mapping[pathlib.Path, str], keeps_names: bool = True) -> No
             del staged[path]
     finally:
         for name in staged.values():
-            # a signal may have come right behind the renaming
+            # a signal may have come right after the renaming
             with contextlib.suppress(FileNotFoundError):
                 os.unlink(name)
 
@@ -300,8 +301,7 @@ def is_written_as_it_is(path: pathlib.Path, keeps_names: bool) -> bool:
 
 
 def sweep(folder: pathlib.Path) -> None:
-    """Removes what a tool or a program that was killed left in a folder: the caller's own, and more than an hour
-    old."""
+    """Removes what a killed tool or program left in a folder: only the caller's own files, and only after an hour."""
     for path in folder.glob(".vidlakost-*"):
         with contextlib.suppress(OSError):
             found = path.lstat()
@@ -311,7 +311,7 @@ def sweep(folder: pathlib.Path) -> None:
 
 
 def beside(path: pathlib.Path, text: str) -> str:
-    """The name of a new file beside another, which has the text and the other's permissions."""
+    """Makes a new file beside another, with the text and the other's permissions, and returns its name."""
     sweep(path.parent)
     before = path.stat() if path.exists() else None
     if before is not None and not os.access(path, os.W_OK):
@@ -333,8 +333,9 @@ def beside(path: pathlib.Path, text: str) -> str:
 
 
 def permissions(before: os.stat_result | None, group: int) -> int:
-    """Those of a new file of this group: where it takes the place of another, what that had; but of one of another
-    group the group and others get what both had, since who was kept out by the one could come in by the other."""
+    """The permissions of a new file of this group. If it replaces a file, it gets the permissions of that one. If the
+    file had another group, the new group and others get only what both had. Else somebody whom the one kept out could
+    come in by the other."""
     if before is None:
         umask = os.umask(0)
         os.umask(umask)

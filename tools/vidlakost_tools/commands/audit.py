@@ -110,7 +110,7 @@ def verdict_of(audit: Audit) -> tuple[str, int]:
 
 
 def is_otherwise(audit: Audit, plain: Plain) -> bool:
-    """Whether there is a warning that a simulator reads the sources otherwise, and none was asked."""
+    """Whether Yosys warns that a simulator reads the sources otherwise, and the call has no --simulate."""
     return "--simulate" not in audit.options and any("; a simulator " in warning for warning in plain.warnings)
 
 

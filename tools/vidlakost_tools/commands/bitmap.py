@@ -85,7 +85,7 @@ def picture(cells: Counter[tuple[int, int]], memory: Memory, mux: int, shape: st
 
 
 def lines_of_cells(cells: Counter[tuple[int, int]], memory: Memory, mux: int) -> Iterator[tuple[int, ...]]:
-    """Of each cell row, column, index, address, bit and count."""
+    """For each cell: row, column, index, address, bit and count."""
     for (index, bit), count in sorted(cells.items(), key=lambda item: (place_of(item[0][0], item[0][1], mux), item[0])):
         row, column = place_of(index, bit, mux)
         yield row, column, index, memory.address_of(index), bit, count

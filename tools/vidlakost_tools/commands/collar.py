@@ -78,7 +78,7 @@ from vidlakost_tools.tool import ToolError, tell, usage_of, words_of
 
 
 def kind_of(options: dict[str, str]) -> str:
-    """Where the self-test stands."""
+    """Where the self-test is: in the collar, outside of it, or behind a port of `vidlakost access`."""
     if "--through" not in options:
         return "open" if "--open" in options else "bist"
     if "--open" in options:
@@ -89,7 +89,7 @@ def kind_of(options: dict[str, str]) -> str:
 
 
 def texts_of(macro: Macro, word: Word, kind: str, vendor: str | None) -> dict[str, str]:
-    """The files by their names, the model of the macro among them where the vendor's is not named."""
+    """The files by name. They include the model of the macro, unless the call names the vendor's."""
     name = word.name
     made = {f"{name}_collar.v": collar(macro, word, kind)}
     if kind == "bist":

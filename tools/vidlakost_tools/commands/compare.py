@@ -31,8 +31,8 @@ from vidlakost_tools.tool import words_of
 
 @dataclasses.dataclass
 class Judged:
-    """What is said of a march: of the list, and of the address decoder and linked faults, which play no part inside a
-    word."""
+    """The answers for a march: its report on the list, and its verdicts on the address decoder and on linked faults.
+    These two play no part inside a word."""
 
     report: Union[Report, InWordReport]
     decoder: Optional[DecoderReport] = None
@@ -44,7 +44,7 @@ class Judged:
 
 
 def names_of(words: list[str]) -> list[str]:
-    """A short name for each march: its file's, where these are different."""
+    """A short name for each march: that of its file, if these names differ."""
     short = [pathlib.Path(word).stem for word in words]
     return short if len(set(short)) == len(short) else words
 
@@ -63,7 +63,7 @@ def table(names: list[str], marches: list[Judged]) -> Iterator[str]:
 
 
 def differing(names: list[str], marches: list[Judged]) -> Iterator[tuple[str, str, list[str]]]:
-    """Of each primitive or fault that some cover and some don't its class, its text and the names of those that cover
+    """For each primitive or fault that only some cover: its class, its text, and the names of the marches that cover
     it."""
     seen = set()
     for verdicts in zip(*(march.verdicts for march in marches)):

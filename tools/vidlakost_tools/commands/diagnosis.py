@@ -33,7 +33,7 @@ from vidlakost_tools.texts.march import Element, march_of
 from vidlakost_tools.texts.memory import Memory
 from vidlakost_tools.tool import number_of, telling, words_of
 
-# how many of the marches that tell candidates apart are named
+# how many of the marches that separate candidates are named
 NAMED = 3
 
 
@@ -44,7 +44,7 @@ def lines_of(candidate: Candidate) -> str:
 
 
 def marches_of(names: list[str]) -> list[tuple[str, list[Element]]]:
-    """The marches that may be run next; one that is not accepted is refused."""
+    """The marches that may run next; a wrong one is refused."""
     paths = [pathlib.Path(name) for name in names] or sorted(MARCHES.glob("*.m"))
     return [(path.stem, march_of(path)[1]) for path in paths]
 
@@ -62,7 +62,7 @@ def told(answer: Answer) -> Iterator[str]:
 
 
 def told_further(found: list[Further], count: int) -> Iterator[str]:
-    """Which marches tell most candidates apart."""
+    """The marches that separate the candidates best."""
     best = sorted(found, key=lambda one: (-one.groups, one.largest))
     if not best or best[0].groups < 2:
         yield f"no march separates the {count} candidates"
@@ -72,7 +72,7 @@ def told_further(found: list[Further], count: int) -> Iterator[str]:
 
 
 def next_march(candidates: list[Candidate], options: dict[str, Any], memory: Memory) -> list[str]:
-    """What further marches tell apart of more than one candidate."""
+    """How further marches separate the candidates, if there are several."""
     if len(candidates) < 2:
         return []
     marches = marches_of(options.get("--with", []))

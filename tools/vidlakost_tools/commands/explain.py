@@ -60,7 +60,7 @@ def rows(header: str) -> Iterator[list[str]]:
 
 
 def meanings() -> Iterator[tuple[str, str, str]]:
-    """The form of each line that is no answer, and when it comes."""
+    """The form of each line that refuses, and when it comes."""
     for form, when, *example in rows("Refusal"):
         yield plain(form), plain(when), plain(example[0]) if example and example[0] else ""
     for status, forms, when in rows("Status"):
@@ -75,7 +75,7 @@ def pattern(form: str) -> str:
 
 
 def refusals(words: str) -> Iterator[str]:
-    """The refusals that a line, its beginning or its code alone names."""
+    """The refusals that fit a line, its beginning or its code alone."""
     for form, when, example in meanings():
         code = next((part for part in form.split() if re.fullmatch(r"[A-Z]\d+", part)), None)
         if form.startswith(words) or re.fullmatch(pattern(form), words) or words == code:
@@ -83,7 +83,7 @@ def refusals(words: str) -> Iterator[str]:
 
 
 def answers(words: str) -> Iterator[str]:
-    """The answers that a line or its beginning names, of the commands that have a table of them."""
+    """The answers that fit a line or its beginning, for the commands that have a table of answers."""
     for form, status, tells in rows("Line | Status"):
         if plain(form).startswith(words) or re.fullmatch(pattern(plain(form)), words):
             yield f"{plain(form)}\n    status {status}: {plain(tells)}"
@@ -113,7 +113,7 @@ def link_kinds(word: str) -> Iterator[str]:
 
 
 def literature(word: str) -> Iterator[str]:
-    """What stands here for a name of the literature."""
+    """The meaning of a name from the literature, in the words of FORMATS."""
     meaning, meant = old_names.meaning_of(word), old_names.class_of(word)
     if meaning is not None:
         yield f"{word}\n    {plain(meaning)}"
@@ -127,7 +127,7 @@ def statuses(word: str) -> Iterator[str]:
         if status == word:
             yield f"status {status}: {plain(forms)}\n    {plain(when)}"
     if word in ("16", "125"):
-        # these have no line, so they stand below the table
+        # these have no line, so the page has them below the table
         below = read_text(FORMATS).split("Status 16 is the program's alone", 1)[1].split("\n")[0]
         said = re.split(r"(?<=\.) (?=The launcher)", f"Status 16 is the program's alone{below}")
         yield f"status {word}\n    {plain(said[0] if word == '16' else said[-1])}"

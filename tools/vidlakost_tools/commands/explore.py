@@ -60,14 +60,15 @@ def server_of(words: list[str], port: int, searches: Searches) -> Explorer:
 
 
 def open_in_browser(address: str, folder: pathlib.Path) -> None:
-    """Opens the page by a file that leads to it, which only its owner can read: the words of a call everybody can."""
+    """Opens the page by a file that leads to it, which only its owner can read. Everybody can read the words of a
+    call."""
     path = folder / "explore.html"
     with os.fdopen(os.open(path, os.O_WRONLY | os.O_CREAT | os.O_EXCL, 0o600), "w", encoding="utf-8") as file:
         file.write(f'<!DOCTYPE html>\n<meta http-equiv="refresh" content="0; url={html.escape(address)}">\n')
     if not webbrowser.open(path.as_uri()):
         tell("explore: there is no browser to open; use the address above")
     timer = threading.Timer(OPENED_SECONDS, lambda: path.unlink() if path.exists() else None)
-    # which doesn't hold up the end
+    # which doesn't delay the end
     timer.daemon = True
     timer.start()
 

@@ -39,7 +39,7 @@ from vidlakost_tools.verilog.model_checker import differs_within
 from vidlakost_tools.verilog.port_judge import Cycle
 from vidlakost_tools.verilog.replayed import Case
 
-# so many cycles more where resets may come at any time
+# so many more cycles, if resets may come at any time
 AFTER = 8
 C = "{any(w0);up(r0,w1);up(r1,w0);down(r0,w1);down(r1,w0);any(r0)}"
 CASES = [
@@ -65,7 +65,7 @@ CASES = [
     ("{any(w0);up(r0)}", "memory 2\nname k\nwords 4\nbits 8\npolarity a5\nlatency 1\n"),
     ("{up(w0);up(r0,w1,r1,w0,r0,w1);v(r1)}", "memory 1\nname l\nwords 3\nbits 4\nbackgrounds 0 5\n"),
 ]
-# a march and a memory with all of a module's parts, and places of its text with something wrong in their stead
+# a march and a memory whose module has all parts, and places in its text with a wrong text for each
 WRONG_CASE = CASES[7]
 WRONG = [
     ("done comes a cycle early", r"done = \(reset \? 1'h0 : over2\)", "done = (reset ? 1'h0 : over1)"),
@@ -101,7 +101,7 @@ WRONG = [
     ("a write is a read", r"we = write", "we = 1'h0"),
     ("en depends on a bit that is not there", r"1'h0 : live\);", "1'h0 : (live && !want[{1'b1, back}]));"),
 ]
-# the same, where no run of cycles shows it and the module is refused by these words
+# the same, but no run of cycles shows these: the module is refused, with these words
 REFUSED = [
     ("the falling edge counts", "posedge clk", "negedge clk", "takes at the falling edge of clk"),
     ("a port is too wide", "output we", "output [1:0] we", "has the ports output we of 1 bit"),
@@ -140,7 +140,7 @@ class Asked:
         return differs_within(steps, self.begin, self.folder, more=more)
 
     def first(self, cycle: int, pins: Pins | None) -> int:
-        """The first cycle of all that differs, where one does; it takes some further runs."""
+        """The first cycle that differs, if there is one; this takes some further runs."""
         least = 0
         while least < cycle:
             middle = (least + cycle) // 2
@@ -150,8 +150,8 @@ class Asked:
 
 
 def is_replayed(asked: Asked, plain: Plain, cycle: int) -> bool:
-    """Whether a port of the module differs in a cycle where it is clocked by itself, in a case that the model checker
-    has of the module as a text of the subset."""
+    """Whether a port differs in a cycle when plain Python clocks the module, as a text of the subset, in the case that
+    the model checker found."""
     (asked.folder / "plain.v").write_text(plain.text(), encoding="utf-8")
     begin = f"read_verilog {yosys.quoted(asked.folder / 'plain.v')}\nproc -noopt -norom\n{yosys.OPEN}"
     case = dataclasses.replace(asked, begin=begin, module=plain.name).differs(
@@ -166,7 +166,7 @@ def is_replayed(asked: Asked, plain: Plain, cycle: int) -> bool:
 def judge(
     files: Sequence[Path], march: Path, memory_file: Path, options: dict[str, Any] | None = None, first: bool = True
 ) -> str | None:
-    """Where a module differs from what the list of its commands says; None where it nowhere does."""
+    """Where a module differs from the list of its commands; None if it differs nowhere."""
     memory, cycles = port_judge.cycles_of(march, memory_file)
     options = options or {}
     with tempfile.TemporaryDirectory() as name:
@@ -218,7 +218,7 @@ def judge_case(
 
 
 def judge_cases(cases: list[tuple[str, str]], with_resets: int = 0) -> int:
-    """Judges modules, and the first of them once more with resets at any time."""
+    """Judges modules, and the first of them also with resets at any time."""
     wrong = 0
     for march, memory, resets in [
         *((*case, False) for case in cases),
@@ -233,7 +233,7 @@ def judge_cases(cases: list[tuple[str, str]], with_resets: int = 0) -> int:
 
 
 def refusal_of(change: tuple[str, str, str], wanted: str) -> str | None:
-    """The words by which a module that is made wrong is refused; None where it is not."""
+    """The message that refuses a wrong module; None if nothing refuses it."""
     try:
         judge_case(*WRONG_CASE, change=change)
     except ToolError as error:
@@ -242,7 +242,7 @@ def refusal_of(change: tuple[str, str, str], wanted: str) -> str | None:
 
 
 def wrong_modules() -> Iterator[tuple[str, str | None]]:
-    """Each module that is made wrong, with how it is told."""
+    """Each module with a mistake, and how the judge found it."""
     for change in WRONG:
         yield change[0], judge_case(*WRONG_CASE, change=change)
     for what, pattern, text, wanted in REFUSED:

@@ -75,7 +75,7 @@ KINDS = (
 
 
 def told_of(pin: Found, found: list[Found]) -> str:
-    """What a library says that a pin is; nothing where only its name tells."""
+    """What a pin is by the library; an empty text if only its name says what it may be."""
     if pin.name in [one.writes_at or one.reads_at for one in found]:
         return "addr"
     if pin.is_clock:
@@ -104,7 +104,7 @@ def confirmed_in(given: list[str], found: list[Found]) -> dict[str, str]:
 
 
 def tell_left(found: list[Found], lines: list[str], left: int) -> None:
-    """What somebody has to look at."""
+    """Lists what the user has to look at."""
     for pin in found:
         if pin.is_falling and is_name(pin.name):
             told = "changes at the falling edge of its clock: `vidlakost sdc --falling` leaves it half a period"

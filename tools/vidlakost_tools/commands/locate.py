@@ -43,7 +43,7 @@ CHECKED = re.compile("(?:differs|unknown) cycle ([0-9]{1,9}) port ([a-z]+)(?: ex
 
 
 def bits_of(read: Read, memory: Memory, given: list[str], mux: int | None) -> list[str]:
-    """The bits that differ, where the words of a row are told also their columns, and both words as they are stored."""
+    """The bits that differ, and both words as the memory stores them. With --mux it adds the columns of these bits."""
     words = []
     for word in given:
         if not re.fullmatch(r"[0-9a-fA-F]{1,16}", word) or int(word, 16) >> memory.bits:
@@ -63,7 +63,7 @@ def bits_of(read: Read, memory: Memory, given: list[str], mux: int | None) -> li
 
 
 def element_lines(elements: list[Element], memory: Memory) -> Iterator[str]:
-    """The cycles of each element; a pause is one, in which a tester may stop the clock."""
+    """The cycles of each element. A pause may be one cycle, in which a tester stops the clock."""
     for span in spans(elements, memory):
         before = f"background {span.background} {memory.digits(memory.backgrounds[span.background])}"
         yield f"{before} element {span.number} {span.element.text} cycles {span.first} to {span.last}"
@@ -71,8 +71,8 @@ def element_lines(elements: list[Element], memory: Memory) -> Iterator[str]:
 
 
 def of_check(text: str, elements: list[Element], memory: Memory) -> list[str]:
-    """What is due in the cycle of a line of `check`; the number that it expects is decimal, and that of a testbench is
-    not."""
+    """What is due in the cycle of a line of `check`. A line of `check` expects a decimal number, that of a testbench a
+    hexadecimal one."""
     line = CHECKED.fullmatch(text.strip())
     if line is None or line[2] not in PORTS or text.startswith("differs") != bool(line[3]):
         raise ToolError(
@@ -138,7 +138,7 @@ def of_line(system: soc.System, rest: list[str], line: str, mux: int) -> list[st
 
 
 def answered(text: str, options: dict[str, Any]) -> int:
-    """The cycle in which the answer stands on `rdata`."""
+    """The cycle in which the answer is on `rdata`."""
     if options.get("--at", "fail") != "fail":
         raise ToolError("--at takes only fail")
     return number_of(text, "CYCLE", 1) - 1 if "--at" in options else number_of(text, "CYCLE")

@@ -44,13 +44,13 @@ MADE: Dict[str, List[str]] = {
     "share/man/man1/vidlakost.1": [],
     "share/bash-completion/completions/vidlakost": ["--completion"],
 }
-# tools of the repository's own, which the checkout alone needs
+# the repository's own tools, which only the checkout needs
 INNER = {"release"}
 
 
-# the head of the first page where the program is not known to be proved
+# the head of the first page if the program is not known to be proved
 WARNING = b"**The program of this archive is unproved: what is said below of proofs does not hold of it.**\n\n"
-# the processor that the kit compiles for, which no part of the program names
+# the processor that the kit compiles for; no part of the program names it
 PROCESSOR = "a processor of x86-64-v2"
 
 
@@ -62,8 +62,8 @@ def git(*words: str) -> bytes:
 
 
 def proof(program: str, content: bytes, unproved: bool) -> str:
-    """What RELEASE says of the proof of a program. One that is not known to be proved is refused, unless that is asked
-    for."""
+    """What RELEASE says of the proof of a program. A program that is not known to be proved is refused, unless the call
+    asks for one."""
     line = None if unproved else proof_of(program)
     if line is None and not unproved:
         raise ToolError(
@@ -90,7 +90,7 @@ def is_unpacked() -> bool:
 
 
 def full_version(unproved: bool) -> str:
-    """The version, which tells whether the program is proved; that of an unpacked release does already."""
+    """The version, which says whether the program is proved; that of an unpacked release says so already."""
     return f"{version()[0]}{'-unproved' if unproved and not is_unpacked() else ''}"
 
 
@@ -101,7 +101,7 @@ def release_text(program: str, content: bytes, unproved: bool) -> str:
 
 
 def below(parts: list[str]) -> list[str]:
-    """The files below some folders, where git does not tell them."""
+    """The files below some folders, if git does not list them."""
     paths = [
         path for part in parts for path in ([ROOT / part] if (ROOT / part).is_file() else (ROOT / part).rglob("*"))
     ]
@@ -109,14 +109,13 @@ def below(parts: list[str]) -> list[str]:
 
 
 def packed() -> list[str]:
-    """The files of the release that this is, and none that somebody put beside them; an installation has some
-    elsewhere."""
+    """The files of this release, and none that somebody put beside them. An installation has some of them elsewhere."""
     names = ["SHA256SUMS", *(line.partition("  ")[2] for line in lines_of(read_text(ROOT / "SHA256SUMS")))]
     return [name for name in sorted(names) if (ROOT / name).is_file()]
 
 
 def tree(unproved: bool) -> dict[str, tuple[bytes, bool]]:
-    """Of each file of the release its bytes, and whether it is a program."""
+    """For each file of the release: its bytes, and whether it is a program."""
     if is_unpacked():
         return {name: ((ROOT / name).read_bytes(), os.access(ROOT / name, os.X_OK)) for name in packed()}
     program = quick_program()
@@ -160,7 +159,7 @@ def header(name: str, size: int, time: int, mode: int) -> bytes:
 
 
 def stored(content: bytes) -> bytes:
-    """A file of `gzip` in blocks that are not compressed: how well a library compresses is its own matter."""
+    """A file of `gzip` in blocks without compression, since libraries compress in different ways."""
     pieces = [content[at : at + 65535] for at in range(0, len(content), 65535)] or [b""]
     blocks = [
         struct.pack("<BHH", number == len(pieces) - 1, len(piece), 65535 - len(piece)) + piece
@@ -171,7 +170,7 @@ def stored(content: bytes) -> bytes:
 
 
 def pack(files: Mapping[str, tuple[bytes, bool]], time: int, top: str) -> bytes:
-    """The bytes of the archive: they depend on the files, the time and the folder at the top alone."""
+    """The bytes of the archive. They depend only on the files, the time and the folder at the top."""
     packed = []
     for name in sorted(files):
         content, is_program = files[name]
@@ -211,7 +210,7 @@ def write_deb(unproved: bool) -> None:
 
 
 def check_deb(package: pathlib.Path, folder: pathlib.Path, environment: Mapping[str, str]) -> int:
-    """Installs the package, tries it, and takes it away; how much is wrong."""
+    """Installs the package, tries it, and removes it; returns the number of differences."""
     root = folder / "system"
     said = debian.install(package, root)
     if said:
@@ -228,7 +227,7 @@ def check_deb(package: pathlib.Path, folder: pathlib.Path, environment: Mapping[
 
 
 def make_folder(path: pathlib.Path) -> None:
-    """A folder, and those above it, that everyone may look into, whatever the mask of whoever installs."""
+    """Makes a folder and those above it, which everyone may look into, whatever the installer's umask is."""
     if not path.is_dir():
         make_folder(path.parent)
         path.mkdir()
@@ -243,7 +242,7 @@ def link(path: pathlib.Path, target: str) -> None:
 
 
 def install(prefix: pathlib.Path, unproved: bool) -> None:
-    """The files of a release below the prefix: all in lib/vidlakost, and links where they are looked for."""
+    """Puts the files of a release below the prefix: all in lib/vidlakost, and links in the usual places."""
     home = prefix / "lib" / "vidlakost"
     files = tree(unproved)
     for name, (content, is_program) in files.items():
@@ -303,7 +302,7 @@ def tries(home: pathlib.Path, bin_folder: pathlib.Path) -> Iterator[tuple[list[o
     yield [program, "help", "compile"], 0, "compile MARCH MEMORY FAULTS VERILOG REPORT"
     yield [program, "--help"], 0, "  trace       why the escapes of a report escape"
     yield [program, "replay", "report.txt", "--run"], 0, "passes"
-    # its page is served until it is ended
+    # the tool serves its page until it is ended
     yield ["timeout", "--signal=INT", "5", program, "explore"], 124, "http://127.0.0.1:"
 
 
@@ -330,7 +329,7 @@ def try_calls(
 
 
 def check(unproved: bool) -> int:
-    """Unpacks the archive and tries it where there is no kit, then an installation from there."""
+    """Unpacks the archive and tries it without the kit; then it tries an installation from there."""
     with tempfile.TemporaryDirectory() as name:
         folder = pathlib.Path(name)
         environment = without_kit(folder)

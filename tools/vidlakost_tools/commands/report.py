@@ -57,7 +57,7 @@ td.number { text-align: right }
 
 
 def marked(content: str) -> str:
-    """A cell of a table with what is marked up already."""
+    """A cell of a table with text that has markup already."""
     return f"<td>{content}</td>"
 
 
@@ -113,12 +113,12 @@ def in_word_rows(report: InWordReport) -> Iterator[str]:
 BETWEEN = beside(__file__, "report_between.txt")
 INSIDE = beside(__file__, "report_inside.txt")
 
-# a title, how many, what stands above the table, its head and its rows
+# a title, how many, the text above the table, its head and its rows
 Escapes = Tuple[str, int, str, List[str], Iterator[str]]
 
 
 def about(reports: Sequence[Report | InWordReport]) -> Iterator[str]:
-    """The march, and the memory where one is told."""
+    """The march, and the memory if the report names one."""
     yield f"<p>March ({length_of(reports[0].elements)}): {code(reports[0].march)}</p>"
     memory = next((report.memory for report in reports if report.memory), None)
     if memory:
@@ -170,7 +170,7 @@ def page(reports: Sequence[Report | InWordReport]) -> str:
 
 
 def both(name: str, inside: str | None) -> list[Report | InWordReport]:
-    """The report of a file, and that of `inword` beside it, which has to be of the same march and memory."""
+    """The report of a file, and that of `inword` beside it. Both have to be of the same march and memory."""
     report: Report | InWordReport = read_in_word(name) if is_in_word(name) else read_report(name)
     if inside is None:
         return [report]
@@ -184,7 +184,7 @@ def both(name: str, inside: str | None) -> list[Report | InWordReport]:
 
 
 def as_object(reports: Sequence[Report | InWordReport]) -> dict[str, object]:
-    """The report as an object, with that of `inword` where there are two."""
+    """The report as an object, with that of `inword` if the call has one."""
     return {**reports[0].as_object(), **({"in_word": reports[1].as_object()} if len(reports) == 2 else {})}
 
 

@@ -25,7 +25,7 @@ from vidlakost_tools.verilog.yosys import gates_of
 
 
 def cells_of(march: str, memory_file: str) -> tuple[int, int]:
-    """The cells and the flip-flops of a self-test, as Yosys makes them."""
+    """The number of cells and of flip-flops that Yosys needs for a self-test."""
     with tempfile.TemporaryDirectory() as name:
         folder = pathlib.Path(name)
         (folder / "list").write_text("")

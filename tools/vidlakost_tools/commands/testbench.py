@@ -74,7 +74,7 @@ def way_back(memory: Memory) -> str:
 
 
 def gaps(memory: Memory, elements: list[Element], each_run: int) -> str:
-    """The idle cycles in front of the commands of a run that a pause stands before."""
+    """The idle cycles before the commands of a run that follows a pause."""
     before: dict[int, int] = {}
     at = 0
     for element in elements:
@@ -105,7 +105,7 @@ def plain_access(memory: Memory) -> str:
 
 
 def numbers_of(lines: list[str], memory: Memory) -> Iterator[int]:
-    """The commands of `vectors`, each as a number: a bit for a write, the address, the word; and the mark behind
+    """The commands of `vectors`, each as a number (a bit for a write, the address, the word), and the mark after
     them."""
     bits, both = memory.bits, memory.width + memory.bits
     for line in lines:
@@ -115,7 +115,7 @@ def numbers_of(lines: list[str], memory: Memory) -> Iterator[int]:
 
 
 def commands_of(options: Mapping[str, Any], tests: list[tuple[str, str, Memory]]) -> dict[str, str]:
-    """The files of the commands of these marches and memories, where the testbench doesn't work them out."""
+    """The files with the commands of these marches and memories, unless the testbench computes them."""
     if "--stream" in options:
         return {}
     return {
@@ -128,7 +128,7 @@ def commands_of(options: Mapping[str, Any], tests: list[tuple[str, str, Memory]]
 
 HEAD = "// A testbench of "
 CHIP = template(__file__, "testbench_chip.sv")
-# the names of a part that each unit has for itself; those of ports are then the ports of the chip
+# the names in a part that each unit has for itself; port names become those of the chip
 OWN = set(
     "rdata en we fail addr wdata words pending idle own index found commands command expected compares cycle j gap i"
     " port_differs read_differs is_command want COUNT CYCLES index_of gap_before prepare compare_ports differs"
@@ -138,7 +138,7 @@ OWN = set(
 
 
 def owned(text: str, number: int) -> str:
-    """A part with the names of unit `number`, and its lines as lines of that unit."""
+    """A part with the names of unit `number`, whose lines begin with that unit."""
 
     def renamed(match: re.Match[str]) -> str:
         if match["name"] in OWN and match["call"] is None:
@@ -186,7 +186,7 @@ def chip_testbench(
 
 
 def ending_of(name: str, wrong: str, whose: str, options: Mapping[str, Any]) -> dict[str, str]:
-    """What stands at the head of a testbench and at its end; in plain Verilog the line before tells how it went."""
+    """The head and the end of a testbench. In plain Verilog the line before the end says how the run went."""
     if "--sv" not in options:
         return {"over": "", "ending": "    $finish;\n"}
     fatal = f'    if (({wrong}) !== 1\'b0)\n      $fatal(1, "the ports are not as the {whose} commands say");\n'
@@ -252,7 +252,7 @@ def bench_name(name: str, options: Mapping[str, Any]) -> str:
 
 
 def write(folder: str, name: str, text: str, inputs: list[str], commands: dict[str, str]) -> None:
-    """Writes a testbench, or assertions, and the commands beside it, of which nothing is said."""
+    """Writes a testbench or assertions, and the commands beside it, which it does not list."""
     write_own(pathlib.Path(folder), marked("testbench", {**commands, name: text}), inputs, [name])
 
 

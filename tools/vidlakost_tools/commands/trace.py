@@ -59,7 +59,7 @@ def shown(verdict: Verdict | DecoderVerdict | LinkVerdict, step: Step) -> str:
 
 
 def memory_of(report: InWordReport, name: str | None) -> Memory:
-    """The memory of a report of `inword`, which has to be the named one."""
+    """The memory of a report of `inword`; it has to be the one that the report names."""
     if name is None:
         raise ToolError("this is a report of `inword`: give its memory by --memory MEMORY")
     memory = read_memory(name)
@@ -69,7 +69,7 @@ def memory_of(report: InWordReport, name: str | None) -> Memory:
     return memory
 
 
-# of an escape its primitive, the line that is said of it, whether a read differs, and its steps as lines
+# an escape: its primitive, the line about it, whether a read differs, and its steps as lines
 Told = Iterator[Tuple[str, str, bool, List[str]]]
 
 
@@ -100,7 +100,7 @@ def between_words(report: Report | DecoderReport) -> Told:
 
 
 def march_file(report: Report, path: pathlib.Path) -> pathlib.Path:
-    """The file with the report's march, made beside the report; a file that holds another text stays as it is."""
+    """Makes the file with the report's march beside the report; a file with another text stays as it is."""
     march = path.with_name(path.name + ".m")
     text = report.march + "\n"
     if not os.path.lexists(march):
@@ -111,7 +111,7 @@ def march_file(report: Report, path: pathlib.Path) -> pathlib.Path:
 
 
 def outcome(verdict: Verdict, report: Report, words: List[str]) -> str:
-    """What a run in the array of an escape says: by the program, or by the model for a dynamic primitive."""
+    """The answer of a run in the array of an escape: from the program, or from the model for a dynamic primitive."""
     if not verdict.is_dynamic:
         return ask(*words)
     last = list(verdict.array().march(report.elements, verdict.directions))[-1]
@@ -119,7 +119,7 @@ def outcome(verdict: Verdict, report: Report, words: List[str]) -> str:
 
 
 def replay(name: str, runs: bool) -> int:
-    """The calls of `sim` that replay the escapes, and what each says."""
+    """The calls of `sim` that replay the escapes, and the answer of each."""
     path = pathlib.Path(name)
     report = read_report(path)
     march = march_file(report, path)

@@ -24,7 +24,7 @@ LINE = re.compile(rf"(?:scramble[ \t]+)?([ap])([0-9]{{1,2}})[ \t]*=[ \t]*({TERM}
 
 
 def read_rows(path: str) -> tuple[str, dict[int, Row]]:
-    """The letter of the rows, and of each row its bits and its constant."""
+    """The letter of the rows, and for each row its bits and its constant."""
     rows: dict[int, Row] = {}
     letters = set()
     for count, line in enumerate(lines_of(read_described(path)), 1):
@@ -48,7 +48,7 @@ def read_rows(path: str) -> tuple[str, dict[int, Row]]:
 
 
 def check(path: str, rows: Mapping[int, Row]) -> None:
-    """Refuses bits that are not there, and rows that depend on one another."""
+    """Refuses bits that don't exist, and rows that depend on each other."""
     if any(bit >= len(rows) for bits, _ in rows.values() for bit in bits):
         raise ToolError(f"{path}: a bit on the right is not one of 0 to {len(rows) - 1}")
     left: list[int] = []

@@ -23,7 +23,7 @@ from vidlakost_tools.verilog.syntax import Module, Reader, Unread
 
 
 def read_module(path: str) -> Module:
-    """The module of a file, which the program has to accept."""
+    """The module of a file; the program has to accept it."""
     text = read_text(path)
     take_module(path, text)
     try:

@@ -39,7 +39,7 @@ async function ask(name, question, signal, left = 10) {
     await new Promise((resolve) => setTimeout(resolve, 400));
     return ask(name, question, signal, left - 1);
   }
-  if (answer.status === 503) throw new Error("The server is asked too much at once; try again.");
+  if (answer.status === 503) throw new Error("The server has too many questions at once; try again.");
   if (!answer.ok) throw new Error(await answer.text());
   const told = await answer.json();
   if (told.failed !== undefined) throw new Error(told.failed);
@@ -72,7 +72,7 @@ function keptAnswer(name, question) {
     const report = question.primitive.startsWith("LF") ? kept.links[place].report : kept.judged[place].report;
     return { report, steps: [], ...found };
   }
-  throw new Error("this page is a file, and asks nobody");
+  throw new Error("this page is a file, and can't ask the program");
 }
 
 /** Does something a moment after the last of many calls; what it is given up by is handed on. */

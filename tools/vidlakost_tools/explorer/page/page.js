@@ -77,7 +77,7 @@ function addCard(text) {
   card.figures = make("p", { class: "figures" });
   card.said = make("div", { class: "said", id: `said-${letter}`, role: "status" });
   card.words = make("div", { class: "words", role: "group",
-    "aria-label": "what could stand at the cursor (Ctrl and space)" });
+    "aria-label": "what can come at the cursor (Ctrl and space)" });
   card.gallery = galleryOf(card);
   card.remove = make("button", { type: "button", "aria-label": `remove march ${letter}`,
     click: () => removeCard(card) }, "Remove");
@@ -308,7 +308,7 @@ const askMemory = settled(250, async (signal) => {
   const ofMemory = refused !== null && refused.what !== "march";
   showRefusal(byId("memory-said"), byId("memory-text"), ofMemory ? refused : null);
   if (ofMarch) {
-    const by = refused === null ? ", and this is the test by the one before the mistake" : "";
+    const by = refused === null ? "; this is the test by the last march without a mistake" : "";
     byId("memory-said").append(make("div", { class: "soft" }, `March ${card.letter} is refused${by}.`));
   }
   for (const id of ["figures", "cycles"]) byId(id).classList.toggle("stale", ofMarch || ofMemory);
