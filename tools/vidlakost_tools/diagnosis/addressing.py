@@ -1,5 +1,5 @@
-"""Words and rows that reach others than their own: bits of the address that are open, stuck or bridged, and faults of
-the decoder at one word or one row."""
+"""Words and rows that reach others than their own: address bits that are open, stuck or bridged, and faults of the
+decoder at one word or one row."""
 from __future__ import annotations
 
 import dataclasses
@@ -9,17 +9,17 @@ from typing import Callable, Dict, FrozenSet, Iterator, List, Sequence, Tuple
 from vidlakost_tools.diagnosis.candidate import Candidate, Log, Shape
 from vidlakost_tools.diagnosis.evidence import Evidence, Test, Wrong
 
-# of each word of a group the words that it reaches
+# for each word of a group, the words that it reaches
 Reach = Dict[int, Tuple[int, ...]]
-# what some bits of the address are, and which values then reach the array
+# from the values of some address bits to the values that then reach the array
 Bits = Tuple[int, ...]
 Way = Callable[[Bits], List[Bits]]
 
 
 class Groups:
-    """What a test finds in a group of words that reach one another, each kind of group once: only the order of the
-    words in the array counts. Two words that are read at once give their and or their or; where none is, the answer is
-    a constant."""
+    """What a test finds in a group of words that reach each other, each kind of group once: only the order of the words
+    in the array counts. Two words that are read at once give the and or the or of both. If no word is reached, the
+    answer is a constant."""
 
     def __init__(self, test: Test):
         self.test = test
@@ -29,7 +29,7 @@ class Groups:
         """The wrong reads of each word of a group."""
         members = sorted({*reach, *itertools.chain.from_iterable(reach.values())})
         rank = {index: number for number, index in enumerate(members)}
-        # a word that nobody tells of reaches itself
+        # a word that is not named reaches itself
         ways = tuple(tuple(rank[other] for other in reach.get(index, (index,))) for index in members)
         key = (ways, rule)
         if key not in self.known:
@@ -37,7 +37,7 @@ class Groups:
         return dict(zip(members, self.known[key]))
 
     def run(self, ways: Tuple[Tuple[int, ...], ...], rule: str) -> List[Wrong]:
-        """The same of words by their places among those of the group."""
+        """The same for words by their places in the group."""
         cells = [0] * len(ways)
         wrong: List[Wrong] = [{} for _ in ways]
         for one in self.test.passes:
@@ -65,7 +65,7 @@ class Groups:
 
 
 def silent_rules(test: Test) -> list[str]:
-    """What may be read where no word is reached."""
+    """What a read may answer when it reaches no word."""
     mixed = test.memory.polarity not in (0, (1 << test.memory.bits) - 1)
     return ["0", "1", *(["0 at the port", "1 at the port"] if mixed else [])]
 
@@ -75,8 +75,8 @@ def silent_rules(test: Test) -> list[str]:
 
 @dataclasses.dataclass(frozen=True)
 class AddressLine:
-    """A bit of the address or of the physical index: of which bits of an index it is the exclusive or, with a constant,
-    and which bits of the index turn with it."""
+    """A bit of the address or of the physical index: the index bits whose exclusive or it is, with a constant, and the
+    index bits that change with it."""
 
     name: str
     mask: int
@@ -88,7 +88,7 @@ class AddressLine:
 
 
 def address_lines(test: Test) -> list[list[AddressLine]]:
-    """The bits of the address, and those of the index where they are others."""
+    """The bits of the address, and those of the index if they differ."""
     memory = test.memory
     back = memory.way_back()
     found = []
@@ -113,7 +113,7 @@ class AddressFault:
     rule: str
 
     def group(self, index: int, test: Test) -> Reach:
-        """The words that share these bits' other bits with a word, and what each reaches."""
+        """The words that have the same other bits as a word, and what each of them reaches."""
         members = {index}
         for line in self.lines:
             members |= {member ^ line.turns for member in members}
@@ -139,7 +139,7 @@ def fix(value: int) -> Way:
 
 
 def lost(value: int) -> Way:
-    """One of the two lines behind a bit selects nothing."""
+    """The decoder line for one value of a bit selects nothing."""
     return lambda bits: [] if bits[0] == value else [bits]
 
 
@@ -175,7 +175,7 @@ def agree(evidence: Evidence, groups: Groups, reach: Reach, rule: str) -> bool:
 
 
 def gives(evidence: Evidence, groups: Groups, fault: AddressFault, probes: Sequence[int]) -> bool:
-    """Whether a fault gives the log: some wrong words are looked at before all are."""
+    """Whether a fault gives the log; it looks at some wrong words before it looks at all."""
     test = evidence.test
     if not all(agree(evidence, groups, fault.group(index, test), fault.rule) for index in probes):
         return False
@@ -198,7 +198,7 @@ def of_address(evidence: Evidence, groups: Groups) -> Iterator[Candidate]:
 
 
 def few_logs(fault: AddressFault, index: int) -> Callable[[Test], FrozenSet[Log]]:
-    """What a fault leaves at the words that share the other bits with this one."""
+    """What a fault leaves at the words that have the same other bits as this one."""
 
     def logs(test: Test) -> FrozenSet[Log]:
         return frozenset([log_of(Groups(test).found(fault.group(index, test), fault.rule))])
@@ -213,7 +213,7 @@ def log_of(found: Dict[int, Wrong]) -> Log:
 # ---- the decoder at one word or one row
 
 
-# what a word or a row reaches beside its own or in its stead, and how two that are read at once are read
+# what a word or a row reaches instead of its own or beside it, and what a read of two at once answers
 KINDS = (
     ("other", "reaches {y} instead", "and"),
     ("both", "reaches {y} too, read as wired-AND", "and"),
@@ -229,7 +229,7 @@ class Unit:
     size: int
 
     def reach(self, x: int, y: int, kind: str, words: int) -> Iterator[Reach]:
-        """What each word of a unit reaches where the unit x reaches y."""
+        """What each word of a unit reaches if the unit x reaches y."""
         for place in range(self.size):
             one, other = x * self.size + place, y * self.size + place
             if max(one, other) < words:
@@ -248,8 +248,8 @@ class Misled:
 
 
 def partners(evidence: Evidence, unit: Unit, x: int, seen: Sequence[int]) -> Iterator[range]:
-    """The units that may belong to one that is wrong: the other wrong one, or all on one side, of which only the side
-    counts unless the log was full."""
+    """The units that may be the partner of a wrong one: the other wrong one, or all on one side. Only the side counts,
+    unless the log was full."""
     if len(seen) == 2:
         other = seen[0] + seen[1] - x
         yield range(other, other + 1)
@@ -262,14 +262,14 @@ def partners(evidence: Evidence, unit: Unit, x: int, seen: Sequence[int]) -> Ite
 
 
 def of_units(evidence: Evidence, groups: Groups, unit: Unit) -> Iterator[Candidate]:
-    """The faults of the decoder at a word or a row that give the log; one that the log doesn't show may be any on its
-    side."""
+    """The faults of the decoder at a word or a row that give the log. If the log doesn't show the partner, it may be
+    any on its side."""
     seen, words = sorted({index // unit.size for index in evidence.wrong}), evidence.test.memory.words
     if len(seen) > 2:
         return
     for one, (kind, text, rule) in itertools.product(seen, KINDS):
         for others in partners(evidence, unit, one, seen):
-            # of two wrong units each is the first one in its turn
+            # of two wrong units, each takes its turn as the first
             for x, y in [(one, others[0])] if len(seen) == 2 else [(one, others[0]), (others[0], one)]:
                 ways = list(unit.reach(x, y, kind, words))
                 if all(agree(evidence, groups, reach, rule) for reach in ways):

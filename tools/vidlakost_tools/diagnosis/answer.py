@@ -1,5 +1,5 @@
-"""All candidates of a log in their order, what each wrong cell tells by itself where no single defect gives the log,
-and which further march tells candidates apart."""
+"""All candidates of a log in their order. If no single defect gives the log, also what each wrong cell says by itself.
+And which further march separates the candidates."""
 from __future__ import annotations
 
 import dataclasses
@@ -12,14 +12,13 @@ from vidlakost_tools.diagnosis.evidence import Evidence, Test
 from vidlakost_tools.texts.march import Element
 from vidlakost_tools.texts.memory import Memory
 
-# of how many wrong cells each is looked at by itself, and how many candidates are told apart
+# how many wrong cells it looks at one by one, and how many candidates it separates
 ALONE, APART = 8, 200
 
 
 @dataclasses.dataclass
 class Answer:
-    """The candidates of a log; or of each wrong cell those that it has by itself, where no single defect gives the
-    log."""
+    """The candidates of a log; or, if no single defect gives the log, those of each wrong cell by itself."""
 
     candidates: List[Candidate]
     alone: List[Tuple[Tuple[int, int], List[Candidate]]]
@@ -34,7 +33,7 @@ class Answer:
 
 
 def answer_of(evidence: Evidence, faults: Sequence[Fault], mux: int) -> Answer:
-    """Every defect that is known here and gives exactly this log."""
+    """Every known defect that gives exactly this log."""
     found = [
         *lines.candidates(evidence, mux),
         *addressing.candidates(evidence, mux),
@@ -51,7 +50,7 @@ def answer_of(evidence: Evidence, faults: Sequence[Fault], mux: int) -> Answer:
 
 
 def groups_of(candidates: Sequence[Candidate], test: Test) -> list[list[Candidate]]:
-    """Candidates that a test may not tell apart, together: those that may leave one log."""
+    """Groups of candidates that a test may not separate: those that may leave one log."""
     groups: list[Tuple[FrozenSet[Log], list[Candidate]]] = []
     for one in candidates:
         logs, members = one.logs(test), [one]
@@ -67,7 +66,7 @@ def groups_of(candidates: Sequence[Candidate], test: Test) -> list[list[Candidat
 
 @dataclasses.dataclass(frozen=True)
 class Further:
-    """A march, in how many groups it tells the candidates, and how many are in the largest."""
+    """A march, the number of groups into which it separates the candidates, and the size of the largest."""
 
     name: str
     groups: int
@@ -77,7 +76,7 @@ class Further:
 def further(
     candidates: Sequence[Candidate], marches: Sequence[Tuple[str, List[Element]]], memory: Memory
 ) -> Iterator[Further]:
-    """What each march tells apart."""
+    """How each march separates the candidates."""
     few = candidates[:APART]
     for name, elements in marches:
         groups = groups_of(few, Test(elements, memory))

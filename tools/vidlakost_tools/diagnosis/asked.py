@@ -1,4 +1,4 @@
-"""What a call on a log names: the log, and the march and the memory, or the unit of a chip, that it is of."""
+"""What a call about a log names: the log, and its march and memory or its unit of a chip."""
 from __future__ import annotations
 
 import dataclasses
@@ -18,7 +18,7 @@ from vidlakost_tools.texts.reads import Read
 from vidlakost_tools.texts.report import judged
 from vidlakost_tools.tool import ToolError, number_of, usage_of
 
-# what is looked for where no list is given: all static primitives, and losses over a pause
+# the faults without a list: all static primitives, and losses over a pause
 USUAL = "all\nDRF\n"
 
 
@@ -49,7 +49,7 @@ class Asked:
 
 
 def asked_of(words: list[str], options: dict[str, Any], doc: str | None) -> Asked:
-    """What stands behind the log in the words of a call."""
+    """What comes after the log in the words of a call."""
     if "--unit" not in options:
         if len(words) != 3 or "--second" in options:
             raise ToolError(f"give a log, a march and a memory\n{usage_of(doc)}")
@@ -91,7 +91,7 @@ def of_whole(words: list[str], number: int, is_second: bool) -> Asked:
 
 @dataclasses.dataclass
 class Logged:
-    """What a log says: its reads with the words that returned, and whether more came."""
+    """What a log says: its reads with the words that returned, and whether more followed."""
 
     evidence: Evidence
     reads: List[Tuple[Read, int]]
@@ -115,7 +115,7 @@ def of_run(path: str, asked: Asked, entries: list[Entry], more: bool) -> Tuple[L
 
 
 def logged(path: str, asked: Asked) -> Logged:
-    """What a log says of a test; one of another march or memory is refused."""
+    """What a log says about a test. A log of another march or memory is refused."""
     entries, more = read_log(path, asked.memory, asked.unit)
     if asked.runs:
         entries, more = of_run(path, asked, entries, more)

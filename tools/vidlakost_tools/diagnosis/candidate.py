@@ -7,13 +7,13 @@ from typing import Callable, FrozenSet, Tuple
 
 from vidlakost_tools.diagnosis.evidence import Test
 
-# of some words the reads that are wrong, as index, number and bits
+# the wrong reads of some words, as index, number and bits
 Log = FrozenSet[Tuple[int, int, int]]
 
 
 class Shape(enum.Enum):
-    """The class of a defect, in the order in which the candidates are told: what is one line or one bit of a port comes
-    before what would have to be the same by chance."""
+    """The class of a defect, in the order of the answer: one line or one bit of a port comes before what would have to
+    agree by chance."""
 
     MEMORY = "memory"
     DATA_BIT = "data bit"
@@ -33,8 +33,8 @@ ORDER = {shape: number for number, shape in enumerate(Shape)}
 
 @dataclasses.dataclass(frozen=True)
 class Candidate:
-    """A defect, the places where its other part may lie, in how many of the contents before the test it gives the log,
-    and the logs that it may leave in another test."""
+    """A defect, the places where its other part may be, the share of contents before the test from which it gives the
+    log, and the logs that it may leave in another test."""
 
     shape: Shape
     what: str

@@ -1,4 +1,4 @@
-"""Primitives of one and two cells that give the log of one wrong cell, by the definition that replays escapes too."""
+"""Primitives of one and two cells that give the log of one wrong cell, by the definition that also replays escapes."""
 from __future__ import annotations
 
 import dataclasses
@@ -26,7 +26,7 @@ class Fault:
 
 @dataclasses.dataclass(frozen=True)
 class Aggressors:
-    """Cells that act on a victim in the same way: their words, their bits, and where they lie in words."""
+    """Cells that act on a victim in the same way: their words, their bits, and their place in words."""
 
     indices: range
     bits: Tuple[int, ...]
@@ -47,7 +47,7 @@ class Aggressors:
 
 @dataclasses.dataclass(frozen=True)
 class Instance:
-    """A primitive at a victim, with one of its aggressors where it has some."""
+    """A primitive at a victim, with one of its aggressors if it has some."""
 
     fault: Fault
     index: int
@@ -67,8 +67,8 @@ class Instance:
         return self.answers_in_word(test, content) if self.is_in_word else self.answers_apart(test, content)
 
     def answers_apart(self, test: Test, content: str) -> Iterator[Tuple[int, bool]]:
-        """The same of one cell, or of two cells in two words. Between two visits of one word there are others, but
-        where an element ends with the word with which the next one begins."""
+        """The same for one cell, or for two cells in two words. Visits to other words come between two visits to one
+        word, unless an element ends with the word with which the next one begins."""
         places = {self.index: (len(content) - 1, test.pattern(self.bit))}
         if self.aggressors:
             places[self.aggressors.index] = (0, test.pattern(self.aggressors.bit))
@@ -92,7 +92,7 @@ class Instance:
             last = last_of(one, test)
 
     def answers_in_word(self, test: Test, content: str) -> Iterator[Tuple[int, bool]]:
-        """The same of two bits of one word."""
+        """The same for two bits of one word."""
         assert self.aggressors is not None
         couple = Couple(self.fault.primitive, content)
         couple.close()
@@ -107,7 +107,7 @@ class Instance:
                     yield operation.number, answer[1] != digits[1]
 
     def gives(self, evidence: Evidence, content: str) -> bool:
-        """Whether the victim was read as the instance has it, from this content."""
+        """Whether the reads of the victim are those of the instance, from this content."""
         seen = evidence.wrong.get(self.index, {})
         return all(
             is_wrong == (number in seen) or not evidence.is_known(self.index, number)
@@ -115,7 +115,7 @@ class Instance:
         )
 
     def logs(self, test: Test) -> FrozenSet[Log]:
-        """What it may leave in a test, over all contents."""
+        """The logs that it may leave in a test, over all contents."""
         return frozenset(
             frozenset(
                 (self.index, number, 1 << self.bit) for number, is_wrong in self.answers(test, content) if is_wrong
@@ -138,14 +138,14 @@ def last_of(one: Pass, test: Test) -> int:
 
 
 def numbered(bits: Sequence[int]) -> str:
-    """Some bits in words; of many the first and the last, where none between them is missing."""
+    """Some bits in words. A run of three or more shows as its first and last."""
     if len(bits) > 2 and list(bits) == list(range(bits[0], bits[-1] + 1)):
         return f"bits {bits[0]} to {bits[-1]}"
     return f"bit{'s' if len(bits) > 1 else ''} {' '.join(map(str, bits))}"
 
 
 def alike(test: Test, bits: Sequence[int]) -> list[list[int]]:
-    """Bits by what they hold in the backgrounds."""
+    """Groups of bits that hold the same in all backgrounds."""
     found: dict[Tuple[int, ...], list[int]] = {}
     for bit in bits:
         found.setdefault(test.pattern(bit), []).append(bit)
@@ -153,8 +153,8 @@ def alike(test: Test, bits: Sequence[int]) -> list[list[int]]:
 
 
 def sides(index: int, words: int, is_dynamic: bool) -> Iterator[Tuple[range, str]]:
-    """The other words of a victim by their side, also in words. Where two operations count, the
-    first and the last word of the memory stand alone, since two elements meet there."""
+    """The other words of a victim by their side, with that side in words. If two operations count, the first and the
+    last word of the memory are apart, since two elements meet there."""
     parts = [(0, index, "below"), (index + 1, words, "above")]
     if is_dynamic:
         parts = [(0, 1, ""), (1, index, "below"), (index + 1, words - 1, "above"), (words - 1, words, "")]
@@ -166,7 +166,7 @@ def sides(index: int, words: int, is_dynamic: bool) -> Iterator[Tuple[range, str
 
 
 def aggressors_of(test: Test, index: int, bit: int, primitive: Primitive) -> Iterator[Aggressors]:
-    """The aggressors of a victim by their side and by what their bit holds."""
+    """The aggressors of a victim, by their side and by what their bit holds."""
     memory, is_dynamic = test.memory, len(primitive.operations) > 1
     for indices, where in sides(index, memory.words, is_dynamic):
         for bits in alike(test, range(memory.bits)):

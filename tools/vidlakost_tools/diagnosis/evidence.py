@@ -1,4 +1,4 @@
-"""What a log says of each word: which of its reads were wrong, in which bits, and which are not known."""
+"""What a log says about each word: which of its reads were wrong, in which bits, and which are not known."""
 from __future__ import annotations
 
 import bisect
@@ -10,13 +10,13 @@ from vidlakost_tools.texts.march import Element
 from vidlakost_tools.texts.memory import Memory
 from vidlakost_tools.texts.reads import Read, read_of, spans
 
-# of the reads of a word that are wrong, by their number, the bits that are
+# the wrong reads of a word: the wrong bits, by the number of the read
 Wrong = Dict[int, int]
 
 
 @dataclasses.dataclass(frozen=True)
 class Operation:
-    """An operation on a word in a pass: whether it writes, its value, and the number of a read among those of the
+    """An operation on a word in a pass: whether it writes, its value, and for a read its number among the reads of the
     word."""
 
     is_write: bool
@@ -41,13 +41,13 @@ class Pass:
 
 
 class Test:
-    """The passes of a test on a memory. All words have the same operations, so that a read is known by its word and its
-    number. An element of any order goes up, as that of the controller does."""
+    """The passes of a test on a memory. All words have the same operations, so a word and a number name a read. An
+    element of any order goes up, as in the controller."""
 
     def __init__(self, elements: list[Element], memory: Memory, begin: int = 0):
         self.elements, self.memory, self.begin = elements, memory, begin
         self.passes: list[Pass] = []
-        # of each read of a word its pass and its place there
+        # for each read of a word: its pass, and its place there
         self.reads: list[Tuple[Pass, int]] = []
         for span in spans(elements, memory):
             operations, count = [], len(self.reads)
@@ -61,18 +61,18 @@ class Test:
         self.patterns = [tuple(word >> bit & 1 for word in memory.backgrounds) for bit in range(memory.bits)]
 
     def cycle(self, index: int, number: int) -> int:
-        """The cycle in which the answer of a read stands on `rdata`."""
+        """The cycle in which the answer of a read is on `rdata`."""
         one, place = self.reads[number]
         visit = self.memory.words - 1 - index if one.goes_down else index
         return self.begin + one.first + visit * len(one.operations) + place + self.memory.latency
 
     def read_in(self, cycle: int) -> Tuple[Read, int]:
-        """The read whose answer stands on `rdata` in a cycle, and its number among those of its word."""
+        """The read whose answer is on `rdata` in a cycle, and its number among those of its word."""
         at = cycle - self.begin - self.memory.latency
         one = self.passes[max(0, bisect.bisect_right(self.firsts, at) - 1)]
         visit, place = divmod(at - one.first, len(one.operations)) if one.operations else (-1, 0)
         if not 0 <= visit < self.memory.words or one.operations[place].is_write:
-            # what no read is, is told in its words
+            # the same error as elsewhere for a cycle without a read
             read_of(self.elements, self.memory, cycle - self.begin)
             raise AssertionError(f"cycle {cycle} is a read of the one reading and none of the other")
         operation = one.operations[place]
@@ -89,14 +89,14 @@ class Test:
         return self.patterns[bit]
 
     def expected(self, number: int) -> int:
-        """What the cells of a word are to hold in a read."""
+        """What the cells of a word should hold in a read."""
         one, place = self.reads[number]
         return self.held(one.background, one.operations[place].value)
 
 
 @dataclasses.dataclass
 class Evidence:
-    """The wrong reads of a log by word and number; `last` is the last cycle whose read is known, where the log was
+    """The wrong reads of a log, by word and number. `last` is the last cycle whose read is known, if the log was
     full."""
 
     test: Test
@@ -104,7 +104,7 @@ class Evidence:
     last: int | None = None
 
     def known(self, index: int, predicted: Wrong) -> Wrong:
-        """What of a prediction the log could show."""
+        """The part of a prediction that the log could show."""
         if self.last is None:
             return predicted
         return {number: bits for number, bits in predicted.items() if self.test.cycle(index, number) <= self.last}
@@ -113,7 +113,7 @@ class Evidence:
         return self.last is None or self.test.cycle(index, number) <= self.last
 
     def agrees(self, index: int, predicted: Wrong) -> bool:
-        """Whether a word was read as is predicted."""
+        """Whether the reads of a word are as predicted."""
         return self.known(index, predicted) == self.wrong.get(index, {})
 
     def cells(self) -> list[Tuple[int, int]]:

@@ -1,4 +1,4 @@
-"""Cells and bits that are read as one number: a word, a column, a row, a part of these, a bit of the data, all."""
+"""Cells and bits that read as one value: a word, a column, a row, a part of these, a bit of the data, or all."""
 from __future__ import annotations
 
 import dataclasses
@@ -10,7 +10,7 @@ from vidlakost_tools.diagnosis.evidence import Evidence, Test, Wrong, bits_of
 
 @dataclasses.dataclass(frozen=True)
 class Line:
-    """Some bits of some words: `mask` has the bits of a word that are of the line."""
+    """Some bits of some words: `mask` gives the bits of a word that belong to the line."""
 
     shape: Shape
     name: str
@@ -20,14 +20,14 @@ class Line:
 
 @dataclasses.dataclass(frozen=True)
 class Reading:
-    """What is read of a line instead of what is held: a word of the cells, from what they hold."""
+    """What a line reads as: from the word that the cells hold to the word that is read."""
 
     name: str
     read: Callable[[int], int]
 
 
 def wrong_of(test: Test, mask: int, reading: Reading) -> Wrong:
-    """The wrong reads of a word of which these bits are read so."""
+    """The wrong reads of a word, if these of its bits read so."""
     found = {}
     for number in range(len(test.reads)):
         held = test.expected(number)
@@ -42,7 +42,7 @@ def constant(word: int) -> Callable[[int], int]:
 
 
 def constants(test: Test, mask: int) -> list[Reading]:
-    """All bits of a line at 0 or at 1: as the cells hold them and, where that is other, as the port has them."""
+    """All bits of a line at 0 or at 1: as the cells hold them and, if that differs, as the port has them."""
     ones, polarity = (1 << test.memory.bits) - 1, test.memory.polarity
     where = " in the cells" if polarity & mask else ""
     found = [Reading(f"stuck at {value}{where}", constant(value * ones)) for value in (0, 1)]
@@ -52,7 +52,7 @@ def constants(test: Test, mask: int) -> list[Reading]:
 
 
 def bridged(first: int, second: int) -> list[Reading]:
-    """Two bits of the data that are read as both or as either, or one of them as the other."""
+    """Two data bits that read as the and or the or of both, or one of them as the other."""
     pair = 1 << first | 1 << second
 
     def both(held: int) -> int:
@@ -73,7 +73,7 @@ def bridged(first: int, second: int) -> list[Reading]:
 
 
 def fits(evidence: Evidence, line: Line, reading: Reading) -> bool:
-    """Whether a line that is read so gives the log, no word more and no word less."""
+    """Whether a line that reads so gives exactly the log."""
     made: dict[int, Wrong] = {}
     count = 0
     for index in line.indices:
@@ -101,7 +101,7 @@ def told_line(line: Line, reading: Reading) -> Candidate:
 
 
 def columns(evidence: Evidence, mux: int) -> Iterator[Line]:
-    """The column of a log all of whose cells lie in one, and its parts from the first or the last wrong cell on."""
+    """The column, if all cells of the log are in one; and its parts from the first wrong cell on, or up to the last."""
     words, some = evidence.test.memory.words, next(iter(evidence.wrong))
     first = bits_of(next(iter(evidence.wrong[some].values())))[0]
     if any(index % mux != some % mux for index in evidence.wrong):
@@ -119,7 +119,7 @@ def columns(evidence: Evidence, mux: int) -> Iterator[Line]:
 
 
 def row_parts(evidence: Evidence, mux: int) -> Iterator[Line]:
-    """The row of a log all of whose cells lie in one, its parts as the columns are numbered, and the word."""
+    """The row, if all cells of the log are in one; its parts by the numbers of the columns; and the word."""
     memory, row = evidence.test.memory, next(iter(evidence.wrong)) // mux
     if any(index // mux != row for index in evidence.wrong):
         return
@@ -143,7 +143,7 @@ def row_parts(evidence: Evidence, mux: int) -> Iterator[Line]:
 
 
 def of_port(evidence: Evidence) -> Iterator[Tuple[Line, Reading]]:
-    """Bits of the data in all words, and all of them."""
+    """Data bits in all words, and all of them together."""
     test, indices = evidence.test, range(evidence.test.memory.words)
     seen = 0
     for reads in evidence.wrong.values():

@@ -30,7 +30,7 @@ def told(read: Read, elements: list[Element], memory: Memory, mux: int) -> list[
 
 
 def bits_told(read: Read, memory: Memory, returned: int, mux: int) -> Iterator[str]:
-    """The bits of a word that are not as they are expected, and their columns."""
+    """The bits of a word that differ from the expected ones, and their columns."""
     wrong = [bit for bit in range(memory.bits) if (read.expected ^ returned) >> bit & 1]
     if not wrong:
         word = memory.digits(returned)
@@ -48,7 +48,7 @@ def check_expected(read: Read, memory: Memory, expected: int, where: str = "") -
 
 
 def check_mux(memory: Memory, mux: int) -> None:
-    """Each row of the array has as many words."""
+    """Refuses a --mux by which the rows of the array would not be equally long."""
     if memory.words % mux:
         raise ToolError(f"--mux {mux} does not divide the {memory.words} words of {memory.name}")
 
@@ -90,7 +90,7 @@ def in_chip(chip: Chip, cycle: int, units: list[int], words: list[str], mux: int
 
 
 def of_read(read: Read, elements: list[Element], memory: Memory, words: list[str], mux: int) -> list[str]:
-    """A read in words, with the bits that differ where the two words are there."""
+    """A read in words, with the bits that differ if the call has the two words."""
     lines = told(read, elements, memory, mux)
     if words:
         check_expected(read, memory, word_of(words[0], memory.bits, "EXPECTED"))
@@ -102,8 +102,8 @@ def of_read(read: Read, elements: list[Element], memory: Memory, words: list[str
 
 
 def register_of(target: Target, text: str) -> dict[str, int]:
-    """The parts of the register; behind a segment insertion bit a scan has this bit above it, and perhaps that of a
-    log."""
+    """The parts of the register. After a segment insertion bit, a scan has this bit above the register, and perhaps
+    that of a log."""
     size = length(target)
     value = word_of(text, size + 2 if target.has_sib else size, "the register")
     sizes = (size + 1, size + 2) if target.has_sib else (size,)

@@ -9,12 +9,12 @@ from vidlakost_tools.refusals.finding import close_to, listed, thousands
 from vidlakost_tools.tasks import tools
 
 CONSOLE = "vidlakost"
-# what the file of `show` is called in the forms of the other commands
+# the name of the file of `show` in the forms of the other commands
 SHOWN_AS = {"march": "MARCH", "memory": "MEMORY", "list": "FAULTS", "chip": "CHIPFILE", "module": "VERILOG"}
 
 
 def words_by_name(words: list[str]) -> dict[str, str]:
-    """The words of a call by their names in the command's form; the file of `show` by what it is read as."""
+    """The words of a call, by their names in the command's form. The file of `show` has the name of its kind."""
     named = dict(zip(form_of(words[0])[1:], words[1:])) if words else {}
     kind = named.get("KIND")
     if kind in SHOWN_AS and "FILE" in named:

@@ -78,7 +78,7 @@ def too_heavy(description: Description, line: int) -> Finding:
 
 
 def same_name(description: Description, number: int) -> Finding:
-    """C8: the memory of a unit has an earlier one's name, or its module has the chip's."""
+    """C8: the memory of a unit has the name of an earlier one, or its module has the name of the chip."""
     rows = units_of(description.statements)
     names = [parse_memory(read_described(memory)).name for *_, memory in rows[: number + 1]]
     line, _, _, memory = rows[number]
@@ -90,7 +90,7 @@ def same_name(description: Description, number: int) -> Finding:
 
 
 def unit_call(chip_file: str, said: str) -> tuple[list[str], str]:
-    """Of a refusal of one unit's march or memory the words of a call that has the same, and its line there."""
+    """For a refusal of one unit's march or memory: the words of a call with the same refusal, and its line there."""
     match = re.fullmatch(r"unit (\d+) (.*)", said)
     if match is None:
         raise ValueError(said)

@@ -1,5 +1,5 @@
 """What a refusal of the program means in this very call, as a compiler says it: FILE:LINE:COLUMN, the line with a
-caret, what is wrong there, and what could stand there instead."""
+caret, what is wrong there, and what is expected there instead."""
 from __future__ import annotations
 
 import os
@@ -16,7 +16,7 @@ from vidlakost_tools.texts.march import elements_of
 from vidlakost_tools.texts.memory import Memory, parse_memory
 from vidlakost_tools.tool import ToolError
 
-# the word of a call whose text a refusal speaks of
+# the word of a call that names the refused text
 SUBJECTS = {
     "march": ["MARCH"],
     "memory": ["MEMORY"],
@@ -36,7 +36,7 @@ FIELDS = [
 
 
 def values_of(code: str, rest: str) -> dict[str, str]:
-    """What a refusal carries, by name."""
+    """The values in a refusal, by name."""
     if code == "N3":
         return dict(zip(("x", "y"), rest.split()))
     if code in ("N7", "D4", "C4"):
@@ -49,13 +49,13 @@ def values_of(code: str, rest: str) -> dict[str, str]:
 
 
 def is_there_still(word: str) -> bool:
-    """Whether a text can be read a second time: what came by a pipe or a device is gone, and to open it again may wait
+    """Whether a text can be read a second time. What came by a pipe or a device is gone, and opening it again may wait
     for ever."""
     return os.path.isfile(word)
 
 
 def once(word: str, said: str) -> list[str]:
-    """What is said of a text that could be read only once."""
+    """The explanation of a refused text that could be read only once."""
     meant = next((when for form, when in meanings() if re.fullmatch(form, said)), "the program refuses it")
     return [f"{word}: error: {meant}", "  the text came by a pipe or a device, so its place is not shown"]
 
@@ -99,8 +99,8 @@ def refused_text(words: list[str], said: str) -> list[str]:
 
 
 def other_reader(command: str) -> list[str]:
-    """The tool that takes what the subset has not; it asks `check` of modules of its own making, whose refusal it
-    tells."""
+    """A hint at the tool that reads Verilog beyond the subset. That tool asks `check` about modules of its own making,
+    and passes on its refusals."""
     return (
         ["`vidlakost audit` reads a controller in any Verilog, also with other port names"]
         if command == "check"
@@ -108,7 +108,7 @@ def other_reader(command: str) -> list[str]:
     )
 
 
-# how a text of each kind begins; a comment ends at its first end alone, or many of them are tried in each division
+# how a text of each kind begins; a comment matches only up to its first end, since else the search would try many splits
 BEGINS = {
     "a march": rb"\s*(?:\{\s*)?(?:any|up|down|del|[v^*])\b\s*[(;}]",
     "a memory description": rb"(?:\s|#[^\n]*\n)*memory\b",
@@ -126,7 +126,7 @@ KINDS = {
 
 
 def another_kind(subject: str, kind: str, text: bytes) -> Iterator[str]:
-    """What is said of a text that begins with a byte-order mark, or as one of another kind does."""
+    """The hint for a text that begins with a byte-order mark, or like a text of another kind."""
     if text.startswith((b"\xef\xbb\xbf", b"\xff\xfe", b"\xfe\xff")):
         yield "the file begins with a byte-order mark: save it as plain UTF-8, without one"
     elif not re.match(BEGINS[KINDS[kind]], text, re.DOTALL):
@@ -152,7 +152,7 @@ def absent(word: str) -> list[str]:
 
 
 def why_not(word: str, mode: str) -> str:
-    """Why a file can't be opened, as the system says it."""
+    """Why the system doesn't open a file."""
     if os.path.isdir(word):
         return "it is a folder"
     folder = os.path.dirname(word) or "."
@@ -291,7 +291,7 @@ def no_primitives(words: list[str]) -> list[str]:
 
 
 def lines(words: list[str], said: str, status: int) -> list[str]:
-    """What is said of a refusal; nothing where the call is not one that can be explained."""
+    """The explanation of a refusal; empty if there is none for this call."""
     return list(map(visible, told_lines(words, said, status)))
 
 
@@ -318,5 +318,5 @@ def told_lines(words: list[str], said: str, status: int) -> list[str]:
             16: not_text(words),
         }.get(status, [])
     except (OSError, IndexError, ValueError, KeyError, StopIteration, TypeError, ToolError):
-        # a file that changed meanwhile, or words that are no command's
+        # a file changed meanwhile, or the words fit no command
         return []

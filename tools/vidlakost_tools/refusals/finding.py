@@ -1,5 +1,5 @@
-"""What is said of a refusal: a place in a text, shown as a compiler shows it, and what could stand there, found by
-asking the program of the text cut at that place with each word of the grammar behind it."""
+"""The explanation of a refusal: a place in a text, shown as a compiler shows it, and what is expected there. To find
+that, it asks the program about the text up to that place, followed by each word of the grammar."""
 from __future__ import annotations
 
 import dataclasses
@@ -15,8 +15,8 @@ from vidlakost_tools.program import quick_program
 
 @dataclasses.dataclass
 class Finding:
-    """A refusal of one text: the name of the text, its bytes, the byte that is meant (None: the text as a whole), what
-    is wrong there, and further lines."""
+    """A refusal of one text: the name of the text, its bytes, the byte in question (None: the whole text), what is
+    wrong there, and further lines."""
 
     name: str
     text: bytes
@@ -53,7 +53,7 @@ def caret(text: bytes, at: int) -> list[str]:
 
 
 def line_start(text: bytes, line: int) -> int:
-    """The byte with which a line begins, lines counted from 1."""
+    """The byte at which a line begins; lines count from 1."""
     return sum(len(part) + 1 for part in text.split(b"\n")[: line - 1])
 
 
@@ -69,7 +69,7 @@ def thousands(number: int | str) -> str:
 
 
 def listed(words: list[str], last: str = "or") -> str:
-    """Words as a sentence lists them."""
+    """Words as a list in a sentence."""
     return words[0] if len(words) == 1 else f"{', '.join(words[:-1])} {last} {words[-1]}"
 
 
@@ -84,7 +84,7 @@ def close_to(word: str, names: list[str]) -> str | None:
     return folded[found[0]] if found else None
 
 
-# ---- what could stand there
+# ---- what is expected there
 
 CLASSES = "SF TF WDF RDF DRDF IRF CFst CFds CFtr CFwd CFrd CFdr CFir DRF".split()
 GROUPS = "one two all dyn1 dyn2".split()
@@ -135,7 +135,7 @@ TOKENS = {
         "0",
     ],
 }
-# how a token of many is told
+# how to show a token that stands for many
 SHOWN = {
     "memory": {
         "\n": "the end of the line",
@@ -150,13 +150,13 @@ SHOWN = {
 }
 
 
-# the longest text that is tried, in bytes: of a longer one what could stand somewhere is not told. Not a time: what is
-# told of a text is then the same on every machine, however busy it is.
+# the longest text, in bytes, for which it says what is expected. This is not a time limit, so that the answer for a text
+# is the same on every machine, however busy it is.
 LONGEST = 65536
 
 
 class Trier:
-    """Asks a program of texts; without a program that answers at once nothing is found."""
+    """Asks a program about texts. Without a program that answers at once it finds nothing."""
 
     # the command that reads a module as the call does
     reader = "benchfile"
@@ -166,13 +166,13 @@ class Trier:
         self.program = quick_program()
 
     def refusal(self, folder: pathlib.Path, text: bytes) -> str:
-        """The program's line for a text; of one that is accepted its printed form, or `absent`, since the next one is
-        missing."""
+        """The program's line for a text. For an accepted text it is the printed form, or `absent`, since the next file
+        is missing."""
         file, march, missing = folder / "text", folder / "march", folder / "missing"
         file.write_bytes(text)
         march.write_text("any(w0)")
         if self.is_word:
-            # as the file of a list the primitive would be followed by the end of its line
+            # in the file of a list the end of its line would follow the primitive
             words = ["sim", march, text.decode("utf-8", "replace"), "2", "00", "none", "0", "u"]
         else:
             words = [self.reader, file, missing, march] if self.kind == "verilog" else ["show", self.kind, file]
@@ -186,7 +186,7 @@ class Trier:
         return done.stdout.decode("utf-8", "replace").strip()
 
     def fits(self, folder: pathlib.Path, text: bytes) -> bool:
-        """Whether a text is not refused before its end."""
+        """Whether the program reads a text up to its end, without a refusal before that."""
         if self.is_word and b"\0" in text:
             return False
         match = re.fullmatch(r"\w+ [MFDLC]1(?: line (?P<line>\d+))? byte (?P<byte>\d+)", self.refusal(folder, text))
@@ -196,13 +196,13 @@ class Trier:
         return at is None or at >= len(text)
 
     def whole_before(self, folder: pathlib.Path, text: bytes, at: int) -> bool:
-        """Whether a word that ends at a byte is whole, so that what follows it is to blame and not the word."""
+        """Whether a word that ends at a byte is complete. Then what follows it is to blame, not the word."""
         ends = at > 0 and is_letter(text[at - 1 : at]) and not is_letter(text[at : at + 1])
         return ends and self.fits(folder, text[:at] + b" ")
 
     def fitting(self, text: bytes, at: int) -> tuple[list[str], bool]:
-        """The tokens with which the text goes on at a byte, or at the beginning of the word in which it stands, and
-        whether the word in front of the byte is whole."""
+        """The tokens that can follow at a byte, or at the beginning of the word that has the byte; and whether the word
+        before the byte is complete."""
         if self.program is None or len(text) > LONGEST:
             return [], False
         begin = max(text.rfind(b"\n", 0, at), text.rfind(b">", 0, at))
@@ -215,17 +215,17 @@ class Trier:
                 before = text[: at - 1 if text[at - 1 : at] in (b"w", b"r") else at]
             else:
                 before = text[:at] + b" " if whole else text[: word_start(text, at)]
-            # a second line of the version is of the grammar, and refused later
+            # the grammar allows a second line of the version; the program refuses it later
             tokens = [token for token in TOKENS[kind] if token not in ("memory 1", "chip 1") or not before.strip()]
             found = [
                 token
                 for token in tokens
                 if self.fits(folder, before + token.encode() + (b" " if is_letter(token[-1:].encode()) else b""))
             ]
-        # a background is a word of hexadecimal digits, of which a0 and 1 are two
+        # a background is a word of hexadecimal digits, as a0 or 1
         if kind == "memory" and {"a0", "1"} <= set(found):
             found = [token for token in found if token not in ("a0", "1")] + ["a hexadecimal word"]
-        # where any name may stand, the words that may name something are not told
+        # where any name may come, it does not list the words that could be one
         return ["x"] if kind == "memory" and "x" in found else found, whole
 
 
@@ -234,21 +234,21 @@ def is_letter(byte: bytes) -> bool:
 
 
 def word_start(text: bytes, at: int) -> int:
-    """Where the word begins in which, or right behind which, a byte stands."""
+    """The beginning of the word that has this byte, or that ends right before it."""
     while at and is_letter(text[at - 1 : at]):
         at -= 1
     return at
 
 
 def word_at(text: bytes, at: int, behind: bool = False) -> str:
-    """The word or the mark at a byte; with `behind` what begins there, and not the word that ends there."""
+    """The word or the mark at a byte. With `behind` it is what begins there, not the word that ends there."""
     start = at if behind else word_start(text, at)
     match = re.compile(rb"[\w$]+|[\xc0-\xff][\x80-\xbf]*|[^\n]").match(text, start)
     return match[0].decode("utf-8", "replace") if match else ""
 
 
 def could_stand(kind: str, text: bytes, at: int, is_word: bool = False) -> tuple[list[str], list[str], bool]:
-    """The tokens that could stand at a byte, the note that lists them, and whether the word in front is whole."""
+    """The tokens that can come at a byte, the note that lists them, and whether the word before it is complete."""
     found, whole = Trier(kind, is_word).fitting(text, at)
     shown = list(dict.fromkeys(SHOWN.get(kind, {}).get(token, token) for token in found))
     return found, [f"expected here: {listed(shown)}"] if shown else [], whole

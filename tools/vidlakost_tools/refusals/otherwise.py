@@ -1,6 +1,6 @@
-"""What other tools may read otherwise than the program does, though the standard is on its side: bytes in a module's
-comments that some obey or end a line at, a `?` that some take for a digit, shifts so far that some take another value,
-and names of a chip that SystemVerilog reserves."""
+"""What other tools may read otherwise than the program, although the standard is on its side. In comments these are
+bytes that some tools obey, or take for the end of a line. There are also a `?` that some take for a digit, shifts by so
+much that some take another value, and names of a chip that SystemVerilog reserves."""
 from __future__ import annotations
 
 import re
@@ -12,7 +12,7 @@ from vidlakost_tools.text import read_bytes, read_described, statements
 from vidlakost_tools.verilog.syntax import COMMENT, Expression, Unread
 from vidlakost_tools.verilog.reserved_words import OF_SYSTEM_VERILOG
 
-# what may stand in a comment, or as a blank, and why another tool may go another way
+# what may be in a comment, or be a blank, and why another tool may read it otherwise
 IN_TEXT = [
     (rb"\r(?!\n)", "a carriage return without a line feed: some tools end the line there, and a comment with it"),
     (rb"\f", "a form feed: some tools end the line there, and a comment with it"),
@@ -34,13 +34,13 @@ BEHIND_DECIMAL = (
     rb"'[dD][0-9][0-9_]*(\?)",
     "a `?` right after a decimal literal: Verilator and Yosys take it for a digit, and refuse the module",
 )
-# from here on Yosys takes the amount of a shift for a negative number
+# from this amount of a shift on, Yosys takes it for a negative number
 FAR = 1 << 31
 FAR_SHIFT = "a shift whose amount can be 2147483648 or more: Yosys takes another value"
 
 
 class Shifts(Events):
-    """The places of the shifts of a module whose amount can be too far."""
+    """The places of the shifts in a module whose amount can be too large."""
 
     def __init__(self, text: bytes):
         self.far: list[int] = []
@@ -55,7 +55,7 @@ class Shifts(Events):
         return self.known[id(it)]
 
     def greatest(self, it: Expression) -> int:
-        """A number that an expression doesn't exceed."""
+        """An upper bound of the value of an expression."""
         if it.kind == "literal":
             return it.value
         if it.kind == "choice":
@@ -69,7 +69,7 @@ class Shifts(Events):
 
 
 def far_shift(text: bytes) -> int | None:
-    """The place of the first shift whose amount can be too far."""
+    """The place of the first shift whose amount can be too large."""
     try:
         return min(Shifts(text).far, default=None)
     except Unread:
@@ -82,7 +82,7 @@ def blanked(match: re.Match[bytes]) -> bytes:
 
 
 def places_in(text: bytes) -> Iterator[tuple[int, str]]:
-    """Of each kind the first byte, and what it is."""
+    """For each kind: its first byte, and what it is."""
     pattern, why = BEHIND_DECIMAL
     behind = re.search(pattern, re.sub(COMMENT.encode(), blanked, text, flags=re.DOTALL))
     if behind:
@@ -106,7 +106,7 @@ def places_in(text: bytes) -> Iterator[tuple[int, str]]:
 
 
 def of_module(name: str, text: bytes) -> list[str]:
-    """The warnings of a module that is read."""
+    """The warnings about an accepted module."""
     lines = []
     for at, why in sorted(places_in(text)):
         row, column = place(text, at)
@@ -115,7 +115,7 @@ def of_module(name: str, text: bytes) -> list[str]:
 
 
 def of_chip(name: str, text: str) -> list[str]:
-    """The warnings of a chip file: its name, as the name of a module, beside the words and ports that are taken."""
+    """The warnings about a chip file: its name, as the name of a module, beside reserved words and the ports."""
     said = [(line, rest) for line, word, rest in statements(text) if word == "name"]
     units = sum(word == "unit" for _, word, _ in statements(text))
     ports = {"clk", "reset", "done", "fail"} | {
@@ -133,7 +133,7 @@ def of_chip(name: str, text: str) -> list[str]:
 
 
 def warnings_of(words: list[str]) -> list[str]:
-    """What is said of a call that is done."""
+    """The warnings for a call that succeeded."""
     if words[:1] in (["check"], ["benchfile"]) and len(words) == 4:
         return of_module(words[1], read_bytes(words[1]))
     if words[:1] == ["chip"] and len(words) == 3:

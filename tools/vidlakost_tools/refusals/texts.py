@@ -36,7 +36,7 @@ def march(name: str, text: bytes, code: str, values: Mapping[str, str]) -> Findi
     if code == "M2":
         return early("march", name, text, "the march")
     said = text.decode("utf-8")
-    # the byte of each element, and of its operations
+    # the byte at which each element begins, and each of its operations
     elements = [
         (len(said[: it.at].encode()), [(len(said[:at].encode()), word) for at, word in zip(it.places, it.operations)])
         for it in read_elements(said)
@@ -95,7 +95,7 @@ def march(name: str, text: bytes, code: str, values: Mapping[str, str]) -> Findi
 
 
 def unexpected(kind: str, name: str, text: bytes, at: int, names: list[str], is_word: bool = False) -> Finding:
-    """A byte with which a text can't go on: the word in which it stands, or behind which, where that is not whole."""
+    """A byte that can't follow: the word that has it, or the word before it if that is incomplete."""
     inside = is_word or kind == "list" and b"<" in text[text.rfind(b"\n", 0, at) + 1 : at]
     tokens, notes, whole = could_stand(kind, text, at, is_word)
     start = at if inside or whole else word_start(text, at)
@@ -203,7 +203,7 @@ KEYWORDS = "memory name words bits latency polarity pause scramble backgrounds".
 
 
 class Description:
-    """A memory description that is refused: its bytes, and what its lines say."""
+    """A refused memory description: its bytes, and what its lines say."""
 
     def __init__(self, name: str, text: bytes):
         self.name, self.text = name, text
@@ -350,7 +350,7 @@ def outside_row(description: Description, line: int, rest: str) -> Finding:
 
 
 def dependent(description: Description, names: list[str]) -> Finding:
-    """D6: the last row that is named is the exclusive or of the others."""
+    """D6: the last named row is the exclusive or of the others."""
     *others, last = names
     rows = description.rows()
     line, (_, constant) = rows[int(last[1:])]

@@ -1,4 +1,4 @@
-"""Where a module breaks the rule, or has the wrong port, that the program names."""
+"""Where a module breaks a rule that the program names, or has a wrong port."""
 from __future__ import annotations
 
 import dataclasses
@@ -27,7 +27,7 @@ class Name:
 
 @dataclasses.dataclass
 class Event:
-    """Something of a module that a rule speaks of: what happens, to which name, where, and two widths or the block."""
+    """An event in a module that a rule is about: what happens, to which name, where, and two widths or the block."""
 
     kind: str
     name: str
@@ -90,7 +90,7 @@ class Events:
     # expressions, each with its width (None: unknown)
 
     def width_of(self, token: Token) -> int | None:
-        """The width of a name that is used, which is noted."""
+        """The width of a name in an expression; this use is recorded."""
         self.note("use", token, token.text in self.names)
         return self.names[token.text].width if token.text in self.names else None
 
@@ -150,7 +150,7 @@ def rule(name: str, text: bytes, code: str, values: Mapping[str, str]) -> Findin
 
 
 def broken(module: Events, event: Event, code: str, what: str, values: Mapping[str, str]) -> str | None:
-    """What is wrong with an event, where it is the one that breaks the rule."""
+    """What is wrong with an event, if it is the one that breaks the rule."""
     if code == "N3":
         widths = (int(values["x"]), int(values["y"]))
         if event.kind != "width" or event.detail != widths:
@@ -236,7 +236,7 @@ def bits(width: int) -> str:
 
 
 def port(name: str, text: bytes, what: str, memory: Memory) -> Finding:
-    """The port that is not as the self-test of a memory has it."""
+    """The port that differs from that of a memory's self-test."""
     module, wanted = Events(text), wanted_ports(memory)
     if what not in wanted:
         return Finding(
@@ -266,7 +266,8 @@ def port(name: str, text: bytes, what: str, memory: Memory) -> Finding:
 
 
 def too_deep(text: bytes, at: int) -> str:
-    """What is too much at a byte. No module opens anything at byte 0, so there it is the text that `show` would say."""
+    """What is too much at a byte. No module opens anything at byte 0, so byte 0 means the text that `show` would
+    print."""
     if at == 0:
         return (
             "with parentheses round each operator, this module opens more than 64 of (, {, begin, case and if at once"

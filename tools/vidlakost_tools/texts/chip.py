@@ -15,7 +15,7 @@ from vidlakost_tools.tool import Refused, identifier, number_of
 
 @dataclasses.dataclass
 class Unit:
-    """A memory of a chip, its march, and how heavy it is; its group, and the cycle in which its own reset ends."""
+    """A memory of a chip with its march, its weight, its group, and the cycle in which its own reset ends."""
 
     weight: int
     march: str
@@ -27,7 +27,7 @@ class Unit:
 
     @property
     def length(self) -> int:
-        """How many cycles behind its start its test is done."""
+        """How many cycles after its start its test is done."""
         return self.memory.cycles(self.elements) - 1
 
     @property
@@ -58,8 +58,8 @@ class Chip:
 
 
 def place(chip: Chip) -> None:
-    """Gives each unit the first group that has room for it, and its start: a group begins in the last cycle but one of
-    the longest test of the group before it, which is the cycle of its reset."""
+    """Gives each unit the first group that has room for it, and its start. A group begins, with the cycle of its reset,
+    in the last cycle but one of the longest test of the group before it."""
     loads: list[int] = []
     for unit in chip.units:
         room = (number for number, load in enumerate(loads) if load + unit.weight <= chip.budget)
@@ -75,7 +75,7 @@ def place(chip: Chip) -> None:
 
 
 def check_with_program(path: str | os.PathLike[str]) -> None:
-    """Hands on a refusal of the program."""
+    """Raises a refusal of the program."""
     with tempfile.TemporaryDirectory() as folder:
         status, said = run("chip", path, pathlib.Path(folder) / "chip.v")
     if status > 1 or status < 0:
@@ -83,13 +83,13 @@ def check_with_program(path: str | os.PathLike[str]) -> None:
 
 
 def units_of(said: list[tuple[int, str, str]]) -> list[tuple[int, str, str, str]]:
-    """Of each unit its line, its weight, its march and its memory."""
+    """For each unit: its line, its weight, its march and its memory."""
     rows = [(line, rest.split(" ")) for line, word, rest in said if word == "unit"]
     return [(line, parts[0], parts[1], parts[2]) for line, parts in rows if len(parts) == 3]
 
 
 def read_chip(path: str | os.PathLike[str]) -> Chip:
-    """The chip of a file, as the program reads it, its units in their groups."""
+    """The chip of a file, as the program reads it, with its units in their groups."""
     check_with_program(path)
     lines = statements(ask("show", "chip", path))
     said = {word: rest for _, word, rest in lines}

@@ -26,7 +26,7 @@ TOTAL = re.compile("total 5 covered ([0-5]) escapes ([0-5])")
 
 @dataclasses.dataclass
 class DecoderVerdict:
-    """A line of a report on a fault; `content` is empty where it is covered."""
+    """A line of a report on a fault; `content` is empty if it is covered."""
 
     name: str
     x: int = 0
@@ -40,7 +40,7 @@ class DecoderVerdict:
 
     @property
     def primitive(self) -> str:
-        """What a list of verdicts is told by."""
+        """The key by which lists of verdicts name this one."""
         return self.name
 
     @property
@@ -48,11 +48,11 @@ class DecoderVerdict:
         return CLASS
 
     def place(self, address: int) -> str:
-        """An address, by which of the two it is."""
+        """The name of an address: x or y, and its number."""
         return f"{'x' if address == self.x else 'y'} {address}"
 
     def as_object(self) -> dict[str, object]:
-        """The line in the schema of `tools/report --json`, but for the cells of its escape."""
+        """The line in the schema of `tools/report --json`, without the cells of its escape."""
         made: dict[str, object] = {"primitive": self.primitive, "class": self.kind, "covered": self.covered}
         if not self.covered:
             made["escape"] = {
@@ -73,14 +73,14 @@ class DecoderVerdict:
         return [self.x, self.y] if self.name.startswith("both") else []
 
     def answer(self, cells: list[int], address: int) -> int:
-        """What a read answers."""
+        """The answer of a read."""
         held = [cells[cell] for cell in self.reached(address)]
         if not held:
             return int(self.name[-1])
         return min(held) if self.name == "both and" else max(held)
 
     def steps(self, elements: list[Element]) -> Iterator[Step]:
-        """The steps of a march, to the first read that differs. The cell of a step is the address; it acts at x."""
+        """The steps of a march up to the first read that differs. The cell of a step is the address; it acts at x."""
         cells = [int(digit) for digit in self.content]
         yield Step(None, "", None, self.content, None, False)
         for count, (element, direction) in enumerate(zip(elements, self.directions)):
@@ -132,7 +132,7 @@ def is_report(path: Path) -> bool:
 
 
 def read_report(path: Path) -> DecoderReport:
-    """The report of a file, line by line; what is none is refused with the line that shows it."""
+    """The report of a file, line by line. Any other text is refused, with the first wrong line."""
     lines = lines_of(read_text(path))
     if len(lines) != 2 + len(NAMES) or not re.fullmatch(r"march [{}();,a-z0-9]+", lines[0]):
         raise ToolError(f"{path}: this is no report of `decoder`")
@@ -150,7 +150,7 @@ def read_report(path: Path) -> DecoderReport:
 
 
 def decoded(march: Path) -> DecoderReport:
-    """What `decoder` reports of a march."""
+    """The report of `decoder` on a march."""
     with tempfile.TemporaryDirectory() as folder:
         path = pathlib.Path(folder) / "report"
         ask("decoder", march, path)

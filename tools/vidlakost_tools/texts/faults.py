@@ -1,4 +1,4 @@
-"""Fault primitives, and one array of cells with one instance of a primitive, by the definition."""
+"""Fault primitives, and one array of cells with one instance of a primitive, modelled by the definition."""
 from __future__ import annotations
 
 import dataclasses
@@ -37,13 +37,13 @@ PRIMITIVE = re.compile(
 
 
 def sense(text: str) -> Sense:
-    """A sense; one that begins with a read has the state that is read."""
+    """A sense. If it begins with a read, its state is the bit that the read expects."""
     text = text[1] + text if text[0] == "r" else text
     return Sense(int(text[0]), re.findall(r"[wr][01]|t", text[1:]))
 
 
 def read_primitive(text: str) -> Primitive:
-    """The primitive of a text of the grammar; whether it describes a fault is the program's to say."""
+    """The primitive in a text of the grammar. Whether it describes a fault, the program decides."""
     match = PRIMITIVE.fullmatch("".join(text.split()))
     if match is None or any(
         part is not None and not re.match("[01r]", part) for part in (match["aggressor"], match["victim"])
@@ -67,7 +67,7 @@ def place_of(text: str) -> tuple[int, int]:
 
 @dataclasses.dataclass
 class Step:
-    """What an operation (or a pause, or the state before the march) did: the cells behind it, what it read, and whether
+    """What an operation (or a pause, or the state before the march) did: the cells after it, what it read, and whether
     the primitive acted in it."""
 
     element: int | None
@@ -83,10 +83,10 @@ class Step:
 
 
 class Array:
-    """Some cells with one instance of a primitive, by the definition: a primitive without an operation acts wherever
-    its states hold, one with a pause in each pause that finds its state, one with an operation in that operation, and
-    one with two operations in the second, where that is done right behind the first, all states held before the first,
-    and the first left in its cell what it plainly leaves."""
+    """Some cells with one instance of a primitive, by the definition. A primitive without an operation acts wherever
+    its states hold. One with a pause acts in each pause that finds its state. One with an operation acts in that
+    operation. One with two operations acts in the second: it has to come right after the first, all states have to hold
+    before the first, and the first has to leave in its cell what it leaves without a fault."""
 
     def __init__(self, primitive: Primitive, aggressor: int | None, victim: int, content: str):
         self.primitive, self.victim = primitive, victim
@@ -99,7 +99,7 @@ class Array:
         self.armed = False
 
     def own_cell(self) -> int:
-        """The cell of the operations of a primitive that has some."""
+        """The cell of the operations, for a primitive that has some."""
         if self.actor is None:
             raise ToolError("the primitive has no operation")
         return self.actor
@@ -108,7 +108,7 @@ class Array:
         return all(self.cells[cell] == part.state for cell, part in self.senses.items())
 
     def close(self) -> bool:
-        """Whether a primitive of states alone changes the victim now."""
+        """Whether a primitive without operations changes the victim now."""
         acts = self.actor is None and self.holds() and self.cells[self.victim] != self.primitive.after
         if acts:
             self.cells[self.victim] = self.primitive.after
@@ -141,7 +141,7 @@ class Array:
         return answer, self.close() or acts
 
     def march(self, elements: list[Element], directions: str) -> Iterator[Step]:
-        """The steps of a march, to the first read that differs."""
+        """The steps of a march up to the first read that differs."""
         yield Step(None, "", None, *self._behind(None, self.close()))
         for count, (element, direction) in enumerate(zip(elements, directions)):
             if element.is_pause:

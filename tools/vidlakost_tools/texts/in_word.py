@@ -26,7 +26,8 @@ CONTENTS = ("00", "01", "10", "11")
 
 @dataclasses.dataclass
 class WordVerdict:
-    """A line on a coupling; of an escape the numbers of two bits, and what they hold, the aggressor's digit first."""
+    """A line on a coupling. For an escape it has the numbers of two bits, and what they hold, the aggressor's digit
+    first."""
 
     primitive: str
     kind: str
@@ -93,7 +94,7 @@ def is_in_word(path: Path) -> bool:
 
 
 def verdict_of(line: str, bits: int) -> WordVerdict | None:
-    """The verdict of a line, or none where it isn't one on two bits of such a word."""
+    """The verdict of a line, or None if it is not one on two bits of such a word."""
     match = COVERED.fullmatch(line)
     if match:
         return WordVerdict(match["primitive"], match["kind"])
@@ -106,7 +107,7 @@ def verdict_of(line: str, bits: int) -> WordVerdict | None:
 
 
 def read_in_word(path: Path) -> InWordReport:
-    """The report of a file, line by line; what is none is refused with the line that shows it."""
+    """The report of a file, line by line. Any other text is refused, with the first wrong line."""
     lines = lines_of(read_text(path))
 
     def refuse(count: int, why: object) -> NoReturn:
@@ -137,7 +138,7 @@ def read_in_word(path: Path) -> InWordReport:
 
 
 def judged_in_word(march: Path, memory: Path, faults: Path) -> InWordReport:
-    """What `inword` reports of a march, a memory and a list."""
+    """The report of `inword` on a march, a memory and a list."""
     with tempfile.TemporaryDirectory() as folder:
         path = pathlib.Path(folder) / "report"
         ask("inword", march, memory, faults, path)
@@ -150,7 +151,7 @@ def judged_in_word(march: Path, memory: Path, faults: Path) -> InWordReport:
 @dataclasses.dataclass
 class WordStep:
     """What an operation on the word (or a pause, or the state before the test) did to the two bits. `due` is what they
-    have to hold behind it, `answer` what a read shows; of all pairs the aggressor's digit comes first."""
+    should hold after it, and `answer` what a read shows. Each pair has the aggressor's digit first."""
 
     background: int | None
     element: int | None
@@ -166,8 +167,8 @@ class WordStep:
 
 
 class Couple:
-    """Two bits of one word with an instance of a coupling, by the definition: an operation on the word is one on both
-    bits; the word is written, and then the victim goes wrong."""
+    """Two bits of one word with an instance of a coupling, by the definition. An operation on the word is one on both
+    bits. The word is written first, and then the victim goes wrong."""
 
     def __init__(self, primitive: Primitive, content: str):
         if primitive.aggressor is None:
@@ -185,14 +186,14 @@ class Couple:
         self.v = self.primitive.after
 
     def close(self) -> bool:
-        """Whether a primitive of states alone changes the victim now."""
+        """Whether a primitive without operations changes the victim now."""
         acts = not self.primitive.operations and self.holds() and self.v != self.primitive.after
         if acts:
             self.go_wrong()
         return acts
 
     def is_own(self, word: str | None) -> bool:
-        """Whether writing these digits (None: reading) is the operation of the primitive, at either bit."""
+        """Whether a write of these digits (None: a read) is the operation of the primitive, at either bit."""
         return any(
             sense.operations == [f"r{held}" if word is None else f"w{word[place]}"]
             for place, (sense, held) in enumerate(self.by_bit())
@@ -202,7 +203,7 @@ class Couple:
         return (self.aggressor, self.a), (self.primitive.victim, self.v)
 
     def operate(self, word: str | None) -> tuple[str | None, bool]:
-        """Writes these digits, or reads where there are none: what a read shows, and whether the primitive acted."""
+        """Writes these digits (None: reads). Returns what a read shows, and whether the primitive acted."""
         acts = self.holds() and self.is_own(word)
         answer = self.shown() if word is None else None
         if word is not None:
@@ -220,7 +221,7 @@ def digits(word: int, aggressor: int, victim: int) -> str:
 
 
 def steps_of(verdict: WordVerdict, elements: list[Element], memory: Memory) -> Iterator[WordStep]:
-    """The steps of the test at the two bits of an escape, to the first read that shows another pair."""
+    """The steps of the test at the two bits of an escape, up to the first read that shows another pair."""
     couple = Couple(read_primitive(verdict.primitive), verdict.content)
     due = verdict.content
     acts = couple.close()
@@ -274,7 +275,7 @@ def meets_alone(couple: Couple, steps: list[WordStep]) -> bool:
 
 
 def why_never(verdict: WordVerdict, steps: list[WordStep]) -> str:
-    """What the test lacks where a primitive never acts."""
+    """What the test lacks if a primitive never acts."""
     couple = Couple(read_primitive(verdict.primitive), verdict.content)
     if not couple.primitive.operations:
         return "its states never hold together"
@@ -289,7 +290,7 @@ def why_never(verdict: WordVerdict, steps: list[WordStep]) -> str:
 
 
 def hidden(steps: list[WordStep], memory: Memory) -> list[str]:
-    """Why no read shows it where the primitive acts, each reason with the place of the first time."""
+    """Why no read shows that the primitive acts: each reason, with the place of the first time."""
     found: dict[str, str] = {}
     for count, step in enumerate(steps):
         if not step.acts:

@@ -31,14 +31,14 @@ VERDICT = re.compile(
 
 @dataclasses.dataclass
 class LinkedStep(Step):
-    """A step of a march on three cells; `acting` is the primitive that acts in it, 1 or 2, or 0 where none does."""
+    """A step of a march on three cells; `acting` is the primitive that acts in it, 1 or 2, or 0 if none does."""
 
     acting: int = 0
 
 
 @dataclasses.dataclass
 class LinkVerdict:
-    """A line of a report on a link; `content` is empty where it is covered."""
+    """A line of a report on a link; `content` is empty if it is covered."""
 
     kind: str
     first: str
@@ -55,11 +55,11 @@ class LinkVerdict:
 
     @property
     def primitive(self) -> str:
-        """What a list of verdicts is told by."""
+        """The key by which lists of verdicts name this one."""
         return f"{self.kind} {self.first} {self.second}"
 
     def role(self, cell: int) -> str:
-        """What a cell is to the two primitives."""
+        """The roles of a cell in the two primitives."""
         roles = [name for name, at in (("a", self.a), ("b", self.b), ("v", self.v)) if at == cell]
         return " ".join(roles)
 
@@ -67,7 +67,7 @@ class LinkVerdict:
         return f"cell {cell}"
 
     def as_object(self) -> dict[str, object]:
-        """The line in the schema of `tools/report --json`, but for the cells of its escape."""
+        """The line in the schema of `tools/report --json`, without the cells of its escape."""
         made: dict[str, object] = {"primitive": self.primitive, "class": self.kind, "covered": self.covered}
         if not self.covered:
             made["escape"] = {
@@ -81,7 +81,7 @@ class LinkVerdict:
         return made
 
     def steps(self, elements: list[Element]) -> Iterator[LinkedStep]:
-        """The steps of a march, to the first read that differs."""
+        """The steps of a march up to the first read that differs."""
         run = LinkedRun(self)
         yield LinkedStep(None, "", None, self.content, None, False)
         for count, (element, direction) in enumerate(zip(elements, self.directions)):
@@ -97,8 +97,8 @@ class LinkVerdict:
 
 
 class LinkedRun:
-    """Three cells with two linked primitives, by the definition: the plain part of an operation, and then the effect of
-    the primitive whose operation it is, with all its states held before."""
+    """Three cells with two linked primitives, by the definition. First comes the plain part of an operation. Then comes
+    the effect of the primitive that has this operation, if all its states held before."""
 
     def __init__(self, verdict: LinkVerdict):
         self.cells = [int(digit) for digit in verdict.content]
@@ -109,7 +109,7 @@ class LinkedRun:
         return "".join(map(str, self.cells))
 
     def is_own(self, primitive: Primitive, aggressor: int | None, cell: int, operation: str) -> bool:
-        """Whether the operation is the primitive's, and finds its states."""
+        """Whether the operation is that of the primitive, and finds its states."""
         parts = [(self.victim, primitive.victim)]
         if primitive.aggressor is not None and aggressor is not None:
             parts.append((aggressor, primitive.aggressor))
@@ -118,7 +118,7 @@ class LinkedRun:
         return holds and any(at == cell and part.operations == [done] for at, part in parts)
 
     def act(self, cell: int, operation: str) -> tuple[int | None, int]:
-        """What an operation on a cell answers, and which primitive acts in it."""
+        """The answer of an operation on a cell, and which primitive acts in it."""
         own = [count for count, (it, at) in enumerate(self.links, 1) if self.is_own(it, at, cell, operation)]
         answer = self.cells[cell] if operation[0] == "r" else None
         if operation[0] == "w":
@@ -144,7 +144,7 @@ class LinkedReport:
 
     @property
     def kinds(self) -> dict[str, tuple[int, int]]:
-        """Of each kind how many links there are, and how many of them are covered."""
+        """For each kind: how many links there are, and how many of them are covered."""
         return {
             kind: (count, sum(it.covered for it in self.verdicts if it.kind == kind)) for kind, count in KINDS.items()
         }
@@ -178,7 +178,7 @@ def is_report(path: Path) -> bool:
 
 
 def read_report(path: Path) -> LinkedReport:
-    """The report of a file, line by line; what is none is refused with the line that shows it."""
+    """The report of a file, line by line. Any other text is refused, with the first wrong line."""
     lines = lines_of(read_text(path))
     count = sum(KINDS.values())
     if len(lines) != count + len(KINDS) + 2 or not re.fullmatch(r"march [{}();,a-z0-9]+", lines[0]):
@@ -202,7 +202,7 @@ def read_report(path: Path) -> LinkedReport:
 
 
 def linked(march: Path) -> LinkedReport:
-    """What `linked` reports of a march."""
+    """The report of `linked` on a march."""
     with tempfile.TemporaryDirectory() as folder:
         path = pathlib.Path(folder) / "report"
         ask("linked", march, path)
@@ -213,7 +213,7 @@ def linked(march: Path) -> LinkedReport:
 
 
 def good_bit(verdict: LinkVerdict, steps: list[LinkedStep]) -> str:
-    """What a good victim holds behind these steps."""
+    """What a good victim holds after these steps."""
     written = [step.operation[1] for step in steps if step.cell == verdict.v and step.operation[0] == "w"]
     return written[-1] if written else verdict.content[verdict.v]
 

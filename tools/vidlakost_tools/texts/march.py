@@ -1,4 +1,4 @@
-"""Marches: the elements of one that the program accepts."""
+"""The elements of a march that the program accepts."""
 from __future__ import annotations
 
 import dataclasses
@@ -64,7 +64,7 @@ def elements_of(march: str) -> list[Element]:
 
 
 def length_of(elements: list[Element]) -> str:
-    """The operations on each of n words, and the pauses, as the literature writes it: 23n+2D."""
+    """The length as the literature writes it: the operations on each of n words, and the pauses, as 23n+2D."""
     pauses = sum(element.is_pause for element in elements)
     return f"{sum(len(element.operations) for element in elements)}n" + (f"+{pauses}D" if pauses else "")
 

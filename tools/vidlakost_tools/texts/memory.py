@@ -1,4 +1,4 @@
-"""Memory descriptions: the reader of one that the program accepts, and its addresses, words and cycles."""
+"""The reader of memory descriptions that the program accepts, with the addresses, words and cycles of such a memory."""
 from __future__ import annotations
 
 import dataclasses
@@ -24,7 +24,7 @@ class Memory:
     backgrounds: list[int]
 
     def __post_init__(self) -> None:
-        """What goes into paths and into texts of Verilog is looked at here, whatever was read."""
+        """Checks what goes into paths and Verilog texts, whatever was read."""
         identifier(self.name, "the name of a memory")
         limits = ((self.words, 2, 65536), (self.bits, 1, 64), (self.latency, 1, 4), (self.pause, 1, 65535))
         words = (self.polarity, *self.backgrounds)
@@ -50,7 +50,7 @@ class Memory:
         )
 
     def way_back(self) -> list[Row]:
-        """For each bit of an index the address bits whose exclusive or it is, and its constant."""
+        """For each bit of an index: the address bits whose exclusive or it is, and its constant."""
         rows = []
         for i in range(self.width):
             bits, constant = self.row(i)
@@ -68,7 +68,7 @@ class Memory:
         return self.pause if element.is_pause else len(element.operations) * self.words
 
     def cycles(self, elements: list[Element]) -> int:
-        """The cycles of a whole test, from the first of the reset to the one that shows the last comparison."""
+        """The cycles of a whole test, from the reset to the cycle that shows the last comparison."""
         return len(self.backgrounds) * sum(map(self.cycles_of, elements)) + self.latency + 2
 
     def digits(self, word: int) -> str:
@@ -93,13 +93,13 @@ def terms_of(text: str) -> Row:
 
 
 def logarithmic(bits: int) -> list[int]:
-    """The word 0, and for each bit of a position the word in which every position has that bit of its number."""
+    """The word 0, and for each bit of a position, the word in which every position has that bit of its number."""
     planes = range((bits - 1).bit_length())
     return [0] + [sum(1 << i for i in range(bits) if i >> plane & 1) for plane in planes]
 
 
 def rows_of(said: list[tuple[int, str, str]]) -> dict[int, tuple[int, Row]]:
-    """Of each row of the scrambling its line and its terms."""
+    """For each row of the scrambling: its line and its terms."""
     split = [(line, rest.split("=")) for line, word, rest in said if word == "scramble"]
     return {int(parts[0].strip()[1:]): (line, terms_of(parts[1])) for line, parts in split if len(parts) == 2}
 

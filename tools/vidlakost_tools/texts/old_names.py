@@ -1,4 +1,4 @@
-"""Names of faults: those of the literature that are none of a list, with what stands for them here, and the words of
+"""Names of faults: those from the literature that no list has, with what replaces them here; and the words of
 classes."""
 from __future__ import annotations
 
@@ -11,7 +11,7 @@ from vidlakost_tools.texts import linked
 
 DECODER = "faults of the address decoder are no primitives: `decoder MARCH REPORT` judges them"
 LINKED = "linked faults are two primitives with one victim: `linked MARCH REPORT` judges all of them"
-# what is said of a name, whose letters may be great or small
+# what to say about a name; its case does not count
 MEANINGS: Dict[str, str] = {
     "saf": "a cell that is stuck at 1 is <0/1/->, at 0 <1/0/->: both are SF",
     "sa0": "a cell that is stuck at 0 is <1/0/->, of the class SF",
@@ -29,7 +29,7 @@ MEANINGS: Dict[str, str] = {
     "static": "the 48 static primitives without a pause are 'all'",
     "dynamic": "the dynamic primitives are 'dyn1' and 'dyn2'",
 }
-# what the letters behind CF stand for in the literature, which writes some of them out
+# what the letters after CF mean in the literature, which writes some of them out
 COUPLINGS = {
     "CFst": ("s", "st", "state"),
     "CFds": ("d", "ds", "dis"),
@@ -42,14 +42,14 @@ COUPLINGS = {
 
 
 def class_of(word: str) -> Optional[str]:
-    """The class of couplings that a name of the literature means by its letters."""
+    """The class of couplings that the letters of a name from the literature mean."""
     found = re.fullmatch("CF-?([A-Z]+?)F?", word.upper())
     letters = found[1].lower() if found else ""
     return next((name for name, known in COUPLINGS.items() if letters in known), None)
 
 
 def meaning_of(word: str) -> Optional[str]:
-    """What stands here for a name of the literature that is no class."""
+    """What replaces a name from the literature that is no class."""
     return MEANINGS.get(word.lower())
 
 
@@ -59,7 +59,7 @@ def class_meant(word: str, others: Sequence[str]) -> Optional[str]:
 
 
 def apart(means: str) -> Iterable[str]:
-    """What a row says of each of its classes, in their order: as 'TF and WDF of the victim' of two."""
+    """The text that a row has for each of its classes, in their order, as 'TF and WDF of the victim' for two."""
     listed = re.fullmatch(r"((?:[A-Z]+, )*[A-Z]+) and ([A-Z]+) (.*)", means)
     parts = [*listed[1].split(", "), listed[2]] if listed else []
     return [f"{part} {listed[3]}" for part in parts] if listed else itertools.repeat(means)

@@ -1,5 +1,5 @@
 """Which command a cycle of a test is, and which read a word belongs to: background, element, operation, index, and the
-word that is expected. The cycle of the reset is 0, and the first command comes in cycle 1."""
+expected word. The cycle of the reset is 0, and the first command comes in cycle 1."""
 from __future__ import annotations
 
 import dataclasses
@@ -33,7 +33,7 @@ class Visit:
 
 @dataclasses.dataclass
 class Read(Visit):
-    """A read of a test; the word is as it stands at the port."""
+    """A read of a test, with the expected word as the port has it."""
 
     expected: int
 
@@ -53,19 +53,19 @@ def last_command(elements: list[Element], memory: Memory) -> int:
 
 
 def span_of(elements: list[Element], memory: Memory, cycle: int) -> Span:
-    """The element of a cycle in which there is a command or a pause."""
+    """The element of a cycle that has a command or a pause."""
     return next(span for span in spans(elements, memory) if cycle <= span.last)
 
 
 def visit_of(span: Span, memory: Memory, cycle: int) -> Visit:
-    """The visit of a cycle of an element that is no pause."""
+    """The visit of a cycle, in an element that is no pause."""
     visit, place = divmod(cycle - span.first, len(span.element.operations))
     index = memory.words - 1 - visit if span.element.order == "down" else visit
     return Visit(span.background, span.number, place, index)
 
 
 def read_of(elements: list[Element], memory: Memory, answered: int) -> Read:
-    """The read whose answer stands on `rdata` in a cycle."""
+    """The read whose answer is on `rdata` in a cycle."""
     cycle, last = answered - memory.latency, last_command(elements, memory)
     if not 1 <= cycle <= last:
         first, end = 1 + memory.latency, last + memory.latency
@@ -79,7 +79,7 @@ def read_of(elements: list[Element], memory: Memory, answered: int) -> Read:
     operation = span.element.operations[visit.operation]
     if operation[0] == "w":
         raise ToolError(f"{before} does {operation}")
-    # the background is what the cells hold; the port has the bits that the memory stores inverted the other way round
+    # the background is what the cells hold; at the port the bits that the memory stores inverted are the other way round
     word = memory.backgrounds[visit.background] ^ memory.polarity
     if operation == "r1":
         word ^= (1 << memory.bits) - 1
@@ -98,7 +98,7 @@ def visit_lines(visit: Visit, element: Element, memory: Memory) -> list[str]:
 
 
 def due_numbers(elements: list[Element], memory: Memory, cycle: int) -> dict[str, int]:
-    """Of each port that has to have a number in a cycle of the test this number."""
+    """The numbers that are due in a cycle of the test, for each port that has one."""
     last = last_command(elements, memory)
     due = {"en": 0, "done": int(cycle == last + memory.latency + 1)}
     span = span_of(elements, memory, cycle) if 1 <= cycle <= last else None

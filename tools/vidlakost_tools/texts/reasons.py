@@ -1,4 +1,5 @@
-"""Why an escape of a report escapes: what the march lacks, or what hides the fault, from a run of the plain model."""
+"""Why an escape of a report escapes: what the march lacks, or what hides the fault. The reason comes from a run of the
+plain model."""
 from __future__ import annotations
 
 from vidlakost_tools.texts.faults import Step
@@ -20,7 +21,7 @@ def meets_alone(verdict: Verdict, steps: list[Step]) -> bool:
 
 
 def why_never(verdict: Verdict, elements: list[Element], steps: list[Step]) -> str:
-    """What the march lacks where a primitive never acts."""
+    """What the march lacks if a primitive never acts."""
     array = verdict.array()
     operations = array.operations
     if not operations:
@@ -51,7 +52,7 @@ def later(steps: list[Step], place: int, victim: int) -> Step | None:
 
 
 def hidden(verdict: Verdict, steps: list[Step]) -> list[str]:
-    """Of each time that a primitive acts why no read shows it."""
+    """For each time that a primitive acts: why no read shows it."""
     found = []
     for place, step in enumerate(steps):
         if not step.acts:

@@ -14,7 +14,7 @@ from vidlakost_tools.texts.faults import Array, read_primitive
 from vidlakost_tools.texts.march import Element, elements_of, length_of
 from vidlakost_tools.tool import ToolError
 
-# what the parts of its lines are made of, and how long they may be
+# the parts of a report's lines, with the most that each may have
 ITEM = r"(?P<primitive><[01wrt;]{1,24}/[01]/[-01]>) (?P<kind>[A-Za-z0-9]{1,8})"
 COUNT = "[0-9]{1,9}"
 ESCAPE = re.compile(
@@ -31,7 +31,7 @@ SHAPE = re.compile(
 
 
 class Judged(Protocol):
-    """What is said of a primitive, wherever its cells are."""
+    """The verdict on a primitive, wherever its cells are."""
 
     kind: str
 
@@ -42,7 +42,7 @@ class Judged(Protocol):
 
 @dataclasses.dataclass
 class Verdict:
-    """A line of a report on a primitive; `content` is empty where it is covered."""
+    """A line of a report on a primitive; `content` is empty if it is covered."""
 
     primitive: str
     kind: str
@@ -136,7 +136,7 @@ def verdict_of(line: str) -> Verdict | None:
 
 
 def check_escape(verdict: Verdict, elements: list[Element]) -> str | None:
-    """Why a line of an escape fits no array of this march; None where it does."""
+    """Why the line of an escape fits no array of this march; None if it fits one."""
     primitive = read_primitive(verdict.primitive)
     cells = len(verdict.content)
     if (primitive.aggressor is None) != (verdict.aggressor is None):
@@ -149,14 +149,14 @@ def check_escape(verdict: Verdict, elements: list[Element]) -> str | None:
 
 
 def classes_of(verdicts: Sequence[Judged]) -> dict[str, tuple[int, int]]:
-    """Of each class how many primitives there are, and how many of them are covered."""
+    """For each class: how many primitives there are, and how many of them are covered."""
     count = collections.Counter(verdict.kind for verdict in verdicts)
     covered = collections.Counter(verdict.kind for verdict in verdicts if verdict.covered)
     return {kind: (of, covered[kind]) for kind, of in count.items()}
 
 
 def read_report(path: Path) -> Report:
-    """The report of a file, line by line; what is none is refused with the line that shows it."""
+    """The report of a file, line by line. Any other text is refused, with the first wrong line."""
     lines = lines_of(read_text(path))
 
     def refuse(count: int, why: object) -> NoReturn:
@@ -189,7 +189,7 @@ def read_report(path: Path) -> Report:
 
 
 def judged(march: Path, faults: Path) -> Report:
-    """What `judge` reports of a march and a list."""
+    """The report of `judge` on a march and a list."""
     with tempfile.TemporaryDirectory() as folder:
         path = pathlib.Path(folder) / "report"
         ask("judge", march, faults, path)
@@ -197,7 +197,7 @@ def judged(march: Path, faults: Path) -> Report:
 
 
 def take_line(report: Report, line: str, is_second: bool) -> str | None:
-    """Adds a line to a report; why it is none, if it is."""
+    """Adds a line to a report. Returns why it is no line of a report, or None."""
     shape, kind, verdict = SHAPE.fullmatch(line), CLASS.fullmatch(line), verdict_of(line)
     if shape and is_second:
         report.memory = {key: value if key == "name" else int(value) for key, value in shape.groupdict().items()}
