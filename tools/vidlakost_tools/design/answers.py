@@ -1,4 +1,4 @@
-"""What the program says of the march that was found."""
+"""What the program says about the march that the search found."""
 from __future__ import annotations
 
 import dataclasses
@@ -21,12 +21,12 @@ from vidlakost_tools.tool import telling
 
 @dataclasses.dataclass
 class Said:
-    """What a command says of the march: its name, its counts, and what it lets through."""
+    """What a command says about the march: its name, its counts, and what escapes."""
 
     command: str
     total: int
     escapes: List[str]
-    # the backgrounds that were found for the memory, where it has not its own
+    # the backgrounds that the search found for the memory, if it does not use its own
     backgrounds: str = ""
 
     @property
@@ -38,7 +38,7 @@ class Said:
 
 @dataclasses.dataclass
 class Answers:
-    """The march, what was asked for, and what the program says of it."""
+    """The march, the words of the call, and what the program says about the march."""
 
     march: str
     elements: List[Element]
@@ -53,7 +53,8 @@ class Answers:
 
     @property
     def is_whole(self) -> bool:
-        """Whether nothing escapes that is asked for. Inside a word only as much is asked for as can be expected."""
+        """Whether the march covers everything that the call asks for. Inside a word the call asks only for what March
+        SS covers."""
         inside = self.finder.best is not None
         return not any(it.escapes for it in self.said if it.command != "inword" or not inside)
 
@@ -74,7 +75,7 @@ def commands(words: Words) -> List[str]:
 
 
 def said_of(command: str, march: object, words: Words) -> Said:
-    """What a command says of the march in a file."""
+    """What a command says about the march in a file."""
     path = str(march)
     if command == "judge":
         verdicts = [(f"{it.primitive} {it.kind}", it.covered) for it in judged(path, words.faults).verdicts]
@@ -88,7 +89,7 @@ def said_of(command: str, march: object, words: Words) -> Said:
 
 
 def said_inside(march: str, memory: str, faults: str, backgrounds: str = "") -> Said:
-    """What `inword` says of the march in a file."""
+    """What `inword` says about the march in a file."""
     verdicts = judged_in_word(march, memory, faults).verdicts
     return Said(
         "inword", len(verdicts), [f"{it.primitive} {it.kind}" for it in verdicts if not it.covered], backgrounds
@@ -96,7 +97,7 @@ def said_inside(march: str, memory: str, faults: str, backgrounds: str = "") -> 
 
 
 def with_found(march: object, elements: List[Element], words: Words) -> Said:
-    """What `inword` says of the march with the backgrounds that are found for it."""
+    """What `inword` says about the march with the backgrounds that the search finds for it."""
     path, memory = str(words.in_word), read_memory(str(words.in_word))
     names = list(dict.fromkeys(it.primitive for it in judged_in_word(str(march), path, words.faults).verdicts))
     with telling("looks for backgrounds"):

@@ -1,4 +1,4 @@
-"""Backgrounds for a march: the list with which it covers the most between any two bits of a word that is found."""
+"""A search for backgrounds: a list with which a march covers the most between any two bits of a word."""
 from __future__ import annotations
 
 import collections
@@ -15,15 +15,15 @@ from vidlakost_tools.texts.memory import Memory, logarithmic
 
 # how many changes of a column a walk tries, times the bits of a word
 CHANGES = 240_000
-# how willing it is at first to take a change for the worse
+# how often it accepts a change for the worse at first
 WARMTH = 0.5
 
-# of each content of two bits the primitives that survive with it
+# for each content of two bits, the primitives that survive with it
 Left = Tuple[int, ...]
 
 
 def behind_march(couple: Couple, elements: Sequence[Element], background: str) -> str:
-    """What two bits hold behind a march in one background, whose digits these are; nothing where a read differs."""
+    """What two bits hold after a march in one background, which has these digits; nothing if a read differs."""
     turned = background.translate(str.maketrans("01", "10"))
     for element in elements:
         if element.is_pause:
@@ -37,7 +37,7 @@ def behind_march(couple: Couple, elements: Sequence[Element], background: str) -
 
 
 class Columns:
-    """What a march covers at two bits: a column is what one bit holds in the backgrounds, the first of them lowest."""
+    """What a march covers at two bits. A column is what one bit holds in the backgrounds, the first of them lowest."""
 
     def __init__(self, elements: Sequence[Element], names: Sequence[str]):
         primitives = [it for it in map(read_primitive, names) if it.aggressor is not None]
@@ -50,7 +50,7 @@ class Columns:
 
     @staticmethod
     def held(primitives: Sequence[Primitive], content: str) -> int:
-        """The primitives that may begin with a content: all of those that it does not make act at once."""
+        """The primitives that may begin with a content: all but those that it makes act at once."""
         found = 0
         for place, primitive in enumerate(primitives):
             for first in CONTENTS:
@@ -61,12 +61,12 @@ class Columns:
 
     @staticmethod
     def after(primitives: Sequence[Primitive], elements: Sequence[Element], content: str, background: str) -> Left:
-        """Of each content the primitives that leave it behind a march which finds another one."""
+        """For each content, the primitives that leave it after a march that begins with another one."""
         ends = [behind_march(Couple(primitive, content), elements, background) for primitive in primitives]
         return tuple(sum((end == content) << place for place, end in enumerate(ends)) for content in CONTENTS)
 
     def left(self, count: int, aggressor: int, victim: int) -> Left:
-        """What survives so many backgrounds at two bits with these columns."""
+        """What survives so many backgrounds, at two bits with these columns."""
         key = (count, aggressor, victim)
         if key not in self.known:
             last = count - 1
@@ -80,7 +80,7 @@ class Columns:
         return self.known[key]
 
     def covered(self, count: int, one: int, other: int) -> int:
-        """What is covered at two bits, whichever of them is the aggressor."""
+        """What is covered at two bits, with either of them as the aggressor."""
         left = 0
         for mask in (*self.left(count, one, other), *self.left(count, other, one)):
             left |= mask
@@ -88,7 +88,7 @@ class Columns:
 
 
 class Couples:
-    """What is covered at each two columns of so many backgrounds in a word of so many bits, and how much that is."""
+    """What is covered at each two columns, with so many backgrounds and bits of a word, and the total of that."""
 
     def __init__(self, columns: Columns, count: int, bits: int):
         self.count, self.everything = count, columns.everything
@@ -97,13 +97,13 @@ class Couples:
         for one, other in itertools.combinations_with_replacement(codes, 2):
             self.masks[one][other] = self.masks[other][one] = columns.covered(count, one, other)
         self.counts = [list(map(ones, row)) for row in self.masks]
-        # no list covers more than at the best two bits, which have equal columns where there are more bits than columns
+        # no list covers more than the best two bits; with more bits than columns, some two bits have equal columns
         is_crowded = bits > 1 << count - 1
         self.most = max(self.counts[code][code] if is_crowded else max(self.counts[code]) for code in codes)
 
 
 class Trial:
-    """A list of backgrounds, column by column, with what it covers everywhere, and how much at each two bits in sum."""
+    """A list of backgrounds, column by column, with what it covers everywhere and the total over all two bits."""
 
     def __init__(self, couples: Couples, codes: Sequence[int]):
         self.couples, self.codes = couples, list(codes)
@@ -112,7 +112,7 @@ class Trial:
         self.known: Dict[int, int] = {}
 
     def without(self, place: int) -> int:
-        """What is covered at all two bits of which none is the one at this place."""
+        """What is covered at all two bits, without the bit at this place."""
         found, masks = self.couples.everything, self.couples.masks
         number = collections.Counter(self.codes[:place] + self.codes[place + 1 :])
         for code, times in number.items():
@@ -122,7 +122,7 @@ class Trial:
         return found
 
     def changed(self, place: int, code: int) -> Tuple[int, int]:
-        """What is covered everywhere, and how much in sum, if a column were another."""
+        """What would be covered everywhere, and the total, with another column."""
         if place not in self.known:
             self.known[place] = self.without(place)
         whole, some = self.known[place], self.some
@@ -139,7 +139,7 @@ class Trial:
         self.known.clear()
 
     def worth(self, whole: int, some: int) -> float:
-        """How good it is: what is covered everywhere, and then what is covered somewhere."""
+        """How good it is: first what is covered everywhere, then what is covered somewhere."""
         pairs = len(self.codes) * (len(self.codes) - 1) // 2
         return ones(whole) + some / pairs / max(1, ones(self.couples.everything))
 
@@ -159,8 +159,8 @@ def codes_of(words: Sequence[int], bits: int) -> List[int]:
 
 
 def annealed(trial: Trial, zero: int, chance: random.Random) -> Tuple[int, List[int]]:
-    """Changes one column after another, less and less for the worse; the word at the place `zero` stays 0. How much the
-    best list covers, and the list."""
+    """Changes one column after another, and accepts a change for the worse less and less often. The word at the place
+    `zero` stays 0. Returns how much the best list covers, and that list."""
     bits, places = len(trial.codes), [place for place in range(trial.couples.count) if place != zero]
     best, now = (ones(trial.whole), trial.words), trial.worth(trial.whole, trial.some)
     changes = CHANGES // bits
@@ -181,19 +181,19 @@ def annealed(trial: Trial, zero: int, chance: random.Random) -> Tuple[int, List[
 
 
 def begun(bits: int, count: int, zero: int) -> List[int]:
-    """The logarithmic set as a list of so many, with the word 0 at a place."""
+    """The logarithmic set as a list of so many words, with the word 0 at a place."""
     known = logarithmic(bits)[1:]
     words = [known[min(place, len(known) - 1)] for place in range(count - 1)]
     return [*words[:zero], 0, *words[zero:]]
 
 
 def found(elements: Sequence[Element], names: Sequence[str], memory: Memory, most: int) -> List[int]:
-    """The list of at most so many backgrounds that covers the most of those that are tried, with the memory's own among
-    them; of such lists one of the fewest."""
+    """The best list of at most so many backgrounds among those that the search tries, with the memory's own among them.
+    Of equally good lists it is one of the shortest."""
     bits, own = memory.bits, memory.backgrounds
     columns = Columns(elements, names)
     best = ones(columns.covered(1, 0, 0)), [0]
-    # whoever waits no longer has the best so far
+    # Ctrl-C ends the search with the best list so far
     with contextlib.suppress(KeyboardInterrupt):
         for count in range(2, most + 1 if bits > 1 else 0):
             couples = Couples(columns, count, bits)

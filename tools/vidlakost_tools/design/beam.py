@@ -1,4 +1,4 @@
-"""A search that builds marches operation by operation and keeps some of each length, those that leave least."""
+"""A search that builds marches operation by operation, and keeps those of each length that leave the least."""
 from __future__ import annotations
 
 import random
@@ -8,15 +8,15 @@ from vidlakost_tools.design.instances import OPERATIONS, left_by
 from vidlakost_tools.design.parts import PAUSE, Limits, Part, Parts, elements_from, pauses, way
 from vidlakost_tools.design.survivors import Operations, State, Survivors, applied
 
-# the elements that are done, the last one first
+# the finished elements, the last one first
 Chain = Tuple[Any, ...]
-# what is good can still become wrong, so it is further from being caught than what is wrong already
+# a good instance still has to go wrong, so it is further from being caught than a wrong one
 GOOD, WRONG = 3, 1
 Watch = Callable[[int, int], None]
 
 
 class Node(NamedTuple):
-    """A march whose last element may grow: what is left behind it, and before its last element (None: that is the
+    """A march whose last element may grow: what is left after it, and before its last element (None: that is the
     first)."""
 
     state: State
@@ -48,8 +48,7 @@ def weight(state: State) -> int:
 
 
 class Beam:
-    """The search. `width` marches of each length are kept; behind a march that is given it adds elements to that
-    one."""
+    """The search. It keeps `width` marches of each length. To a given march it adds elements at the end."""
 
     def __init__(self, survivors: Survivors, limits: Limits, width: int, behind: Sequence[Part] = (), seed: int = 1):
         self.survivors, self.limits, self.width = survivors, limits, width
@@ -64,7 +63,7 @@ class Beam:
         return node._replace(state=state, due=left_by((operation,), node.due), operations=operations)
 
     def next_elements(self, node: Node, paused: bool) -> Iterator[Node]:
-        """The march with a further element of one operation."""
+        """The march with one more element, of one operation."""
         state = self.survivors.paused(node.state, node.due) if paused else node.state
         done: Chain = (Part(way(node.down), node.operations), node.done) if node.operations else node.done
         done = (PAUSE, done) if paused else done
@@ -85,8 +84,7 @@ class Beam:
             yield from self.next_elements(node, True)
 
     def starts(self) -> list[Node]:
-        """The first operations, or the march that is given. Where the primitives are their own complement, so are the
-        marches."""
+        """The first operations, or the given march. If the primitives are their own complement, so are the marches."""
         if self.behind:
             state, due = self.survivors.run(elements_from(self.behind))
             done: Chain = ()
@@ -100,7 +98,7 @@ class Beam:
         return made[:1] if self.survivors.is_symmetric else made
 
     def kept(self, nodes: Sequence[Node]) -> tuple[list[Node], list[Node]]:
-        """Of the next length the marches that are complete, and those that are kept of the others."""
+        """For the next length: the complete marches, and those of the others that it keeps."""
         seen, ranked = set(), []
         for node in nodes:
             for made in self.longer(node):
@@ -113,8 +111,8 @@ class Beam:
         return complete, [it[3] for it in ranked[len(complete) : len(complete) + self.width]]
 
     def run(self, most: int, watch: Watch) -> Iterator[list[Parts]]:
-        """The complete marches that it finds, those of a length together, the shortest first, of at most `most`
-        operations more than are given."""
+        """The complete marches that it finds, those of one length together and the shortest first. They have at most
+        `most` operations more than the given march."""
         nodes, stale = self.starts(), 0
         if not any(nodes[0].state):
             yield [nodes[0].parts()]
@@ -130,5 +128,5 @@ class Beam:
             watch(length, least)
 
 
-# after how many operations without any progress a search gives up
+# a search gives up after so many operations without any progress
 PATIENCE = 24

@@ -1,9 +1,9 @@
-"""A search for marches of a regular form: behind a first write blocks of elements, each the complement of the one
+"""A search for marches of a regular form: after a first write come blocks of elements, each the complement of the one
 before.
 
-A block is an element S that turns 0 into 1 and its complement, in directions of their own, and perhaps both once more
-in the opposite ones. Many of the marches of the literature have this form; few enough have it that a search of it goes
-far."""
+A block is an element S that turns 0 into 1, and its complement, each in a direction of its own; perhaps both come
+once more in the opposite directions. Many marches of the literature have this form. It has so few marches that a
+search of it goes far."""
 from __future__ import annotations
 
 import random
@@ -18,8 +18,8 @@ COMPLEMENT = {"w0": "w1", "w1": "w0", READ: READ}
 
 
 class Block(NamedTuple):
-    """A march of blocks whose last one may grow: what is left before that, its elements, S, and the directions of S and
-    of its complement."""
+    """A march of blocks whose last one may grow: what is left before that block, its elements, S, and the directions of
+    S and of its complement."""
 
     before: State
     done: Tuple[Part, ...]
@@ -51,7 +51,7 @@ class Blocks:
         return made[: self.elements]
 
     def behind(self, block: Block) -> State:
-        """What is left behind the last block."""
+        """What is left after the last block."""
         state = block.before
         for operations, down, due in self.steps(block):
             state = applied(state, self.survivors.table(operations, down, due))
@@ -67,14 +67,14 @@ class Blocks:
         return made
 
     def finished(self, block: Block, state: State) -> Parts | None:
-        """The march, with a last read where it needs one."""
+        """The march, with a last read if it needs one."""
         read = applied(state, self.survivors.table((READ,), False, 0))
         if any(read) or len(block.done) + self.elements >= self.limits.elements:
             return None
         return self.parts(block) + ([Part("up", (READ,))] if any(state) else [])
 
     def run(self, most: int, watch: Watch) -> Parts | None:
-        """The shortest march of the form that it finds, if it has fewer than `most` operations."""
+        """The shortest march of this form that it finds, if that has fewer than `most` operations."""
         first = Part("up", ("w0",))
         state = self.survivors.begun(first.operations)
         layer = [Block(state, (first,), (operation,), downs) for operation in OPERATIONS for downs in DIRECTIONS[:2]]

@@ -1,10 +1,11 @@
-"""That no shorter march covers a list: an exhaustive search, length by length, of static primitives, losses over a
-pause and a wrong decoder.
+"""An exhaustive search, length by length, that finds no shorter march for a list. It takes static primitives, losses
+over a pause and a wrong decoder.
 
-Three things make it short. An element is left out where another of at most the same operations leaves no more, whatever
-follows. Of all states behind elements each is visited once. And a march is given up where what is left of a few
-instances asks for more operations of a kind (reads, writes of the bit that is held, writes of the other) than it may
-still have, which tables tell of each kind by itself: these numbers add up, since an operation is of one kind."""
+Three things make it short. It leaves out an element if another one, of at most the same operations, leaves no more,
+whatever follows. It visits each state after elements once. And it gives up a march if the instances that are left
+need more operations of a kind than it may still have. The kinds are reads, writes of the bit that is held, and
+writes of the other bit. A table for each kind says how many operations a few instances need. These numbers add up,
+since an operation is of one kind."""
 from __future__ import annotations
 
 import collections
@@ -19,14 +20,14 @@ from vidlakost_tools.design.survivors import BITS, Operations, Survivors, applie
 
 # how many operations there are of each kind: reads, writes of the bit that is held, writes of the other one
 Costs = Tuple[int, int, int]
-# what is left good and what is left wrong of the good and of the wrong ones
+# of the good instances, those left good and those left wrong; the same of the wrong ones
 Move = Tuple[int, int, int, int]
 # the instances that are left good and those that are left wrong, and what good cells hold, with twice the pauses so far
 Left = Tuple[int, int, int]
 
 
 class Visit(NamedTuple):
-    """The operations of an element, what good cells hold behind it, what it does at each cell, and what it costs."""
+    """The operations of an element, what good cells hold after it, what it does at each cell, and what it costs."""
 
     operations: Operations
     due: int
@@ -35,7 +36,7 @@ class Visit(NamedTuple):
 
 
 class Step(NamedTuple):
-    """An element in a direction, perhaps behind a pause."""
+    """An element in a direction, perhaps after a pause."""
 
     move: Move
     due: int
@@ -52,7 +53,7 @@ class Step(NamedTuple):
 
 @dataclasses.dataclass
 class Start:
-    """A first element: what is left behind it."""
+    """A first element: what is left after it."""
 
     left: Left
     costs: Costs
@@ -64,8 +65,8 @@ class Start:
 
 
 class Kind(NamedTuple):
-    """A table of a kind of operations: the instances that it looks at, and how many operations what is left of them
-    asks for."""
+    """A table for a kind of operations: the instances that it looks at, and how many operations it takes to cover those
+    that are left."""
 
     mask: int
     least: Dict[Left, int]
@@ -88,8 +89,8 @@ LOOKED_AT = 8
 
 
 class Bound:
-    """The elements that a shortest march can have, or what is added to a march that is given; and the tables of the
-    kinds. `watch` hears how far it is."""
+    """The elements that a shortest march can have, or that it can add to a given march; and the tables of the kinds.
+    `watch` learns how far the search is."""
 
     def __init__(self, survivors: Survivors, limits: Limits, behind: Sequence[Part], watch: Callable[[str], None]):
         self.survivors, self.limits, self.watch = survivors, limits, watch
@@ -103,7 +104,7 @@ class Bound:
     # ---- elements
 
     def effect(self, operations: Operations, due: int) -> int:
-        """What is left behind a visit in each state: a number of which each bit that is not set is good."""
+        """What is left after a visit in each state: a number in which each bit that is not set is good."""
         made, survivors = 0, self.survivors
         width = len(survivors.instances)
         for cell in survivors.cells:
@@ -120,7 +121,7 @@ class Bound:
         return made
 
     def sequences_from(self, due: int) -> List[Visit]:
-        """The operations on cells that hold `due` that no others of at most their costs stand for, however they go
+        """The operations on cells that hold `due`, without those that others replace at no higher cost, however they go
         on."""
         nothing = self.effect((), due)
         found: List[Visit] = []
@@ -150,7 +151,7 @@ class Bound:
         return found
 
     def steps_from(self, due: int) -> List[Step]:
-        """The elements in both directions, by length, that no others stand for."""
+        """The elements in both directions, by length, without those that others replace."""
         found: List[Step] = []
         for it in sorted(self.sequences[due], key=lambda it: len(it.operations)):
             for down, paused in itertools.product((False, True), (False, True) if self.survivors.pauses else (False,)):
@@ -227,7 +228,7 @@ class Bound:
         return found
 
     def asked(self, left: Left) -> int:
-        """How many operations what is left asks for at least."""
+        """The least number of operations that cover what is left."""
         good, wrong, due = left
         made = 0
         for kind in self.kinds:
@@ -237,8 +238,8 @@ class Bound:
     # ---- the search
 
     def search(self, most: int, steps: Optional[int] = None) -> Parts | None:
-        """A shortest march, if one of at most `most` operations is there; None where none is. `TimeoutError` where it
-        has tried `steps` elements."""
+        """A shortest march of at most `most` operations; None if there is none. It raises `TimeoutError` after `steps`
+        elements."""
         best: Dict[Left, int] = {}
         layers: List[List[Tuple[Left, Chain]]] = [[] for _ in range(most + 1)]
         for start in self.starts:
@@ -280,7 +281,7 @@ def leaves_less(one: Move, other: Move) -> bool:
 
 
 def difficulty(instance: Instance, number: int) -> Optional[int]:
-    """How early a table of a kind of operations looks at an instance; None where another kind sensitises it."""
+    """The place of an instance in the table of a kind of operations; None if another kind sensitises it."""
     link = instance.links[0]
     if len(link.acts) != 1 or link.acts[0] == "t":
         return None
@@ -298,7 +299,7 @@ def difficulty(instance: Instance, number: int) -> Optional[int]:
 
 
 def distances(seen: set[Left], ways: Dict[Left, List[Tuple[Left, int]]]) -> Dict[Left, int]:
-    """Of each state the least cost that leads to one in which nothing is left."""
+    """For each state: the least cost to a state in which nothing is left."""
     least = {left: 0 for left in seen if not left[0] and not left[1]}
     layers: Dict[int, List[Left]] = collections.defaultdict(list)
     layers[0] = list(least)
@@ -310,7 +311,7 @@ def distances(seen: set[Left], ways: Dict[Left, List[Tuple[Left, int]]]) -> Dict
             for before, more in ways.get(left, ()):
                 if cost + more < least.get(before, 1 << 30):
                     least[before] = cost + more
-                    # a way without cost lengthens the list that is walked
+                    # a step without cost adds to the list during the walk
                     layers[cost + more].append(before)
         if cost not in layers:
             cost += 1

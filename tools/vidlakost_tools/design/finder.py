@@ -1,4 +1,4 @@
-"""The shortest march that is found for a list, and whether a search of all shorter ones shows that it is the
+"""The shortest march that the searches find for a list, and whether a search of all shorter ones shows that it is the
 shortest."""
 from __future__ import annotations
 
@@ -14,19 +14,19 @@ from vidlakost_tools.design.instances import DecoderInstance, Instance
 from vidlakost_tools.design.parts import Limits, Part, Parts, is_complete, length, opened, pauses, trimmed, with_pauses
 from vidlakost_tools.design.survivors import Survivors
 
-# how many operations a search goes to, and how many a march may have
+# the most operations of a search, and the most that a march may have
 LONGEST, MOST = 160, 256
-# how many elements the search of all shorter marches tries, unless it is to go on to its end
+# how many elements the search of all shorter marches tries, unless the call has it go on to its end
 TRIED = 8_000_000
-# how many marches of a length are looked at where one is chosen, and by how many operations they may be longer than the
-# first
+# how many marches of a length it compares before it chooses one, and by how many operations they may be longer than
+# the first
 CHOSEN_OF, LONGER_BY = 24, 4
 
 
 @dataclasses.dataclass
 class Wish:
-    """What a march has to cover, and what it may have. `behind` is the march that it extends; `fits` says whether a
-    march that covers all this does what else is asked for (None: nothing is)."""
+    """What a march has to cover, and what it may have. `behind` is the march to extend. `fits` says whether a march
+    that covers all this also meets the further wish (None: there is none)."""
 
     instances: Sequence[Instance]
     decoder: Sequence[DecoderInstance]
@@ -38,7 +38,7 @@ class Wish:
 
 
 class Progress:
-    """What hears how the search goes."""
+    """Receives the progress of the search."""
 
     def begin(self) -> None:
         self.started = time.monotonic()
@@ -47,18 +47,18 @@ class Progress:
         return time.monotonic() - self.started
 
     def better(self, parts: Parts) -> None:
-        """A march is shorter than those before."""
+        """The search found a march that is shorter than those before."""
 
     def bounded(self, operations: int) -> None:
-        """There is none of fewer operations."""
+        """No march has fewer operations."""
 
     def at(self, text: str) -> None:
-        """What is being done."""
+        """What the search is doing."""
 
 
 class Finder:
-    """The search. Whatever ends it, `best` is the shortest complete march so far, `nearest` what comes next to one, and
-    `least` how many operations a march has to have, beside those that are given."""
+    """The search. Whatever ends it, `best` is the shortest complete march so far, and `nearest` the next best one.
+    `least` is how many operations a march needs, beside the given ones."""
 
     def __init__(self, wish: Wish, progress: Progress):
         self.wish, self.progress = wish, progress
@@ -74,7 +74,7 @@ class Finder:
 
     @property
     def longest(self) -> int:
-        """How many operations the search goes to."""
+        """The most operations of the search."""
         return min(LONGEST, MOST - self.given)
 
     @property
@@ -83,7 +83,7 @@ class Finder:
         return len(self.wish.behind)
 
     def take(self, parts: Parts) -> None:
-        """Looks whether a complete march is better than the best."""
+        """Takes a complete march if it is better than the best."""
         found = [trimmed(self.survivors, parts, self.kept), *([parts] if self.wish.fits else [])]
         for made in (opened(self.survivors, it, self.kept) for it in found):
             if self.best is not None and rank(made) >= rank(self.best) or not self.limits.allow(made):
@@ -97,7 +97,7 @@ class Finder:
     # ---- the parts of the search
 
     def regular(self) -> None:
-        """Marches of a regular form, into which pauses are put afterwards."""
+        """Marches of a regular form; pauses come in afterwards."""
         if self.wish.behind:
             return
         plain = [it for it in self.wish.instances if it.links[0].acts != ["t"]]
@@ -126,8 +126,7 @@ class Finder:
             self.nearest = self.nearest or beam.nearest[1]
 
     def exhaust(self, tried: Optional[int]) -> None:
-        """Has the bound grow for the primitives of which it can be shown: the static ones, and then with those of
-        pauses."""
+        """Raises the bound for the primitives that it handles: first the static ones, then also those with pauses."""
         self.grow([it for it in self.wish.instances if is_static(it)], tried)
         if self.survivors.pauses and not self.is_shortest:
             self.grow([it for it in self.wish.instances if is_static(it) or it.links[0].acts == ["t"]], tried)
@@ -137,7 +136,7 @@ class Finder:
         survivors = Survivors(plain, self.wish.decoder)
         most = length(self.best or []) - self.given - 1
         if len(plain) < len(self.wish.instances) and not self.wish.behind and not survivors.pauses:
-            # what covers these alone is short, and no bound of theirs goes beyond it
+            # a march for these alone is short, and their bound can't exceed its length
             alone = Blocks(survivors, self.limits, self.wish.width, 2).run(most, lambda count, least: None)
             most = min(most, length(alone) - 1 if alone else most)
         bound = Bound(survivors, self.limits, self.wish.behind, self.progress.at)
@@ -157,7 +156,7 @@ class Finder:
             self.progress.bounded(self.given + operations)
 
     def run(self, tried: Optional[int] = TRIED) -> None:
-        """The whole search. The number of elements that are tried bounds its last part."""
+        """The whole search. The last part ends after a number of elements."""
         self.progress.begin()
         self.regular()
         for seed in (1, 2, 3) if self.wish.is_open else (1,):
@@ -172,7 +171,7 @@ class Finder:
 
 
 def is_static(instance: Instance) -> bool:
-    """Whether an instance is of a single primitive of at most one operation."""
+    """Whether an instance has one primitive, of at most one operation."""
     acts = instance.links[0].acts
     return len(instance.links) == 1 and len(acts) < 2 and acts != ["t"]
 
@@ -180,4 +179,3 @@ def is_static(instance: Instance) -> bool:
 def rank(parts: Sequence[Part]) -> tuple[int, int, int, int]:
     """What makes a march better: fewer operations, fewer pauses, fewer orders that are not open, fewer elements."""
     return length(parts), pauses(parts), sum(part.order in ("up", "down") for part in parts), len(parts)
-

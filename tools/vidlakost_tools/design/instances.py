@@ -1,4 +1,4 @@
-"""What a march is to be found for: the primitives of a list, links and a wrong decoder, each at its cells."""
+"""What a march has to cover: the primitives of a list, links and a wrong decoder, each at its cells."""
 from __future__ import annotations
 
 import dataclasses
@@ -7,7 +7,7 @@ from typing import Iterable, Optional, Sequence
 
 from vidlakost_tools.texts.faults import Primitive, read_primitive
 
-# a read expects what was written last, so its bit need not be said
+# a read expects what was written last, so its bit is left out
 READ = "r"
 OPERATIONS = ("w0", "w1", READ)
 
@@ -34,7 +34,7 @@ class Link:
 
     @property
     def leaves(self) -> int:
-        """What a good cell of its operations holds behind the first of them."""
+        """What a good cell with its operations holds after the first of them."""
         own = self.primitive.aggressor if self.acts_on_aggressor else None
         first = self.acts[0]
         return (own or self.primitive.victim).state if first == READ else int(first[1])
@@ -42,8 +42,8 @@ class Link:
 
 @dataclasses.dataclass
 class Instance:
-    """A primitive, or two that are linked, at cells that are numbered in ascending order, and whether other cells stand
-    below and above them."""
+    """A primitive, or two linked ones, at cells that are numbered in ascending order; and whether other cells are below
+    and above them."""
 
     name: str
     links: list[Link]
@@ -54,15 +54,15 @@ class Instance:
 
 @dataclasses.dataclass
 class DecoderInstance:
-    """A fault of the address decoder; of two cells that answer together whether the address of both is the lower
-    one."""
+    """A fault of the address decoder. For two cells that answer together it says whether the address of both is the
+    lower one."""
 
     name: str
     is_lower: bool = True
 
     def is_caught(self, operations: Sequence[str], down: bool, due: int, reads: Iterable[int]) -> bool:
-        """Whether an element on cells that hold `due` catches it; `reads` are the bits that it expects. What is needed
-        of single elements is what `decoder` decides by."""
+        """Whether an element on cells that hold `due` catches it; `reads` are the bits that it expects. `decoder`
+        decides by the same needs of single elements."""
         if self.name.startswith("none"):
             return 1 - int(self.name[-1]) in reads
         turns = operations[:1] == (READ,) and left_by(operations, due) != due
@@ -71,7 +71,7 @@ class DecoderInstance:
 
 
 def left_by(operations: Sequence[str], due: int) -> int:
-    """What a good cell holds behind these operations."""
+    """What a good cell holds after these operations."""
     for operation in reversed(operations):
         if operation != READ:
             return int(operation[1])
@@ -79,8 +79,8 @@ def left_by(operations: Sequence[str], due: int) -> int:
 
 
 def instances_of(text: str) -> list[Instance]:
-    """The instances of a primitive that decide: of one with two operations in sequence also those between other cells,
-    which part the two."""
+    """The instances of a primitive that decide. A primitive of two operations in sequence also has some between other
+    cells, which separate the two."""
     primitive = read_primitive(text)
     around = [(False, False)]
     if len(primitive.operations) == 2:
@@ -95,7 +95,8 @@ def instances_of(text: str) -> list[Instance]:
 
 
 def linked_instances(name: str, first: str, second: str) -> list[Instance]:
-    """The instances of a link: its cells in each order. Of LF2aa both primitives have one aggressor, of LF3 two."""
+    """The instances of a link, with its cells in each order. Both primitives of LF2aa have one aggressor, and those of
+    LF3 have two."""
     both = [read_primitive(text) for text in (first, second)]
     roles = ["v", *("ab"[count] for count, it in enumerate(both) if it.aggressor is not None)]
     if name.startswith("LF2aa"):
@@ -112,6 +113,6 @@ def linked_instances(name: str, first: str, second: str) -> list[Instance]:
 
 
 def decoder_instances() -> list[DecoderInstance]:
-    """Those of a wrong decoder."""
+    """The instances of a wrong decoder."""
     made = [DecoderInstance(name) for name in ("none 0", "none 1", "other")]
     return made + [DecoderInstance(name, lower) for name in ("both and", "both or") for lower in (True, False)]

@@ -1,4 +1,4 @@
-"""A march in the making: its elements, and what is changed in a whole one."""
+"""A march under construction: its elements, and the changes to a complete one."""
 from __future__ import annotations
 
 import dataclasses
@@ -72,7 +72,7 @@ def is_complete(survivors: Survivors, parts: Sequence[Part]) -> bool:
 
 
 def shorter(parts: Sequence[Part], kept: int) -> Iterator[Parts]:
-    """The march without one of its operations, whose first `kept` elements stay as they are."""
+    """The march without one of its operations; its first `kept` elements stay as they are."""
     for place, part in enumerate(parts):
         if place < kept:
             continue
@@ -84,7 +84,7 @@ def shorter(parts: Sequence[Part], kept: int) -> Iterator[Parts]:
 
 
 def trimmed(survivors: Survivors, parts: Parts, kept: int = 0) -> Parts:
-    """A march from which no single operation can be taken."""
+    """A march that needs each of its operations."""
     while True:
         less = next((made for made in shorter(parts, kept) if is_complete(survivors, made)), None)
         if less is None:
@@ -93,7 +93,7 @@ def trimmed(survivors: Survivors, parts: Parts, kept: int = 0) -> Parts:
 
 
 def with_pauses(survivors: Survivors, parts: Parts, kept: int = 0) -> Parts | None:
-    """The march with its pauses where they complete it."""
+    """The march with those pauses that complete it."""
     for places in itertools.combinations(range(max(kept, 1), len(parts)), survivors.pauses):
         made: Parts = []
         for place, part in enumerate(parts):
@@ -104,7 +104,7 @@ def with_pauses(survivors: Survivors, parts: Parts, kept: int = 0) -> Parts | No
 
 
 def opened(survivors: Survivors, parts: Parts, kept: int = 0) -> Parts:
-    """The march with the order any wherever that leaves it complete, one element after the other."""
+    """The march with the order any wherever it stays complete, one element after the other."""
     for place, part in enumerate(parts):
         made = [*parts[:place], Part("any", part.operations), *parts[place + 1 :]]
         if place >= kept and part.order in ("up", "down") and is_complete(survivors, made):

@@ -1,5 +1,4 @@
-"""Whether elements of at most so many operations can cover a primitive at all: what can be left of it alone,
-exhaustively."""
+"""Whether elements of at most so many operations can cover a primitive at all, by an exhaustive search for it alone."""
 from __future__ import annotations
 
 import itertools
@@ -8,7 +7,7 @@ from typing import List
 from vidlakost_tools.design.instances import OPERATIONS, READ, instances_of, left_by
 from vidlakost_tools.design.survivors import Operations, Survivors, applied
 
-# elements of so many operations can cover each primitive, so longer ones need not be looked at
+# elements of so many operations can cover each primitive, so the search needs no longer ones
 ENOUGH = 3
 
 
@@ -17,8 +16,8 @@ def sequences(most: int) -> List[Operations]:
 
 
 def can_cover(name: str, operations: int) -> bool:
-    """Whether some march of such elements covers a primitive. What is left of it and what good cells hold are few
-    different things, and each is looked at once."""
+    """Whether some march of such elements covers a primitive. There are only a few states (what is left, and what good
+    cells hold), and the search visits each once."""
     survivors = Survivors(instances_of(name))
     elements = sequences(min(operations, ENOUGH))
     todo = [(survivors.begun(it, down), left_by(it, 0)) for it in elements if it[0] != READ for down in (False, True)]

@@ -1,4 +1,4 @@
-"""What is shown of a search: how far it is while it runs, and its answer."""
+"""What the user sees of a search: its progress and its answer."""
 from __future__ import annotations
 
 from typing import Iterator, Optional, TextIO
@@ -14,8 +14,7 @@ CLEAR = "\r\033[K"
 
 
 class Shown(Progress):
-    """The best march so far, how short one can be at best, and the time: on a terminal in a line that is written
-    over."""
+    """The best march so far, the lower bound and the time. On a terminal it is one line that is overwritten."""
 
     def __init__(self, out: Optional[TextIO], clock: Optional[Clock]):
         self.out, self.clock = out, clock
@@ -100,7 +99,7 @@ def told(answers: Answers) -> Iterator[str]:
         cycles = answers.clock.memory.cycles(answers.elements)
         yield f"time {time_of(answers.elements, answers.clock)}, {cycles:,} cycles of {answers.clock.memory.name}"
     for said in answers.said:
-        # where other backgrounds were looked for, what escapes with the memory's own is counted alone
+        # if the call asks for other backgrounds, the escapes with the memory's own are only counted
         is_counted = said.command == "inword" and answers.words.backgrounds and not said.backgrounds
         for name in [] if is_counted else said.escapes:
             yield f"{'inside a word ' if said.command == 'inword' else ''}{name}: {why(answers, said, name)}"

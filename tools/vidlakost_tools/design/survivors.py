@@ -1,7 +1,7 @@
-"""What survives a march: all instances at once, a bit of an integer for each.
+"""What survives a march: all instances at once, each a bit of an integer.
 
-The victim alone can be wrong, so an instance is in one of two states, or of four where it waits for the second of two
-operations. Since a march may begin with any content, an instance can be in several of them; it is covered where none is
+Only the victim can be wrong. So an instance is in one of two states, or of four if it can wait for the second of two
+operations. A march may begin with any content, so an instance can be in several states. It is covered when none is
 left."""
 from __future__ import annotations
 
@@ -13,12 +13,12 @@ from vidlakost_tools.design.instances import READ, DecoderInstance, Instance, le
 from vidlakost_tools.texts.march import Element
 
 Operations = Tuple[str, ...]
-# the instances whose victim may hold what it has to, those whose may hold the other bit, and the same of those that
-# wait
+# the instances whose victim may hold the right bit, those whose victim may hold the other bit, and the same for those
+# that wait
 State = Tuple[int, int, int, int]
-# of each of these states what is left in which state
+# for each of these states, what is left in which state
 Table = Tuple[State, State, State, State]
-# by what the victim may hold, and the same of those that wait
+# by what the victim may hold, and the same for those that wait
 Held = List[int]
 BITS = (0, 1)
 
@@ -61,9 +61,7 @@ class LinkMasks:
         self.closing = mask(lambda it: not it.links[number].acts)
         pausing = mask(lambda it: it.links[number].acts == ["t"])
         self.pausing = [pausing & state for state in self.state]
-        self.visited = [
-            [self.union(self.at[:cell]), self.union(self.at[cell + 1 :])] for cell in range(cells)
-        ]
+        self.visited = [[self.union(self.at[:cell]), self.union(self.at[cell + 1 :])] for cell in range(cells)]
         self.known: Dict[Tuple[int, bool, int, int, int], int] = {}
 
     @staticmethod
@@ -74,8 +72,8 @@ class LinkMasks:
         return made
 
     def fits(self, cell: int, down: bool, before: int, current: int, end: int) -> int:
-        """The instances whose aggressor holds what is asked for, while a cell is visited that holds `current`: the
-        cells behind it hold `end`, and those before it what they held."""
+        """The instances whose aggressor has the wanted state, while the march visits a cell that holds `current`. The
+        cells that were visited hold `end`, and the others what they held before."""
         key = (cell, down, before, current, end)
         if key not in self.known:
             visited = self.visited[cell][down]
@@ -88,7 +86,7 @@ class LinkMasks:
 
 @dataclasses.dataclass
 class NoSense:
-    """What stands for the state of an aggressor where there is none."""
+    """What replaces the state of an aggressor if there is none."""
 
     state: int = 2
 
@@ -115,11 +113,11 @@ class Survivors:
         self.touched = [
             LinkMasks.union([at, *(link.at[cell] for link in self.links)]) for cell, at in enumerate(self.victim_at)
         ]
-        # those whose aggressors, if there are two, may hold different bits
+        # those whose two aggressors may hold different bits
         self.apart = self.mask(lambda it: len({link.aggressor for link in it.links} | {None}) != 2)
         self.below, self.above = self.mask(lambda it: it.below), self.mask(lambda it: it.above)
         self.tables: Dict[Tuple[Operations, bool, int], Table] = {}
-        # whether the complement of each primitive is here too; that of each link and of each wrong decoder is
+        # whether the complement of each primitive is an instance too; that of each link and wrong decoder always is
         alone = {it.name for it in instances if len(it.links) == 1}
         self.is_symmetric = all(complement(name) in alone for name in alone)
 
@@ -129,7 +127,7 @@ class Survivors:
     # ---- a visit of a cell
 
     def closed(self, held: Held, fits: int, where: int) -> None:
-        """Has the primitives of states alone act."""
+        """Lets the primitives without operations act."""
         link = self.links[0]
         for bit in BITS:
             acts = held[bit] & where & link.closing & fits & link.state[bit]
@@ -138,7 +136,7 @@ class Survivors:
                 held[1 - bit] |= acts
 
     def operated(self, held: Held, cell: int, operation: str, fits: Sequence[int], due: int) -> Held:
-        """What is left behind an operation on a cell, before states alone act."""
+        """What is left after an operation on a cell, before primitives without operations act."""
         touched, victims = self.touched[cell], self.victim_at[cell]
         behind = [it & ~touched for it in held]
         for place in range(4 if self.waits else 2):
@@ -168,7 +166,7 @@ class Survivors:
     def visited(
         self, held: Held, cell: int, down: bool, operations: Operations, before: Sequence[int], end: int
     ) -> Held:
-        """What is left behind the operations on a cell; `before` is what the aggressors hold that no visit has
+        """What is left after the operations on a cell; `before` is what the aggressors hold that no visit has
         reached."""
         current = before
         for operation in operations:
@@ -180,7 +178,7 @@ class Survivors:
         return held
 
     def crossed(self, held: Held, operations: Operations, down: bool, before: Sequence[int], end: int) -> Held:
-        """What is left behind an element: an instance that waits does so no more where another cell comes between."""
+        """What is left after an element. A waiting instance stops waiting if another cell comes between."""
         held = parted(held, self.above if down else self.below)
         for cell in reversed(self.cells) if down else self.cells:
             held = self.visited(held, cell, down, operations, before, end)
@@ -199,7 +197,7 @@ class Survivors:
         )
 
     def begun(self, operations: Operations, down: bool = False) -> State:
-        """What is left of all contents behind a first element, which begins with a write."""
+        """What is left, from all contents, after a first element, which begins with a write."""
         end = left_by(operations, 0)
         union: State = (self.extra & ~self.caught(operations, down, end), 0, 0, 0)
         for contents in itertools.product(BITS, repeat=len(self.links)):
@@ -226,7 +224,7 @@ class Survivors:
         return self.tables[key]
 
     def paused(self, state: State, due: int) -> State:
-        """What is left behind a pause."""
+        """What is left after a pause."""
         good, bad = state[0] | state[2], state[1] | state[3]
         falls, rises = good & self.links[0].pausing[due], bad & self.links[0].pausing[1 - due]
         return good & ~falls | rises, bad & ~rises | falls, 0, 0
@@ -234,7 +232,7 @@ class Survivors:
     # ---- marches
 
     def run(self, elements: Sequence[Element]) -> tuple[State, int]:
-        """What is left behind a march, in whatever direction the elements of order any go, and what good cells then
+        """What is left after a march, for all directions of its elements of order any, and what good cells then
         hold."""
         state: State = (0, 0, 0, 0)
         due = 0
@@ -250,7 +248,7 @@ class Survivors:
         return state, due
 
     def passed(self, state: State | None, operations: Operations, down: bool, due: int) -> State:
-        """What is left of a state behind an element, or of all contents where there is none yet."""
+        """What is left of a state after an element, or of all contents if there is no state yet."""
         return self.begun(operations, down) if state is None else applied(state, self.table(operations, down, due))
 
     def left(self, state: State) -> set[str]:
@@ -260,7 +258,7 @@ class Survivors:
 
 
 def complement(text: str) -> str:
-    """A primitive with each bit turned."""
+    """A primitive with each bit inverted."""
     return text.translate(str.maketrans("01", "10"))
 
 
@@ -282,7 +280,7 @@ def either(one: State, other: State) -> State:
 
 
 def applied(state: State, table: Table) -> State:
-    """What is left of a state behind an element."""
+    """What is left of a state after an element."""
     a, b, c, d = state
     p, q, r, s = table
     if not c and not d:

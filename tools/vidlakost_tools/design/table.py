@@ -18,7 +18,7 @@ FILE = ROOT / "examples" / "shortest"
 MARCHES = ROOT / "examples" / "marches"
 # every primitive
 LIST = "all\nDRF\ndyn1\ndyn2\n"
-# what a march covers beside a list, and the column that the tables have for it
+# what a march covers beside a list, and its column in the tables
 BESIDE = {"-": "", "decoder": "AF", "linked": "LF"}
 TITLE = "## Shortest marches"
 INTRODUCTION = beside(__file__, "table_introduction.md")
@@ -28,7 +28,7 @@ SAME = beside(__file__, "table_same.md")
 @dataclasses.dataclass
 class Entry:
     """A march: the words of its list (or `as` and the file of a march that covers the same), what it covers beside
-    that, how many operations a search of all shorter ones shows to be needed, and its text."""
+    that, the lower bound by a search of all shorter ones, and its text."""
 
     words: List[str]
     beside: str
@@ -37,7 +37,7 @@ class Entry:
 
     @property
     def file(self) -> str:
-        """The march that covers the same; none where the words are those of a list."""
+        """The march that covers the same; None if the words name a list."""
         return self.words[1] if self.words[0] == "as" else ""
 
     @property
@@ -50,7 +50,7 @@ class Entry:
 
     @property
     def at_least(self) -> str:
-        # that a march has an operation need not be told
+        # every march has an operation, so the table leaves that out
         return "shortest" if self.is_shortest else f"{self.least}n" if self.least > 1 else ""
 
     def names(self) -> List[str]:
@@ -60,7 +60,7 @@ class Entry:
         return [it.primitive for it in with_text("any(w0)", functools.partial(of_list, "\n".join(self.words))).verdicts]
 
     def look(self) -> None:
-        """Ends with an error where the program says that something escapes."""
+        """Ends with an error if the program says that something escapes."""
         names = "\n".join(self.names())
         escapes = [it.primitive for it in with_text(self.march, functools.partial(of_list, names)).escapes]
         if self.beside == "decoder":

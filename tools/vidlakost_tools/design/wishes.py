@@ -1,4 +1,4 @@
-"""What is asked for in the words of a call, as the search wants it."""
+"""The wishes in the words of a call, in the form that the search uses."""
 from __future__ import annotations
 
 import dataclasses
@@ -18,9 +18,9 @@ from vidlakost_tools.texts.memory import Memory, read_memory
 from vidlakost_tools.texts.report import judged
 from vidlakost_tools.tool import ToolError, number_of
 
-# a march that any reader takes, for calls that ask about a list alone
+# a march that any reader takes, for calls about a list alone
 PLAIN = "any(w0)"
-# what covers as much inside a word as any march of the gallery
+# a march that covers as much inside a word as any march of the gallery
 INSIDE = ROOT / "examples" / "marches" / "march_ss.m"
 MOST_OPERATIONS, MOST_ELEMENTS, MOST_BACKGROUNDS = 16, 64, 8
 
@@ -44,7 +44,7 @@ class Words:
     decoder: bool = False
     linked: bool = False
     in_word: Optional[str] = None
-    # how many backgrounds a list may have that is looked for (0: none is)
+    # the most backgrounds of the list to look for (0: it looks for none)
     backgrounds: int = 0
     timed: Optional[str] = None
     clock: Optional[Clock] = None
@@ -109,7 +109,7 @@ def behind_of(words: Words) -> Parts:
 
 
 def fits_inside(memory: str, faults: str) -> Callable[[Parts], bool]:
-    """Whether a march covers as much of a list inside a word as can be expected of one."""
+    """Whether a march covers as much of a list inside a word as March SS does."""
     known: Dict[str, bool] = {}
 
     def covered(march: Any) -> Set[str]:
@@ -127,7 +127,7 @@ def fits_inside(memory: str, faults: str) -> Callable[[Parts], bool]:
 
 
 def wish_of(words: Words) -> Tuple[Wish, List[str]]:
-    """What the search is to find, and the primitives that no march of such elements covers."""
+    """What the search has to find, and the primitives that no march of such elements covers."""
     names = names_of(words.faults)
     if not names and not words.decoder and not words.linked:
         raise ToolError(f"{words.faults} names no primitive, so there is nothing to cover")

@@ -1,1 +1,1 @@
-"""The page on which marches are tried: what it asks and how it is served."""
+"""The page to try marches on: its questions and its server."""

@@ -1,7 +1,7 @@
-"""What the page asks, each time answered by the program: verdicts, what could stand at a place, an escape step by step,
-a memory, and the files to save.
+"""The page's questions, which the program answers: verdicts, what can come at a place, an escape step by step, a
+memory, and the files to save.
 
-A question is an object of JSON and so is its answer. A text that the program refuses is no failure: its answer is
+A question is an object of JSON, and so is its answer. A text that the program refuses is no failure: its answer is
 `refused`, with the place and the words of the launcher's explanation."""
 from __future__ import annotations
 
@@ -29,10 +29,10 @@ from vidlakost_tools.texts.report import Report, Verdict, judged, read_report
 from vidlakost_tools.tool import Refused
 
 
-# how long a call of the program may take, which answers in milliseconds where the machine is calm
+# how long a call of the program may take; on a calm machine it answers in milliseconds
 SECONDS = 60.0
 DYNAMIC = ["DYN1", "DYN2"]
-# what stands for the classes in a list, where it isn't the name itself
+# the words for classes in a list, if they are not the names themselves
 WORDS = {"DYN1": "dyn1", "DYN2": "dyn2"}
 EVERY = "all\nDRF\ndyn1\ndyn2\n"
 MARCHES = ROOT / "examples" / "marches"
@@ -71,7 +71,7 @@ def gallery() -> list[Object]:
 
 
 def classes() -> list[Object]:
-    """The classes, each with its primitives as the program lists them and what stands for it in a list."""
+    """The classes, each with its primitives as the program lists them, and its word in a list."""
     report = with_text("any(w0)", lambda march: with_text(EVERY, lambda faults: judged(march, faults)))
     words = in_words()
     return [
@@ -86,17 +86,17 @@ def classes() -> list[Object]:
 
 
 def decoder_class() -> Object:
-    """The faults of the address decoder, as a class of which no list speaks."""
+    """The faults of the address decoder, as a class that no list has."""
     return {"name": decoder.CLASS, "means": decoder.MEANS, "primitives": list(decoder.NAMES)}
 
 
 def link_classes() -> list[Object]:
-    """The kinds of linked faults, as classes of which no list speaks."""
+    """The kinds of linked faults, as classes that no list has."""
     return [{"name": kind, "means": linked.MEANS[kind], "primitives": count} for kind, count in linked.KINDS.items()]
 
 
 class Beginning:
-    """What does not change while a page is open: which program answers, the gallery and the classes; and the texts that
+    """What does not change while a page is open: which program answers, the gallery, the classes, and the texts that
     the page begins with."""
 
     def __init__(self, march: str | None, faults: str | None, memory: str | None):
@@ -126,7 +126,7 @@ class Beginning:
 
 
 def shown_report(report: Report, of_decoder: DecoderReport | None = None) -> Object:
-    """A report in the schema of `report --json`, with the elements of its march; behind its verdicts stand those on the
+    """A report in the schema of `report --json`, with the elements of its march. After its verdicts come those on the
     address decoder, which its total doesn't count."""
     made = report.as_object()
     verdicts = [verdict.as_object() for verdict in report.verdicts]
@@ -146,7 +146,7 @@ def judge(folder: Folder, question: Object) -> Object:
 def inside_report(
     folder: Folder, march: pathlib.Path, faults: pathlib.Path, question: Object
 ) -> in_word.InWordReport | None:
-    """What `inword` reports; nothing where a question has no memory, or one that is refused."""
+    """The report of `inword`; None if a question has no memory, or a refused one."""
     if "memory" not in question:
         return None
     try:
@@ -156,19 +156,20 @@ def inside_report(
 
 
 def covered_inside(report: in_word.InWordReport | None) -> Object | None:
-    """Of each coupling whether it is covered inside a word."""
+    """For each coupling: whether it is covered inside a word."""
     return None if report is None else {verdict.primitive: verdict.covered for verdict in report.verdicts}
 
 
 def complete(question: Object) -> Object:
-    """What could stand between two parts of a text, and how many letters before it the word that it completes has."""
+    """What can come between two parts of a text, and how many letters before it belong to the word that it
+    completes."""
     kind = text_in(question, "kind")
     if kind not in ("march", "list", "memory"):
         raise Wrong("kind is march, list or memory")
     before, after = (text_in(question, name).encode("utf-8") for name in ("before", "after"))
     found, whole = Trier(kind).fitting(before + after, len(before))
     begun = "" if whole else before[word_start(before + after, len(before)) :].decode("utf-8", "replace")
-    # no word stands for these: they are told by what they are
+    # no word represents these, so a note describes them
     named = {**SHOWN.get(kind, {}), "a hexadecimal word": "a hexadecimal word"}
     words = [word for word in found if word not in named]
     return {
@@ -183,8 +184,8 @@ def complete(question: Object) -> Object:
 
 
 def shown_steps(steps: Sequence[Step], of: DecoderVerdict | None = None) -> list[Object]:
-    """The steps of a run; `place` is that of the operation in its element, `reaches` are the cells that an address of a
-    wrong decoder reaches, and `acting` is which of two linked primitives acts."""
+    """The steps of a run. `place` is that of the operation in its element, `reaches` the cells that an address of a
+    wrong decoder reaches, and `acting` which of two linked primitives acts."""
     made: list[Object] = []
     for before, step in zip([None, *steps], steps):
         visit = None if before is None or before.cell is None else (before.element, before.cell)
@@ -208,7 +209,7 @@ def shown_steps(steps: Sequence[Step], of: DecoderVerdict | None = None) -> list
 
 
 def replayed(verdict: Verdict, elements: list[Element], march: pathlib.Path) -> Object:
-    """Why an escape escapes, and its steps, in the plain model of the definition; and what `sim` says of it, which
+    """Why an escape escapes, and its steps, in the plain model of the definition; and the line of `sim` on it, which
     takes no dynamic primitives."""
     why, steps = reasons.reason(verdict, elements)
     made: Object = {"why": why, "steps": shown_steps(steps)}
@@ -219,7 +220,7 @@ def replayed(verdict: Verdict, elements: list[Element], march: pathlib.Path) -> 
 
 
 def shown_catch(catch: Catch, march: pathlib.Path, keeps_steps: bool = True) -> Object:
-    """The read that catches a primitive in an array, the steps to it, and what `sim` says of that array."""
+    """The read that catches a primitive in an array, the steps up to it, and the line of `sim` on that array."""
     read = catch.read
     made: Object = {
         "array": catch.array.as_object()["escape"],
@@ -235,13 +236,13 @@ def shown_catch(catch: Catch, march: pathlib.Path, keeps_steps: bool = True) -> 
 
 
 def replayed_decoder(verdict: DecoderVerdict, elements: list[Element]) -> Object:
-    """The same of an escape of the address decoder."""
+    """The same for an escape of the address decoder."""
     why, steps = decoder.reason(verdict, elements)
     return {"why": why, "steps": shown_steps(steps, verdict)}
 
 
 def traced_decoder(march: pathlib.Path, name: str) -> Object:
-    """The verdict on one fault of the address decoder, and of an escape what it does."""
+    """The verdict on one fault of the address decoder, and what an escape does."""
     report = decoded(march)
     verdict = next(it for it in report.verdicts if it.name == name)
     elements = [dataclasses.asdict(element) for element in report.elements]
@@ -276,7 +277,7 @@ def replayed_link(verdict: LinkVerdict, elements: list[Element]) -> Object:
 
 
 def traced_link(march: pathlib.Path, name: str) -> Object:
-    """The verdict on one link, and of an escape what it does."""
+    """The verdict on one link, and what an escape does."""
     report = linked.linked(march)
     verdict = next((it for it in report.verdicts if it.primitive == name), None)
     if verdict is None:
@@ -288,7 +289,7 @@ def traced_link(march: pathlib.Path, name: str) -> Object:
 
 @refusable
 def trace(folder: Folder, question: Object) -> Object:
-    """The verdict on one primitive or fault, and of an escape what it does."""
+    """The verdict on one primitive or fault, and what an escape does."""
     march = folder.put("march", text_in(question, "march"))
     primitive = text_in(question, "primitive")
     if primitive in decoder.NAMES:
@@ -307,7 +308,7 @@ def trace(folder: Folder, question: Object) -> Object:
 
 @refusable
 def inside(folder: Folder, question: Object) -> Object:
-    """The verdict on a coupling inside a word of a memory, and of an escape why it is one, and its steps as lines."""
+    """The verdict on a coupling inside a word of a memory; for an escape also the reason, and its steps as lines."""
     march = folder.put("march", text_in(question, "march"))
     memory_path = folder.put("memory", text_in(question, "memory"))
     primitive = text_in(question, "primitive")
@@ -320,7 +321,7 @@ def inside(folder: Folder, question: Object) -> Object:
 
 
 def told_inside(verdict: in_word.WordVerdict, report: in_word.InWordReport, held: Memory) -> Object:
-    """A verdict inside a word, and of an escape why it is one, and its steps as lines."""
+    """A verdict inside a word; for an escape also the reason, and its steps as lines."""
     found: Object = {"memory": report.memory, "verdict": verdict.as_object()}
     if verdict.covered:
         return {**found, "steps": []}
@@ -332,7 +333,7 @@ def told_inside(verdict: in_word.WordVerdict, report: in_word.InWordReport, held
 
 
 def first_commands(march: pathlib.Path, memory: pathlib.Path, to: pathlib.Path) -> list[str] | None:
-    """The first commands of a test; None of one that is longer than `vectors` writes."""
+    """The first commands of a test; None if the test is longer than `vectors` allows."""
     status, said = run("vectors", march, memory, to)
     if status == 12:
         return None

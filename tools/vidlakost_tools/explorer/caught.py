@@ -25,14 +25,12 @@ class Catch:
 
 
 def catches(covered: Verdict, elements: List[Element]) -> Iterator[Catch]:
-    """Of a covered primitive an array for each side on which an aggressor can lie."""
+    """For a covered primitive: an array for each side on which an aggressor can be."""
     directions = "".join(WAYS[element.order] for element in elements)
     is_coupling = ";" in covered.primitive
     for victim in (1, 0) if is_coupling else (0,):
         aggressor = 1 - victim if is_coupling else None
-        array = dataclasses.replace(
-            covered, aggressor=aggressor, victim=victim, content=CONTENT, directions=directions
-        )
+        array = dataclasses.replace(covered, aggressor=aggressor, victim=victim, content=CONTENT, directions=directions)
         steps = list(array.array().march(elements, directions))
         if steps[-1].differs:
             yield Catch(array, steps)

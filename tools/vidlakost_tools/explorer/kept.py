@@ -1,4 +1,5 @@
-"""The page as one file that works by itself: its texts, styles and scripts in one, and each answer that it may want."""
+"""The page as one file that works by itself: its texts, styles and scripts in one, with each answer that it may
+need."""
 from __future__ import annotations
 
 import base64
@@ -32,13 +33,13 @@ STYLES, SCRIPTS = ["page.css"], [
     "page.js",
 ]
 MOST_MARCHES = 4
-# how many steps are kept in all: what escapes beyond them is kept without its steps
+# how many steps the file keeps in all; it keeps further escapes without their steps
 MOST_STEPS = 60000
 POLICY = "default-src 'none'; img-src data:; base-uri 'none'; form-action 'none'; require-trusted-types-for 'script'"
 
 
 def files() -> dict[str, Page]:
-    """The files that are served, by name, each with its type."""
+    """The files of the server, by name, each with its type."""
     made = {"": ("text/html", (PAGE / "index.html").read_bytes())}
     made.update({name: ("text/css", (PAGE / name).read_bytes()) for name in STYLES})
     made.update({name: ("text/javascript", (PAGE / name).read_bytes()) for name in SCRIPTS})
@@ -66,8 +67,8 @@ def whole(kept: Object) -> str:
 def traces(
     report: Report, of_decoder: DecoderReport, links: LinkedReport, march: pathlib.Path, left: int
 ) -> tuple[Object, int]:
-    """What the reports say of primitives, and the escapes of faults and links, by their names; and how many steps may
-    still be kept."""
+    """What the reports say about primitives, and the escapes of faults and links, by their names; and how many steps
+    the file may still keep."""
     traced = {it.name: answers.replayed_decoder(it, report.elements) for it in of_decoder.escapes}
     for verdict in report.verdicts:
         if verdict.covered:
@@ -84,7 +85,7 @@ def traces(
 
 
 def insides(report: InWordReport | None, memory: str, left: int) -> tuple[Object, int]:
-    """The verdicts inside a word by their primitives, and how many steps may still be kept."""
+    """The verdicts inside a word by their primitives, and how many steps the file may still keep."""
     found: Object = {}
     for verdict in report.verdicts if report else []:
         if report and verdict.primitive not in found:
@@ -103,19 +104,19 @@ def texts_in(question: Object, name: str) -> list[str]:
 
 
 class Keeper:
-    """What makes the file, with what the page began with."""
+    """A function that makes the file, with the texts that the page began with."""
 
     def __init__(self, beginning: answers.Beginning):
         self.beginning = beginning
 
     def answer(self, question: Object) -> Object:
-        """The page as a file; a march or the list that is refused is told, and a memory that is refused is kept so."""
+        """The page as a file. A refused march or list is an error; a refused memory is kept as it is."""
         marches, faults = texts_in(question, "marches"), questions.text_in(question, "list")
         memory, place = questions.text_in(question, "memory"), question.get("place")
         if not isinstance(place, int) or not 0 <= place < len(marches):
             raise questions.Wrong("place is that of a march")
         told = self.beginning.told
-        # where the program lies is nobody's concern to whom the file is given
+        # the place of the program does not concern those who get the file
         program: Object = {**told["program"], "path": ""}
         kept: Object = {
             "begin": {**told, "program": program, "march": marches[0], "list": faults, "memory": memory},

@@ -1,4 +1,4 @@
-"""What the page asks: its texts as files for the program, and what is refused of them."""
+"""The page's questions: their texts as files for the program, and the refusals of these."""
 from __future__ import annotations
 
 import os
@@ -37,7 +37,7 @@ def shortened(line: str) -> str:
 
 
 class Folder:
-    """A folder of one question, in which each text has the name of what it is."""
+    """A folder for one question, in which each text is a file with the name of its kind."""
 
     def __init__(self) -> None:
         self.held = tempfile.TemporaryDirectory(prefix="vidlakost-explore-")
@@ -75,7 +75,7 @@ class Folder:
 
 
 def refusable(answer: Callable[[Folder, Object], Object]) -> Callable[[Object], Object]:
-    """The answer of a question whose texts may be refused."""
+    """The answer to a question with texts that the program may refuse."""
 
     def asked(question: Object) -> Object:
         with Folder() as folder:

@@ -1,6 +1,5 @@
-"""The search for a march as the page asks for it: it is begun, heard while it goes on, and ended.
-
-One runs at a time, in a process that bounds itself (`search_run.py`): a second one ends the first."""
+"""The search for a march, from the page's side: it begins, reports, and ends. One runs at a time, in a process with its
+own limits (`search_run.py`); a second one ends the first."""
 from __future__ import annotations
 
 import contextlib
@@ -20,13 +19,13 @@ from vidlakost_tools.texts.march import march_of
 from vidlakost_tools.texts.report import judged
 
 LETTERS = "ABCD"
-# how long a process may still run behind its own bound, and how much it may say
+# how long a process may still run after its own time limit, and how much it may say
 LATE_SECONDS, MOST_BYTES = 10, 1 << 20
 BROKE_OFF = "the search broke off without an answer of the program"
 
 
 class Search:
-    """A search that runs, or has ended; the folder of its texts goes with it."""
+    """A search that runs or has ended; the folder with its texts goes with it."""
 
     def __init__(self, number: int, folder: Folder, asked: Object):
         self.number, self.folder = number, folder
@@ -53,7 +52,7 @@ class Search:
         return self.told["ended"] is not None or self.told["broken"] is not None
 
     def hear(self) -> None:
-        """Takes what the process says, to its end."""
+        """Reads what the process says, to its end."""
         left = MOST_BYTES
         for line in self.process.stdout or []:
             left -= len(line)
@@ -69,12 +68,12 @@ class Search:
         self.folder.__exit__()
 
     def stop(self) -> None:
-        """Has it end with the best march so far."""
+        """Ends it with the best march so far."""
         with contextlib.suppress(ProcessLookupError):
             self.process.send_signal(signal.SIGINT)
 
     def kill(self) -> None:
-        """Ends it, and the program that it asks."""
+        """Kills it, and the program that it asks."""
         if self.process.poll() is None:
             with contextlib.suppress(ProcessLookupError):
                 os.killpg(self.process.pid, signal.SIGKILL)
@@ -93,7 +92,7 @@ class Searches:
         self.begin = refusable(self.begun)
 
     def begun(self, folder: Folder, question: Object) -> Object:
-        """Begins a search, unless a text of it is refused."""
+        """Begins a search, unless the program refuses a text of it."""
         faults, decoder, linked = text_in(question, "list"), flag_in(question, "decoder"), flag_in(question, "linked")
         behind = self.behind(folder, question)
         judged(folder.put("march", "any(w0)"), folder.put("list", faults))
@@ -109,7 +108,7 @@ class Searches:
             return self.last.answer()
 
     def behind(self, folder: Folder, question: Object) -> Optional[str]:
-        """The name of the march that is extended, if there is one."""
+        """The name of the march to extend, if there is one."""
         if "march" not in question:
             return None
         letter = text_in(question, "letter")
@@ -125,17 +124,17 @@ class Searches:
         return self.last
 
     def heard(self, question: Object) -> Object:
-        """How far a search is, and its answer where it is over."""
+        """How far a search is, and its answer if it is over."""
         return self.named(question).answer()
 
     def stop(self, question: Object) -> Object:
-        """Has a search end with the best march so far."""
+        """Ends a search with the best march so far."""
         search = self.named(question)
         search.stop()
         return search.answer()
 
     def close(self) -> None:
-        """Ends what runs."""
+        """Ends the running search."""
         if self.last is not None:
             self.last.kill()
             self.last.hearer.join(timeout=5)

@@ -1,8 +1,7 @@
-"""The search for a march in a process of its own: the page's server starts it, and hears a line of JSON for each step.
-
-The folder in which it runs has the texts, and its word is what is asked for, as an object of JSON. The process bounds
-itself: it ends the search after a time, as Ctrl-C does, and takes no more memory or processor than it may. It goes when
-nobody hears it."""
+"""The search for a march in a process of its own. The page's server starts it, and gets a line of JSON for each step.
+It runs in a folder with the texts; its word is the wish, as an object of JSON. The process limits itself: it ends the
+search after a time, as Ctrl-C does, and takes no more memory or processor time than it may. It ends when nobody listens
+any more."""
 from __future__ import annotations
 
 import contextlib
@@ -22,13 +21,13 @@ from vidlakost_tools.program import settle
 from vidlakost_tools.texts.march import length_of
 from vidlakost_tools.tool import ToolError
 
-# how long a search may take, and then the program with its march
+# how long a search may take, and after it the program with its march
 SECONDS, LAST_SECONDS = 60, 60
-# how much memory it may take: no bound of the system's, since the program reserves more than it takes
+# how much memory it may take; this is no limit of the system's, since the program reserves more than it uses
 MEMORY_KIB = 2 << 20
 # the name of the list in the folder, as answers have it
 LIST = "the list"
-# how often it is told what is being done
+# how often it says what it is doing
 TOLD_SECONDS = 0.2
 
 
@@ -62,7 +61,7 @@ def taken_kib() -> int:
 
 
 def bounded() -> None:
-    """Bounds this process."""
+    """Limits this process."""
     most = SECONDS + LAST_SECONDS
     with contextlib.suppress(OSError, ValueError):
         resource.setrlimit(resource.RLIMIT_CPU, (most, most))
@@ -84,7 +83,7 @@ def searched(finder: Finder) -> None:
 
 
 def found(asked: Any) -> None:
-    """Searches, and says what the program says of the march."""
+    """Searches, and passes on what the program says about the march."""
     words = Words(LIST, asked["behind"], decoder=asked["decoder"], linked=asked["linked"])
     wish, beyond = wish_of(words)
     finder = Finder(wish, Said())
@@ -100,7 +99,7 @@ def main(arguments: List[str]) -> int:
         settle(LAST_SECONDS)
         found(json.loads(arguments[0]))
     except BrokenPipeError:
-        # nobody hears it any more, and nothing is written at exit
+        # nobody listens any more, and nothing may be written at exit
         os.dup2(os.open(os.devnull, os.O_WRONLY), 1)
     except ToolError as error:
         say(broken=str(error))

@@ -1,10 +1,10 @@
-"""A server on the loopback address for one page and its questions, which trusts nobody who can't name its token.
+"""A server on the loopback address for one page and its questions. It trusts nobody who does not know its token.
 
-Who asks has to know the token, which is a part of the address; has to say by `Host` that he means this very address,
-which a page of a name that was bound to it anew can't; and, where he asks something, by `Origin` that it is this page
-that asks. No path is looked up in the file system: the answers are those of a table. Each connection has one request,
-whose head and body are bounded in bytes and in time. Who has named the token has one of the places in which requests
-are answered; all others wait before these, without a thread, for a short time, and where many wait the oldest goes."""
+A client has to know the token, which is a part of the address. Its `Host` has to name this very address; a page
+whose name was bound to the address anew can't do that. For a question, its `Origin` has to be this page. The server
+looks up no path in the file system: a table has the answers. Each connection has one request, with limits in bytes
+and in time for its head and its body. A client that named the token gets one of the places in which requests are
+answered. All others wait before these, without a thread, for a short time; if many wait, the oldest goes."""
 from __future__ import annotations
 
 import hmac
@@ -24,7 +24,7 @@ from vidlakost_tools.explorer.questions import Object, Wrong
 from vidlakost_tools.tool import ToolError, tell
 
 CONNECTIONS, WAITING, CALLS = 32, 128, 2
-# what a request begins with is within so many bytes: its method, a blank, and the token between two slashes
+# a request has to begin, within so many bytes, with its method, a blank, and the token between two slashes
 METHOD_BYTES, FIRST_BYTES = 16, 4096
 HEAD_SECONDS, BODY_SECONDS, WAIT_SECONDS = 3.0, 10.0, 20.0
 HEAD_BYTES, BODY_BYTES = 16384, 1 << 20
@@ -48,7 +48,7 @@ Answer = Callable[[Object], Object]
 
 
 class Refusal(Exception):
-    """A request that is not answered, with the status and the words that it gets."""
+    """A refused request, with its status and the words for it."""
 
     def __init__(self, status: int, message: str):
         super().__init__(message)
@@ -84,7 +84,8 @@ class Reader(io.RawIOBase):
 
 
 class Explorer(socketserver.ThreadingMixIn, socketserver.TCPServer):
-    """The server: the files of the page by name, each with its type, and what answers a question by its name."""
+    """The server: the files of the page by name, each with its type, and the functions that answer a question, by its
+    name."""
 
     daemon_threads, block_on_close = True, False
     allow_reuse_address = True
@@ -94,10 +95,10 @@ class Explorer(socketserver.ThreadingMixIn, socketserver.TCPServer):
         self.pages, self.questions = pages, questions
         self.token = secrets.token_urlsafe(32)
         self.slots = threading.BoundedSemaphore(CONNECTIONS)
-        # of each connection that has not named the token the moment at which it goes, the oldest first, and what it
+        # for each connection that has not named the token: the moment at which it goes, the oldest first, and what it
         # sent
         self.waiting: Dict[socket.socket, Tuple[float, bytes]] = {}
-        # what those sent that have
+        # what the connections sent that have named it
         self.begun: Dict[socket.socket, bytes] = {}
         self.calls = threading.BoundedSemaphore(CALLS)
         super().__init__(("127.0.0.1", port), Handler)
@@ -108,7 +109,7 @@ class Explorer(socketserver.ThreadingMixIn, socketserver.TCPServer):
         return f"http://{self.host}/{self.token}/"
 
     def serve_forever(self, poll_interval: float = 0.5) -> None:
-        """Takes connections, reads what they begin with, and hands on those that name the token."""
+        """Takes connections, reads how they begin, and passes on those that name the token."""
         self.socket.setblocking(False)
         with selectors.DefaultSelector() as selector:
             selector.register(self.socket, selectors.EVENT_READ)
@@ -159,8 +160,8 @@ class Explorer(socketserver.ThreadingMixIn, socketserver.TCPServer):
             self.answer(request, begun)
 
     def knows(self, begun: bytes) -> bool | None:
-        """Whether a request names the token; None where that is not to be seen yet. Nothing is said of a part of it:
-        who guesses would find it letter by letter."""
+        """Whether a request names the token; None if that is not known yet. A part of the token gets no answer, so
+        nobody can guess it letter by letter."""
         wanted = f"/{self.token}/".encode()
         method, blank, rest = begun.partition(b" ")
         if len(method) > METHOD_BYTES or b"\n" in begun[: METHOD_BYTES + len(wanted)] and len(rest) < len(wanted):
@@ -176,7 +177,7 @@ class Explorer(socketserver.ThreadingMixIn, socketserver.TCPServer):
         self.refuse(request, status)
 
     def refuse(self, request: socket.socket, status: int) -> None:
-        """Says a status, if that can be said at once, and ends a connection."""
+        """Sends a status, if that works at once, and ends a connection."""
         lines = [
             f"HTTP/1.0 {status} {http.HTTPStatus(status).phrase}",
             *(f"{name}: {value}" for name, value in HEADERS.items()),
@@ -189,7 +190,7 @@ class Explorer(socketserver.ThreadingMixIn, socketserver.TCPServer):
         self.shutdown_request(request)
 
     def answer(self, request: socket.socket, begun: bytes) -> None:
-        """A thread for a connection that has named the token, where one is free."""
+        """Starts a thread for a connection that has named the token, if one is free."""
         if self.slots.acquire(blocking=False):
             self.begun[request] = begun
             self.process_request(request, ("127.0.0.1", 0))
@@ -204,7 +205,7 @@ class Explorer(socketserver.ThreadingMixIn, socketserver.TCPServer):
             self.slots.release()
 
     def handle_error(self, request: Any, client_address: Any) -> None:
-        """A connection that broke is nobody's concern, and a failure of ours is told in a line."""
+        """Ignores a broken connection, and prints a line for a failure of the server."""
         error = sys.exc_info()[1]
         if not isinstance(error, OSError):
             tell(f"explore: a request failed: {type(error).__name__}: {error}")
@@ -224,17 +225,17 @@ class Handler(http.server.BaseHTTPRequestHandler):
         return "vidlakost"
 
     def log_message(self, *_: object) -> None:
-        """Nothing is written of requests: their paths hold the token."""
+        """Logs no request, since its path holds the token."""
 
     def only(self, name: str) -> str | None:
-        """The value of a header that stands at most once."""
+        """The value of a header that comes at most once."""
         values: list[str] = self.headers.get_all(name) or []
         if len(values) > 1:
             raise Refusal(400, f"{name} stands twice")
         return values[0] if values else None
 
     def named(self) -> str:
-        """What the path names behind the token, of a request that comes from this page or opens it."""
+        """What the path names after the token, for a request that comes from this page or opens it."""
         if self.only("Host") != self.server.host:
             raise Refusal(421, "this is not the host that was asked")
         origin, site = self.only("Origin"), self.only("Sec-Fetch-Site")
@@ -275,7 +276,7 @@ class Handler(http.server.BaseHTTPRequestHandler):
         self.wfile.write(content)
 
     def send_error(self, code: int, message: str | None = None, explain: str | None = None) -> None:
-        """What the library refuses, without its page."""
+        """Refuses what the library refuses, without the library's page."""
         self.request_version = "HTTP/1.0"
         self.close_connection = True
         self.reply(int(code), "text/plain", b"this request is none of the page's")
