@@ -10,7 +10,7 @@ FILLS = ["#cfe5dc", "#dde3f2", "#f4e3cf", "#ead9ea"]
 
 
 def block(chip: Chip, number: int, below: int) -> list[str]:
-    """A unit from its start to its end, on those of its group that stand below it."""
+    """A unit from its start to its end, above those of its group that are below it."""
     unit = chip.units[number]
     across, up = WIDE / chip.done, HIGH / chip.budget
     x, y = LEFT + unit.start * across, TOP + HIGH - (below + unit.weight) * up
@@ -19,7 +19,7 @@ def block(chip: Chip, number: int, below: int) -> list[str]:
         f'<rect x="{x:g}" y="{y:g}" width="{wide:g}" height="{high:g}" fill="{FILLS[unit.group % 4]}" stroke="{INK}"/>'
     )
     label = f"{number} {unit.memory.name}"
-    # the name stands in the box or, where that is too narrow, behind it
+    # the name is in the box or, if that is too narrow, after it
     inside = wide > 7 * len(label) + 8
     return [box, *([text(x + (4 if inside else wide + 4), y + high / 2 + 4, label, 11)] if high > 12 else [])]
 

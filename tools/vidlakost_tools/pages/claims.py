@@ -1,4 +1,4 @@
-"""What papers say that marches cover, beside what the program says of it: a part of the gallery."""
+"""What papers say that marches cover, beside what the program says: a part of the gallery."""
 from __future__ import annotations
 
 import dataclasses
@@ -12,14 +12,14 @@ from vidlakost_tools.texts.linked import LinkVerdict, linked
 from vidlakost_tools.texts.report import Verdict, judged
 
 MARCHES = ROOT / "examples" / "marches"
-# the list that stands for the links
+# the list that means the links
 LINKS = "LF"
 TITLE = beside(__file__, "claims_title.md")
 NOTE = beside(__file__, "claims_note.md")
 
 
 def write_read(states: Sequence[str]) -> List[str]:
-    """The primitives of a read right behind a write of the cell, with each of these parts before it."""
+    """The primitives of a read right after a write of the cell, with each of these parts before it."""
     made = []
     for before, state, bit in itertools.product(states, "01", "01"):
         other = str(1 - int(bit))
@@ -30,7 +30,7 @@ def write_read(states: Sequence[str]) -> List[str]:
 
 @dataclasses.dataclass
 class Claim:
-    """A march, as a file of the gallery or with another first element, what it is said to cover, and the list of
+    """A march, as a file of the gallery or with another first element; what it is said to cover; and the list of
     that."""
 
     name: str
@@ -68,7 +68,7 @@ CLAIMS = [
 
 
 def shown_escape(it: Verdict) -> str:
-    """An escape as its report has it."""
+    """An escape in the words of its report."""
     aggressor = "none" if it.aggressor is None else it.aggressor
     cells = f"cells {len(it.content)} aggressor {aggressor} victim {it.victim}"
     return f"{it.primitive} {cells} content {it.content} directions {it.directions}"
@@ -80,8 +80,7 @@ def shown_link(it: LinkVerdict) -> str:
 
 
 def looked(claim: Claim, march: pathlib.Path) -> str:
-    """The cells of the table that the program fills: how many are covered, and the first escape as its report has
-    it."""
+    """The cells of the table that the program fills: how many are covered, and the first escape."""
     if claim.items == [LINKS]:
         report = linked(march)
         count, total = report.covered, len(report.verdicts)

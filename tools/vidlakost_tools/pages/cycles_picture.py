@@ -1,4 +1,4 @@
-"""The first cycles of a test as a picture: what stands on each port of the self-test."""
+"""The first cycles of a test as a picture: the values on each port of the self-test."""
 from __future__ import annotations
 
 import itertools
@@ -11,9 +11,9 @@ from vidlakost_tools.texts.memory import Memory
 COUNT, LEFT, TOP, HIGH, STEP = 12, 70, 40, 18, 34
 GREEN = "#1b7f5c"
 NUMBERS = {1: "one cycle", 2: "two cycles", 3: "three cycles", 4: "four cycles"}
-# the parts of a line of `vectors`; None where no command is given
+# the parts of a line of `vectors`; None if there is no command
 Command = Optional[List[str]]
-# the least width of a cycle, and what a digit takes
+# the least width of a cycle, and the width of a digit
 LEAST, DIGIT = 62, 6.8
 
 
@@ -65,7 +65,7 @@ def signals(given: list[Command], latency: int, done: int) -> list[tuple[str, li
 
 
 def first_read(given: list[Command], latency: int, wide: float) -> list[str]:
-    """The way from the first read to its word, where both are in the picture."""
+    """The way from the first read to its word, if both are in the picture."""
     reads = [cycle for cycle, command in enumerate(given) if command and command[0] == "r" and cycle + latency < COUNT]
     if not reads:
         return []
@@ -89,8 +89,8 @@ def first_read(given: list[Command], latency: int, wide: float) -> list[str]:
 
 
 def first_cycles(elements: list[Element], memory: Memory, told: list[str]) -> list[Command]:
-    """The command of each of the first cycles, from the first lines of `vectors`: None in the reset, in a pause, and
-    behind the end."""
+    """The command of each of the first cycles, from the first lines of `vectors`; None in the reset, in a pause, and
+    after the end."""
     given: list[Command] = [None]
     commands = iter(told)
     for element in itertools.chain.from_iterable(itertools.repeat(elements, len(memory.backgrounds))):

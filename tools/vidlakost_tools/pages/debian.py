@@ -1,5 +1,5 @@
-"""A Debian package of a release: the same files below /usr/lib/vidlakost, and the one command, its man page and its
-completion where they are looked for."""
+"""A Debian package of a release: the same files below /usr/lib/vidlakost, with the one command, its man page and its
+completion in the usual places."""
 from __future__ import annotations
 
 import gzip
@@ -35,13 +35,13 @@ COPYRIGHT = """Vidlakost, a memory BIST compiler with a march coverage prover.
 
 Copyright 2026 the maintainers of Vidlakost. The sources of this version name no licence.
 """
-# what lintian would say, and why it is so
+# the remarks that lintian would make, and why it is so
 OVERRIDES = """# The program is the one that was built, byte for byte, so that its checksum is that of a proof.
 vidlakost: unstripped-binary-or-object *
 # The pages are read by the command itself, for its help and its explanations.
 vidlakost: package-contains-documentation-outside-usr-share-doc *
 """
-# what Python keeps of the tools where root ran them goes away with them
+# what Python caches when root runs the tools is removed with them
 PRERM = """#!/bin/sh
 set -e
 find "${DPKG_ROOT}/usr/lib/vidlakost" -type d -name __pycache__ -prune -exec rm -rf {} +
@@ -55,12 +55,12 @@ CHANGELOG = """vidlakost ({version}) unstable; urgency=medium
 
 
 def zipped(text: bytes) -> bytes:
-    """The text as `gzip -n` has it, without a time."""
+    """The text as `gzip -n` compresses it, without a time."""
     return gzip.compress(text, 9, mtime=0)
 
 
 def paths_of(files: Mapping[str, tuple[bytes, bool]], version: str, date: str) -> dict[str, tuple[bytes, bool]]:
-    """Where each file of the release goes, and what a package has beside them."""
+    """Where each file of the release goes, and the further files of a package."""
     made = {}
     for name, (content, is_program) in files.items():
         if name.startswith("share/man/"):
@@ -104,7 +104,7 @@ def package(
     date: str,
     unproved: bool,
 ) -> None:
-    """Writes the package: the same files, version and time give the same bytes with one `dpkg-deb`."""
+    """Writes the package. With one `dpkg-deb` the same files, version and time give the same bytes."""
     if shutil.which("dpkg-deb") is None:
         raise ToolError("dpkg-deb makes a Debian package, and it is not on the PATH")
     with tempfile.TemporaryDirectory() as name:
@@ -133,7 +133,7 @@ def package(
 
 
 def dpkg(root: pathlib.Path, *words: str) -> str:
-    """A call of `dpkg` on a system of its own below a folder; what it says where it fails."""
+    """A call of `dpkg` on a system of its own below a folder; returns the message if it fails."""
     forced = ["--force-depends", "--force-not-root", "--force-bad-path", "--force-script-chrootless"]
     form = ["dpkg", f"--root={root}", *forced, *words]
     done = subprocess.run(form, stdout=subprocess.PIPE, stderr=subprocess.STDOUT, text=True, check=False)
@@ -150,7 +150,7 @@ def install(target: pathlib.Path, root: pathlib.Path) -> str:
 
 
 def left_behind(root: pathlib.Path) -> list[str]:
-    """Takes the package away again; what of it is left."""
+    """Removes the package again; returns what is left of it."""
     said = dpkg(root, "--purge", "vidlakost")
     there = [
         str(path.relative_to(root)) for path in sorted(root.rglob("*")) if path.relative_to(root).parts[0] != "var"
@@ -159,7 +159,7 @@ def left_behind(root: pathlib.Path) -> list[str]:
 
 
 def complaints(target: pathlib.Path) -> list[str]:
-    """What lintian says of a package, where it is installed."""
+    """What lintian says about a package, if lintian is installed."""
     if shutil.which("lintian") is None:
         return []
     done = subprocess.run(

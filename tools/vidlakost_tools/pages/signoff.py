@@ -1,4 +1,4 @@
-"""Pages over many reports: a table for sign-off, and what a tester has to know of a test."""
+"""Pages over many reports: a table for sign-off, and a page on a test for the tester."""
 from __future__ import annotations
 
 import csv
@@ -34,7 +34,7 @@ STYLE = (
 
 @dataclasses.dataclass
 class Row:
-    """A memory and its report; the cycles where its description is there."""
+    """A memory and its report, with the cycles if the call has its description."""
 
     report: Report
     memory: Memory | None
@@ -45,7 +45,7 @@ class Row:
 
 
 def told_of(memory: Memory, report: Report) -> tuple[int, int, int, int]:
-    """What the report of a memory tells of it: words, bits, backgrounds and commands."""
+    """What the report of a memory says about it: words, bits, backgrounds and commands."""
     return memory.words, memory.bits, len(memory.backgrounds), number_of_commands(memory, report.elements)
 
 
@@ -84,7 +84,7 @@ def columns(rows: list[Row]) -> list[str]:
 
 
 def cells_of(row: Row, heads: list[str], mhz: float) -> list[str]:
-    """What stands in a row."""
+    """The texts in a row."""
     shape, (count, covered, _) = row.report.memory or {}, row.report.total
     told = {key: str(shape[key]) for key in ("words", "bits", "backgrounds", "commands")}
     told.update({kind: f"{good}/{of}" for kind, (of, good) in row.report.classes.items()})
@@ -136,7 +136,7 @@ def sign_off(rows: list[Row], mhz: float) -> str:
 
 
 def tested(words: list[str]) -> tuple[Target, list[tuple[str, list[Element], Memory, int]]]:
-    """What is tested: a march and a memory, or a chip file; and of each unit the march, the memory and the start."""
+    """What is tested: a march and a memory, or a chip file; for each unit the march, the memory and the start."""
     if len(words) == 1:
         chip = read_chip(words[0])
         return Target.of_chip(chip), [(unit.march, unit.elements, unit.memory, unit.start) for unit in chip.units]
@@ -153,13 +153,13 @@ def holds(elements: list[Element], memory: Memory, start: int) -> Iterator[str]:
 
 
 def locating(words: list[str], is_chip: bool) -> str:
-    """The call that decodes the register, as a shell takes it: who has the page has not chosen the names of the
+    """The call that decodes the register, quoted for a shell: the reader of the page has not chosen the names of the
     files."""
     return shlex.join(["vidlakost", "locate", *words, *(["--chip"] if is_chip else []), "--tdr", "HEX"])
 
 
 def tester_page(words: list[str], mhz: float) -> str:
-    """How to start a test, how long it takes, what to read, where to hold, how to decode."""
+    """How to start a test, how long it takes, what to read, where to stop the clock, and how to decode."""
     target, units = tested(words)
     done = target.done or 0
     rows = []

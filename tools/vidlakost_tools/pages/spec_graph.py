@@ -1,8 +1,8 @@
-"""What the definitions of the repository are, and which stands on which: a reading of `specs/`, of the types that the
-sources declare, and of the clauses of public calls.
+"""The definitions of the repository, and which rests on which, from `specs/`, from the types that the sources declare,
+and from the clauses of public calls.
 
-A definition is known by its crate, its file and its name. Names are followed as they are imported; what a definition
-binds itself (arguments, fields, names behind λ) refers to nothing. The definitions of the kit are not followed."""
+A definition is known by its crate, its file and its name. Names are followed through imports. What a definition
+binds itself (arguments, fields, names after λ) refers to nothing. The definitions of the kit are not followed."""
 from __future__ import annotations
 
 import dataclasses
@@ -27,7 +27,7 @@ EVERY = "*"
 
 @dataclasses.dataclass
 class Clause:
-    """A clause of a public call: where it stands, and the names in it as its file imports them."""
+    """A clause of a public call: its place, and the names in it as its file imports them."""
 
     call: str
     name: str
@@ -73,7 +73,7 @@ RUST_USE = re.compile(r"^(?:pub )?use (\w+)((?:::\w+)*)(?:::\{([^}]*)\})?;")
 
 
 def brought_types(path: pathlib.Path, crate: str) -> Iterator[tuple[str, tuple[str, str]]]:
-    """The types that the `use` lines of a source file bring: the name here, then the crate and the name there."""
+    """The types that the `use` lines of a source file import: the name here, then the crate and the name there."""
     for line in joined_uses(path.read_text().splitlines()):
         found = RUST_USE.match(line)
         if found:
@@ -88,7 +88,7 @@ def brought_types(path: pathlib.Path, crate: str) -> Iterator[tuple[str, tuple[s
 
 
 class Graph:
-    """All definitions, and what each stands on."""
+    """All definitions, and what each rests on."""
 
     def __init__(self, root: pathlib.Path):
         self.root = root
@@ -129,7 +129,7 @@ class Graph:
             self.by_name[(definition.key.crate, definition.key.file, name)] = definition
 
     def target(self, place: tuple[str, str, str]) -> Definition | None:
-        """What this name of this file means, through files that hand names on."""
+        """What a name in a file means, through files that pass on names."""
         while place not in self.by_name and (further := self.handed_on.get(place)):
             place = further
         return self.by_name.get(place)
@@ -137,7 +137,7 @@ class Graph:
     def meant(
         self, word: str, imports: dict[str, tuple[str, str, str]], otherwise: tuple[str, str, str]
     ) -> Definition | None:
-        """What a word means under these imports; behind the name of a file stands a name of that file."""
+        """What a word means under these imports; after the name of a file comes a name of that file."""
         parts = word.split(".")
         crate, file, name = imports.get(parts[0], otherwise)
         return self.target((crate, file, name or parts[1])) if name or len(parts) > 1 else None
@@ -161,7 +161,7 @@ class Graph:
             self.clauses.append(Clause(f"{crate}::{call}", name, clause, uses))
 
     def follow_types(self) -> None:
-        """A declared type stands on the types of its parts: on what each is seen as, where it is a model, else on
+        """A declared type rests on the types of its parts: for a model on what each is seen as, else on the type
         itself."""
         seen_as = {one.call: one.uses for one in self.clauses if one.name == "Value"}
         types: dict[tuple[str, str], list[Definition]] = {}
@@ -182,13 +182,13 @@ class Graph:
                     definition.uses |= seen_as.get(f"{crate}::{name}") or {part.key}
 
     def renamed(self, crate: str) -> dict[str, str]:
-        """The names under which a crate gives out types that it calls otherwise."""
+        """The names under which a crate exports types that have other names inside."""
         library = self.root / "crates" / crate / "src" / "lib.rt"
         text = library.read_text() if library.exists() else ""
         return {there: here for here, there in re.findall(r"\b(\w+) as (\w+)", text)}
 
     def below(self, start: Iterable[Key]) -> list[Key]:
-        """All that these stand on, each behind what it uses."""
+        """All that these rest on, each after what it uses."""
         order: list[Key] = []
         seen: set[Key] = set()
         for key in sorted(start):
@@ -209,7 +209,8 @@ class Graph:
 
 
 def exports(library: pathlib.Path) -> set[str]:
-    """The names that a crate's root hands on, and its public modules; all of a program's, which has no library."""
+    """The names that a crate's root passes on, and its public modules; for a program, which has no library, all of
+    them."""
     if not library.exists():
         return {EVERY}
     text = library.read_text()
@@ -221,8 +222,8 @@ def exports(library: pathlib.Path) -> set[str]:
 
 
 def clauses_of(lines: list[str], of_all: bool) -> Iterator[tuple[str, str, str]]:
-    """Of each public call, or of all in a program: its name, and the names and texts of its clauses; and the ghost
-    parts of models and traits."""
+    """For each public call, or for each call of a program: its name, and the names and texts of its clauses; and the
+    ghost parts of models and traits."""
     owner, call, index = "", "", 0
     while index < len(lines):
         line = lines[index]

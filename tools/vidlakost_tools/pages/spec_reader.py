@@ -1,4 +1,4 @@
-"""A reading of the files of `specs/`: their definitions, and what each names."""
+"""Reads the files of `specs/`: their definitions, and what each names."""
 from __future__ import annotations
 
 import dataclasses
@@ -52,7 +52,7 @@ class SpecFile:
 
 
 def imported(line: str) -> Iterator[tuple[str, tuple[str, str, str]]]:
-    """The names that a `use` line brings: the name here, then crate, file and name there."""
+    """The names that a `use` line imports: the name here, then crate, file and name there."""
     found = USE.match(line)
     if not found:
         return
@@ -89,7 +89,7 @@ def split_names(names: str | None) -> Iterator[tuple[str, str]]:
 
 
 def joined_uses(lines: list[str]) -> list[str]:
-    """The lines, where a `use` over several lines stands in one."""
+    """The lines, with a `use` over several lines as one."""
     joined: list[str] = []
     open_use = False
     for line in lines:
@@ -117,7 +117,7 @@ def read_spec(path: pathlib.Path, crate: str) -> SpecFile:
 
 
 class SpecReader:
-    """One spec file, line by line: what is pending (a comment, a heading, a definition) and what was read."""
+    """One spec file, line by line: what is pending (a comment, a heading, a definition), and what was read."""
 
     def __init__(self, spec: SpecFile):
         self.spec = spec
@@ -199,7 +199,7 @@ class SpecReader:
 
 
 def names_of(definition: Definition) -> Iterator[str]:
-    """The names that a definition brings: its own and its constructors', or those of all that stand within a block."""
+    """The names of a definition: its own and its constructors', or for a block those of all definitions in it."""
     if definition.kind == "block":
         yield from names_within(definition.lines[1:], 2)
         return
@@ -209,7 +209,7 @@ def names_of(definition: Definition) -> Iterator[str]:
 
 
 def names_within(lines: list[str], depth: int) -> Iterator[str]:
-    """The names that a block brings, whose definitions begin at this depth."""
+    """The names of a block, whose definitions begin at this depth."""
     space = " " * depth
     starts = [at for at, line in enumerate(lines) if re.match(space + r"[^\s-]", line)] + [len(lines)]
     for start, end in zip(starts, starts[1:]):
@@ -230,7 +230,7 @@ def constructors(lines: list[str], depth: int) -> Iterator[str]:
 
 
 def is_block(line: str) -> bool:
-    """Whether a line begins definitions that are mutual, or that share parameters."""
+    """Whether a line begins mutual definitions, or definitions that share parameters."""
     return bool(re.match(r"(?:abbrev )?mutual\b|module _ ", line))
 
 
@@ -238,8 +238,7 @@ FIELD_HEAD = re.compile(r"\s+(?:pub )?([^\W\d][\w']*) : ")
 
 
 def bound_in(lines: Iterable[str], own: Iterable[str]) -> set[str]:
-    """The names that are bound within these lines, but for the fields of a record, which are bound one after
-    another."""
+    """The names that these lines bind. Fields of a record are left out, since each is bound after the one before it."""
     bound: set[str] = set()
     own = set(own)
     for line in lines:
@@ -251,7 +250,7 @@ def bound_in(lines: Iterable[str], own: Iterable[str]) -> set[str]:
         words = stripped.split()
         if words and words[0] in own and "=" in words:
             pattern = stripped[: stripped.index(" =")] if " =" in stripped else stripped
-            # a constructor has its type behind a colon, in which a record may be changed
+            # a constructor has its type after a colon, and a record may be changed in that
             if " : " not in pattern:
                 bound.update(word for word in NAME.findall(pattern)[1:] if word[0].islower())
         for found in re.finditer(r"\blet ([^\W\d][\w']*)", line):

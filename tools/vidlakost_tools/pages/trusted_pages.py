@@ -1,5 +1,5 @@
-"""The pages of the definitions that have to be trusted: those of the headline, those of the other clauses of the top
-call, and the index of both, which is committed."""
+"""The pages of the trusted definitions: those of the headline, those of the other clauses of the top call, and the
+committed index of both."""
 from __future__ import annotations
 
 import hashlib
@@ -16,7 +16,7 @@ HEADLINE = "compilation"
 File = Tuple[str, str]
 
 
-# ---- what stands on what
+# ---- what rests on what
 
 
 def clauses_of(graph: Graph, call: str, clause: str | None = None) -> list[Clause]:
@@ -27,12 +27,12 @@ def clauses_of(graph: Graph, call: str, clause: str | None = None) -> list[Claus
 
 
 def below(graph: Graph, clauses: list[Clause]) -> list[Key]:
-    """What clauses stand on, each behind what it stands on itself."""
+    """What clauses rest on, each after what it rests on itself."""
     return graph.below({key for clause in clauses for key in clause.uses})
 
 
 def headline_and_others(graph: Graph) -> tuple[list[Key], list[Key]]:
-    """The definitions that the headline stands on, and those that only other clauses of the top call do."""
+    """The definitions that the headline rests on, and those that only other clauses of the top call need."""
     headline = set(below(graph, clauses_of(graph, RUN, HEADLINE)))
     order = below(graph, clauses_of(graph, RUN))
     return [key for key in order if key in headline], [key for key in order if key not in headline]
@@ -64,7 +64,7 @@ def by_part(keys: list[Key]) -> list[tuple[Part, list[Key]]]:
 
 
 def in_reading_order(graph: Graph, part: Part, keys: list[Key]) -> list[tuple[File, list[Definition]]]:
-    """The files of a part with their definitions: the order of the part's list, and else of what uses what."""
+    """The files of a part with their definitions, in the order of the part's list, or else in the order of use."""
     files: dict[File, list[Definition]] = {}
     for key in keys:
         files.setdefault((key.crate, key.file), []).append(graph.by_key[key])
@@ -88,7 +88,7 @@ def table(graph: Graph, keys: list[Key]) -> list[str]:
 
 
 def sections(graph: Graph, keys: list[Key], heads: dict[File, str], is_further: bool) -> list[str]:
-    """The definitions whole, file by file, each part with what is said above it."""
+    """The complete definitions, file by file, each part with the text above it."""
     made: list[str] = []
     for part, found in by_part(keys):
         words = part.further if is_further else part.words
@@ -103,7 +103,7 @@ def sections(graph: Graph, keys: list[Key], heads: dict[File, str], is_further: 
 
 
 def heads_of(graph: Graph) -> dict[File, str]:
-    """What the head of each spec file says, without its kind."""
+    """The head of each spec file, without its kind."""
     return {
         (spec.crate, spec.name): re.sub(r"^(Trusted|Public|Inner)\. ", "", " ".join(spec.head)) for spec in graph.specs
     }
@@ -159,8 +159,8 @@ CLAIM = re.compile(r"`(\w+(?:::\w+)+)`(?: \((`\w+`(?:, `\w+`)*)\))?")
 
 
 def wrong_claims(graph: Graph, page: str) -> list[str]:
-    """The lines of a page's list of calls that name a call or a clause that does not exist, and what of it. A name
-    alone is that of a call of a crate that its line names."""
+    """The lines of a page's list of calls that name a call or a clause that does not exist, and what is wrong. A name
+    alone is that of a call in the crate of its line."""
     calls: dict[str, set[str]] = {}
     for clause in graph.clauses:
         calls.setdefault(clause.call, set()).add(clause.name)

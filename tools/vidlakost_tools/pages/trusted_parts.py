@@ -1,5 +1,4 @@
-"""The parts of the pages of the trusted definitions: which files stand in which, in which order, and what is said above
-them."""
+"""The parts of the pages of the trusted definitions: their files, the order of these, and the text above them."""
 from __future__ import annotations
 
 import dataclasses
@@ -13,7 +12,8 @@ are natural, without bound; `List`, `Option` (`Some`, `None`) and `Result` (`Ok`
 lists of bytes (`codes "en"`). What is taken from the kit's library (numbers, lists, texts of digits) is not shown.
 """
 
-HEADLINE_TITLE = """# The headline, and all that it stands on
+HEADLINE_TITLE = (
+    """# The headline, and all that it stands on
 
 A proof is worth as much as the statement that it proves. This page has each definition that the headline stands on,
 whole, with its comment; nothing else of the repository's definitions has to be read in order to know what it promises,
@@ -21,17 +21,23 @@ and no code. `H.state` in the clause is what a host tells: its files, what was s
 Rust type a `Prim` stands for its `Primitive`, a `DynPrim` for its `DynamicPrimitive`, a `Scramble` for its
 `Scrambling`, a `Name` for its bytes, and the page shows what each is seen as.
 
-""" + SIGNS + """
+"""
+    + SIGNS
+    + """
 *Where to begin.* The clause below is the headline. Read `Headline.antt` at the end of the first part, then from the
 beginning what it names. The first part takes an hour; the parts behind it say what its words rest on.
 """
+)
 
-OTHERS_TITLE = """# What the other clauses of the top call stand on
+OTHERS_TITLE = (
+    """# What the other clauses of the top call stand on
 
 Each definition that a clause of `run` stands on and the headline doesn't: those of the other commands and statuses. The
 page of the headline has the others. `told` in a clause is what a box tells (the trait `Device`).
 
-""" + SIGNS
+"""
+    + SIGNS
+)
 
 INDEX_TITLE = """# What has to be trusted
 
@@ -45,7 +51,7 @@ in which to read them, and `dev/trusted --others` those of the other clauses; a 
 
 @dataclasses.dataclass(frozen=True)
 class Part:
-    """A part of the pages: what is said above its definitions on the page of the headline, and on that of the
+    """A part of the pages, with the text above its definitions on the page of the headline, and the one on that of the
     others."""
 
     title: str

@@ -30,8 +30,8 @@ REGISTER = r"(\w+)\[(\d+)\]\s*\((\w+(?:\s*,\s*\w+)*)\)"
 
 @dataclasses.dataclass
 class Bsdl:
-    """What an entity tells: its pins with their directions, the role of each pin of the TAP, the opcodes of its
-    instructions from the highest bit on, and of each instruction the register and its length."""
+    """What an entity says: its pins with their directions; the role of each pin of the TAP; the opcodes of its
+    instructions, highest bit first; and the register and length of each instruction."""
 
     name: str
     pins: Dict[str, str]
@@ -43,7 +43,7 @@ class Bsdl:
 
 
 class Reader:
-    """The words of a text, one after another; words are the same in small and large letters."""
+    """The words of a text, one after another. Case does not count."""
 
     def __init__(self, text: str):
         self.found: list[str] = []
@@ -74,7 +74,7 @@ class Reader:
         return self.found[self.at - 1]
 
     def text(self) -> str:
-        """Strings that are joined by &."""
+        """Strings joined by &."""
         parts = [self.word('".*"')[1:-1]]
         while self.next == "&":
             self.take("&")
@@ -104,7 +104,7 @@ def pins_of(reader: Reader) -> dict[str, str]:
 
 
 def value_of(reader: Reader) -> object:
-    """The value of an attribute: a text, a number, a name, or what stands in parentheses."""
+    """The value of an attribute: a text, a number, a name, or what is in parentheses."""
     if reader.next.startswith('"'):
         return reader.text()
     if reader.next == "(":
@@ -158,8 +158,8 @@ def listed(text: object, form: str, what: str) -> list[re.Match[str]]:
 
 
 def opcodes_of(found: dict[str, object]) -> dict[str, list[str]]:
-    """The opcodes of each instruction: they have the length of the instruction register, and no two are the same, but
-    for those of SAMPLE and PRELOAD."""
+    """The opcodes of each instruction. They have the length of the instruction register. No two are equal, except those
+    of SAMPLE and PRELOAD."""
     length, opcodes = found["instruction_length"], {}
     owners: dict[str, str] = {}
     for match in listed(found["instruction_opcode"], r"(\w+)\s*\(([01X,\s]+)\)", "list of opcodes"):
@@ -178,7 +178,7 @@ def opcodes_of(found: dict[str, object]) -> dict[str, list[str]]:
 
 
 def registers_of(found: dict[str, object], opcodes: dict[str, list[str]]) -> dict[str, tuple[str, int]]:
-    """Of each instruction its register and the length."""
+    """For each instruction: its register, and the length of that."""
     boundary = ("BOUNDARY", int(str(found["boundary_length"])))
     registers = {"BYPASS": ("BYPASS", 1), **dict.fromkeys(("EXTEST", "SAMPLE", "PRELOAD"), boundary)}
     if "IDCODE" in opcodes:
@@ -195,7 +195,7 @@ def registers_of(found: dict[str, object], opcodes: dict[str, list[str]]) -> dic
 
 
 def read(text: str) -> Bsdl:
-    """An entity that breaks no rule that is looked at here."""
+    """An entity that breaks none of the rules that this reader checks."""
     reader = Reader(text)
     reader.take("entity")
     name = reader.word()
@@ -228,7 +228,7 @@ def read(text: str) -> Bsdl:
 
 
 def check_map(found: dict[str, object], default: str, pins: dict[str, str]) -> None:
-    """The map that the generic names has each pin once."""
+    """Checks that the map named by the generic has each pin once."""
     told = found.get(f"map {default.lower()}")
     places = listed(told, r"(\w+)\s*:\s*(\w+)", "map of pins") if told else []
     if sorted(one[1].lower() for one in places) != sorted(pins) or len({one[2] for one in places}) != len(places):

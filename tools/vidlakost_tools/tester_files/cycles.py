@@ -7,7 +7,7 @@ from typing import Iterable, Iterator
 
 @dataclasses.dataclass(frozen=True)
 class Cycle:
-    """The pins of a cycle of TCK; `tdo` is 0 or 1 where it is compared before TCK rises, else X. It comes so many
+    """The pins of a cycle of TCK. `tdo` is 0 or 1 if it is compared before TCK rises, else X. The cycle comes `times`
     times."""
 
     tms: int
@@ -18,7 +18,7 @@ class Cycle:
 
 
 def joined(cycles: Iterable[Cycle]) -> Iterator[Cycle]:
-    """The same with equal cycles that follow one another as one."""
+    """The same cycles, with equal ones that follow each other as one."""
     last: Cycle | None = None
     for one in cycles:
         if last is not None and dataclasses.replace(one, times=last.times) == last:

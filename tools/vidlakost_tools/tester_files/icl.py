@@ -31,7 +31,7 @@ PORTS = {
     "ToResetPort",
     "ToTCKPort",
 }
-# what a port may be linked to, where it is one of an instance
+# what a port of an instance may be linked to
 MATCHES = {
     "SelectPort": ("SelectPort", "ToSelectPort"),
     "CaptureEnPort": ("CaptureEnPort", "ToCaptureEnPort"),
@@ -61,7 +61,7 @@ class Port:
 
 @dataclasses.dataclass
 class Register:
-    """A scan register; the highest bit takes what is shifted in."""
+    """A scan register; shifting enters at the highest bit."""
 
     width: int
     source: Optional[Signal] = None
@@ -84,7 +84,7 @@ class Module:
     instances: Dict[str, Tuple[str, Dict[str, Signal]]] = dataclasses.field(default_factory=dict)
     aliases: Dict[str, Tuple[int, List[Signal]]] = dataclasses.field(default_factory=dict)
     interfaces: Dict[str, List[str]] = dataclasses.field(default_factory=dict)
-    # of each instruction the instance and the interface that it reaches
+    # for each instruction, the instance and the interface that it reaches
     links: Dict[str, Tuple[str, str]] = dataclasses.field(default_factory=dict)
     entity: str = ""
 
@@ -143,7 +143,7 @@ class Reader:
         return value
 
     def span(self) -> Optional[Tuple[int, int]]:
-        """The bits behind a name, the first and the last of them."""
+        """The bits after a name, the first and the last of them."""
         if not self.takes("["):
             return None
         first = self.number()
@@ -165,7 +165,7 @@ class Reader:
 
 
 def width_of(span: Optional[Tuple[int, int]]) -> int:
-    """The width of what is declared with these bits, the last of which is bit 0."""
+    """The width of a declaration with these bits, of which the last has to be bit 0."""
     if span is None:
         return 1
     if span[1] or span[0] < 0:
@@ -280,7 +280,7 @@ ITEMS = {
 
 
 def read(text: str) -> dict[str, Module]:
-    """The modules of a text, each name of which is declared and is of the kind and width that it has to have."""
+    """The modules of a text. Each name has to be declared, and to have the kind and width that its place needs."""
     reader, modules = Reader(text), {}
     while reader.next != "the end":
         reader.take("Module")
@@ -365,7 +365,8 @@ class Checked:
         self.check_instances()
 
     def check_instances(self) -> None:
-        """Each input of an instance is linked once to a port of its kind, unless the access link gives all of them."""
+        """Checks that each input of an instance is linked once to a port of its kind, unless the access link gives all
+        of them."""
         it = self.module
         reached = {of for of, _ in it.links.values()}
         for name, (of, links) in it.instances.items():

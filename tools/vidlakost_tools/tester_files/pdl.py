@@ -9,9 +9,9 @@ from vidlakost_tools.tool import ToolError
 
 LEXEME = re.compile(r'[ \t]+|#[^\n]*|(?P<text>"[^"\n]*")|(?P<end>[;\n])|(?P<mark>[{}])|(?P<word>[^\s{};"]+)')
 NUMBER = re.compile(r"0b([01_]+)|0x([0-9a-fA-F_]+)|([0-9]+)")
-# what stands for a word that a call gives
+# a word that a call gives
 ARGUMENT = r"\$[A-Za-z]\w*"
-# of each command the forms of its words
+# for each command, the forms of its words
 COMMANDS: Dict[str, List[str]] = {
     "iWrite": [r"[A-Za-z][\w.]*", f"0b[01_]+|0x[0-9a-fA-F_]+|[0-9]+|{ARGUMENT}"],
     "iRead": [r"[A-Za-z][\w.]*", f"({NUMBER.pattern}|{ARGUMENT})?"],
@@ -28,7 +28,7 @@ class Command:
 
     @property
     def value(self) -> int | None:
-        """The number of a write or a read, where it has one."""
+        """The number of a write or a read, if it has one."""
         match = NUMBER.fullmatch(self.words[1]) if len(self.words) > 1 else None
         if match is None:
             return None
@@ -38,27 +38,27 @@ class Command:
 
 @dataclasses.dataclass
 class Procedure:
-    """The names of what a call gives, and the commands."""
+    """The names of the words that a call gives, and the commands."""
 
     arguments: List[str]
     commands: List[Command] = dataclasses.field(default_factory=list)
 
     def take(self, command: Command) -> None:
-        """Takes a command, which names nothing that no call gives."""
+        """Takes a command, which may name only words that a call gives."""
         unknown = [word for word in command.words if re.fullmatch(ARGUMENT, word) and word[1:] not in self.arguments]
         if unknown:
             raise ToolError(f"PDL: {unknown[0]} is no argument of the procedure")
         self.commands.append(command)
 
     def given(self, words: Sequence[str]) -> List[Command]:
-        """The commands of a call with these words, each of which has to be a number."""
+        """The commands of a call with these words, which have to be numbers."""
         if len(words) != len(self.arguments) or not all(map(NUMBER.fullmatch, words)):
             raise ToolError(f"PDL: a call gives numbers for {', '.join(self.arguments) or 'nothing'}, and not {words}")
         values = {f"${name}": word for name, word in zip(self.arguments, words)}
         return [Command(one.name, tuple(values.get(word, word) for word in one.words)) for one in self.commands]
 
 
-# of each module its procedures, by their names
+# for each module, its procedures by name
 Procedures = Dict[str, Dict[str, Procedure]]
 
 
@@ -75,7 +75,7 @@ def tokens(text: str) -> list[str]:
 
 
 def commands(text: str) -> list[list[str]]:
-    """The words of each command; a brace is one of its own."""
+    """The words of each command; a brace is a word of its own."""
     found: list[list[str]] = []
     words: list[str] = []
     for token in tokens(text):
@@ -90,7 +90,7 @@ def commands(text: str) -> list[list[str]]:
 
 
 def command_of(words: list[str]) -> Command:
-    """A command whose words have its forms."""
+    """A command, checked by the forms of its words."""
     name, *rest = words
     forms = COMMANDS.get(name)
     if forms is None:

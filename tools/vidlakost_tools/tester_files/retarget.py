@@ -1,5 +1,5 @@
-"""What the procedures of PDL ask of the pins of a TAP: the path to each register is found in ICL, with the bits that
-have to be set in front of it, and the instruction that reaches it in BSDL."""
+"""What the procedures of PDL ask of the pins of a TAP. ICL has the path to each register, with the bits to set before
+it. BSDL has the instruction that reaches it."""
 from __future__ import annotations
 
 import itertools
@@ -12,12 +12,12 @@ from vidlakost_tools.tester_files.pdl import Command, Procedures
 from vidlakost_tools.tester_files.scan_path import Bit, Where, bits_of, every, path
 from vidlakost_tools.tool import ToolError
 
-# how many scans may come before the one in which all registers are in the path, and how many bits may choose it
+# the most scans before the one in which all registers are in the path, and the most bits that may choose the path
 MOST_SCANS, MOST_CHOICES = 4, 8
 
 
 def to_shift(is_instruction: bool, values: Sequence[int], wanted: Sequence[str]) -> Iterator[Cycle]:
-    """From Run-Test/Idle through Shift-IR or Shift-DR and back; the first value is shifted first."""
+    """From Run-Test/Idle through Shift-IR or Shift-DR and back; the first value shifts first."""
     yield from (Cycle(int(tms), 0, 1, "X") for tms in ("1100" if is_instruction else "100"))
     for place, (value, compared) in enumerate(zip(values, wanted)):
         yield Cycle(int(place == len(values) - 1), value, 1, compared)
@@ -25,7 +25,7 @@ def to_shift(is_instruction: bool, values: Sequence[int], wanted: Sequence[str])
 
 
 class Session:
-    """A TAP that was reset, and what its registers hold."""
+    """A TAP after a reset, and what its registers hold."""
 
     def __init__(self, modules: Mapping[str, Module], bsdl: Bsdl):
         tops = [module for module in modules.values() if module.links]
@@ -41,8 +41,8 @@ class Session:
         self.check_lengths()
 
     def hold(self, where: Where, module: Module) -> None:
-        """What the registers of a module hold behind a reset, which of them capture themselves, and which choose a
-        way."""
+        """What the registers of a module hold after a reset, which of them capture themselves, and which choose a
+        path."""
         for name, register in module.registers.items():
             for bit in range(register.width):
                 self.state[(where, name, bit)] = (register.reset or 0) >> bit & 1
@@ -52,11 +52,11 @@ class Session:
             self.choosing.update(bits_of(where, module, choice.selected_by.name))
 
     def check_lengths(self) -> None:
-        """BSDL tells of each instruction the length that the path has behind a reset."""
+        """Checks each path by BSDL, which has its length after a reset."""
         for link in self.modules[self.top].links:
             told, found = self.bsdl.registers.get(link), len(path(self.modules, self.top, link, self.state))
             if told is None or told[1] != found:
-                raise ToolError(f"the path of {link} has {found} bits by ICL, but {told} by BSDL")
+                raise ToolError(f"the path of {link} has {found} bits by ICL, but {told[1] if told else 'none'} by BSDL")
 
     def begin(self) -> Iterator[Cycle]:
         """The reset."""
@@ -66,7 +66,7 @@ class Session:
         yield Cycle(0, 0, 1, "X")
 
     def identify(self) -> Iterator[Cycle]:
-        """The identity, which BSDL tells."""
+        """The identity, from BSDL."""
         if self.bsdl.identity is None:
             return
         yield from self.instruct("IDCODE")
@@ -78,7 +78,7 @@ class Session:
         yield from to_shift(True, [int(bit) for bit in reversed(code)], ["X"] * len(code))
 
     def places(self, module: str) -> Where:
-        """Where the one instance of a module stands."""
+        """The place of the one instance of a module."""
         found = [where for where, it in every(self.modules, self.top) if it.name == module]
         if len(found) != 1:
             raise ToolError(f"{self.top} has {module} {len(found)} times")
@@ -118,7 +118,7 @@ class Session:
         raise ToolError("no instruction has all these registers in its path")
 
     def ways_to(self, link: str, needed: Set[Bit]) -> List[Dict[Bit, int]] | None:
-        """What is written in the scans before the one in which all these bits are in the path of an instruction."""
+        """The values to write in the scans before the one in which all these bits are in the path of an instruction."""
         known = [(dict(self.state), [])]  # type: List[tuple[Dict[Bit, int], List[Dict[Bit, int]]]]
         for _ in range(MOST_SCANS):
             following = []
@@ -134,7 +134,7 @@ class Session:
         return None
 
     def scan(self, link: str, writes: Mapping[Bit, int], reads: Mapping[Bit, str]) -> Iterator[Cycle]:
-        """A scan of the whole path: what is not written stays as it is."""
+        """A scan of the whole path; a bit without a new value keeps its own."""
         there = path(self.modules, self.top, link, self.state)
         compared = [reads.get(bit, str(self.state[bit]) if bit in self.kept else "X") for bit in there]
         values = [writes.get(bit, self.state[bit]) for bit in there]
@@ -143,7 +143,7 @@ class Session:
 
 
 def take(taken: Dict[Bit, str], more: Mapping[Bit, str]) -> None:
-    """Takes what a command asks of some bits, of which no other may ask something else."""
+    """Takes the values that a command asks of some bits; no other command may ask another value of them."""
     for bit, value in more.items():
         if taken.setdefault(bit, value) != value:
             raise ToolError(f"PDL: bit {bit[2]} of {bit[1]} has to be both {taken[bit]} and {value}")

@@ -6,14 +6,14 @@ from typing import Iterator, List, Mapping, Sequence, Tuple
 from vidlakost_tools.tester_files.icl import Module, Signal
 from vidlakost_tools.tool import ToolError
 
-# where a module stands: the names of the instances that lead to it
+# the place of a module: the names of the instances that lead to it
 Where = Tuple[str, ...]
-# a bit of a register of a module that stands somewhere
+# a bit of a register of a module at some place
 Bit = Tuple[Where, str, int]
 
 
 def module_at(modules: Mapping[str, Module], top: str, where: Where) -> Module:
-    """The module at the end of a way of instances."""
+    """The module at the end of a path of instances."""
     module = modules[top]
     for name in where:
         module = modules[module.instances[name][0]]
@@ -21,8 +21,7 @@ def module_at(modules: Mapping[str, Module], top: str, where: Where) -> Module:
 
 
 def path(modules: Mapping[str, Module], top: str, link: str, state: Mapping[Bit, int]) -> list[Bit]:
-    """The bits between TDI and TDO while an instruction is there, that next to TDO first; `state` has what each bit
-    holds."""
+    """The bits between TDI and TDO under an instruction, the one next to TDO first; `state` has what each bit holds."""
     found: list[Bit] = []
     of, end = modules[top].links[link]
     inner = modules[modules[top].instances[of][0]]
@@ -45,7 +44,7 @@ def path(modules: Mapping[str, Module], top: str, link: str, state: Mapping[Bit,
 def before(
     modules: Mapping[str, Module], top: str, where: Where, at: Signal, state: Mapping[Bit, int], found: List[Bit]
 ) -> Tuple[Where, Signal | None]:
-    """What stands in front of a signal in the path; the bits of a register are added to those that were found."""
+    """What comes before a signal in the path; it adds the bits of a register to those found so far."""
     module = module_at(modules, top, where)
     if at.instance:
         return (*where, at.instance), Signal("", at.name)
@@ -69,7 +68,7 @@ def value_of(where: Where, module: Module, signal: Signal, state: Mapping[Bit, i
 
 
 def every(modules: Mapping[str, Module], top: str, where: Where = ()) -> Iterator[Tuple[Where, Module]]:
-    """Each module that stands in another, with its place."""
+    """Each module inside another, with its place."""
     module = module_at(modules, top, where)
     yield where, module
     for name in module.instances:

@@ -1,4 +1,4 @@
-"""STIL (IEEE 1450.0): signals, one group of them, one timing, and the vectors of the pattern that is run."""
+"""STIL (IEEE 1450.0): signals, one group of them, one timing, and the vectors of the pattern to run."""
 from __future__ import annotations
 
 import dataclasses
@@ -12,7 +12,7 @@ LEXEME = re.compile(r"\s+|//[^\n]*|/\*.*?\*/|(?P<quoted>'[^']*')|(?P<word>[\w./+
 PINS = ["tck", "tms", "tdi", "trst_n", "tdo"]
 KINDS = {"In", "Out", "InOut", "Supply", "Pseudo"}
 TDO = {"L": "0", "H": "1", "X": "X"}
-# a statement: its words, and the block behind them (None: it ends with a semicolon)
+# a statement: its words, and the block after them (None: it ends with a semicolon)
 Block = List["Statement"]
 
 
@@ -88,7 +88,7 @@ def nanoseconds(text: str) -> float:
 
 
 def waves_of(table: Block) -> dict[str, dict[str, list[tuple[float, str]]]]:
-    """Of each signal and each letter the events of its waveform, at their times."""
+    """For each signal and each letter: the events of its waveform, at their times."""
     period, found = 0.0, {}
     for one in table:
         if one.words[:1] == ["Period"]:
@@ -107,7 +107,7 @@ def waves_of(table: Block) -> dict[str, dict[str, list[tuple[float, str]]]]:
 
 
 def check_waves(waves: dict[str, dict[str, list[tuple[float, str]]]]) -> None:
-    """TCK rises behind the edges of what it takes and behind the comparison, and falls before the end."""
+    """Checks that TCK rises after the edges of what it samples and after the comparison, and falls before the end."""
     clock = waves.get("tck", {}).get("P", [])
     if [event for _, event in clock] != ["D", "U", "D"]:
         raise ToolError("STIL: tck has no pulse P")

@@ -81,7 +81,7 @@ def events(reader: Reader, period: float) -> list[tuple[float, str]]:
 
 
 def timeplate(reader: Reader, told: dict[str, str]) -> str:
-    """The timeplate, by which TCK rises behind all that it takes and behind the comparison; its name."""
+    """The name of the timeplate, checked: TCK rises after all that it samples and after the comparison."""
     reader.take("timeplate")
     name = reader.word()
     reader.take("period")
