@@ -70,20 +70,24 @@ class SignOff(unittest.TestCase):
         )
         self.assertIn("<title>Self-test of 2 memories</title>", page)
         without = signoff.sign_off(self.rows({"a": REPORT, "b": other}, SMALL), 100)
-        self.assertIn("Cycles stand where the memory's description was given", without)
+        self.assertIn("A memory has cycles here if the call has its description", without)
         self.assertIn(f"<td>{CYCLES}</td>", without)
 
     def test_what_does_not_belong_together(self) -> None:
         of_judge = re.sub("memory .*\n", "", REPORT)
         refused: list[tuple[str, str, list[str]]] = [
-            ("/a: this report is of `judge` and tells no memory; --all wants reports of `compile`$", of_judge, []),
+            ("/a: this is a report of `judge`, which names no memory; --all needs reports of `compile`$", of_judge, []),
             (
                 "/a: small has another size or another test in its description$",
                 REPORT,
                 [SMALL.replace("words 4", "words 5")],
             ),
-            ("^no report is of other$", REPORT, [SMALL, SMALL.replace("name small", "name other")]),
-            ("/1.mem: another description of small is given", REPORT, [SMALL, SMALL.replace("latency 2", "latency 3")]),
+            ("^there is no report of other$", REPORT, [SMALL, SMALL.replace("name small", "name other")]),
+            (
+                "/1.mem: the call has another description of small",
+                REPORT,
+                [SMALL, SMALL.replace("latency 2", "latency 3")],
+            ),
         ]
         for message, report, memories in refused:
             with self.subTest(message=message), self.assertRaisesRegex(ToolError, message):

@@ -63,13 +63,13 @@ class Texts(Calls):
                 ["judge", "@/wrong.m", "@/bad.list", "@/out"],
                 "march M1 byte 6",
                 3,
-                ["@/wrong.m:1:6: error: 'w2' can't stand here", "  {any(w2)}", "       ^"],
+                ["@/wrong.m:1:6: error: 'w2' is not allowed here", "  {any(w2)}", "       ^"],
             ),
             Call(
                 ["judge", "@/c.m", "@/bad.list", "@/out"],
                 "fault F1 line 2 byte 7",
                 5,
-                ["@/bad.list:2:8: error: '>' can't stand here", "  <0w1/0/>", "         ^"],
+                ["@/bad.list:2:8: error: '>' is not allowed here", "  <0w1/0/>", "         ^"],
             ),
             Call(
                 ["show", "memory", "@/a.mem"],
@@ -81,13 +81,13 @@ class Texts(Calls):
                 ["sim", "@/c.m", "<0w1/0/>", *SIM[1:]],
                 "fault F1 line 1 byte 7",
                 5,
-                ["PRIM:1:8: error: '>' can't stand here", "  <0w1/0/>", "         ^"],
+                ["PRIM:1:8: error: '>' is not allowed here", "  <0w1/0/>", "         ^"],
             ),
         )
 
     def test_check_tells_the_tool_that_reads_any_verilog(self) -> None:
         (self.folder / "x.v").write_text("")
-        another = "  `vidlakost audit` takes a controller in any Verilog, and with other names of its ports"
+        another = "  `vidlakost audit` reads a controller in any Verilog, also with other port names"
         empty = "@/x.v: error: the file is empty"
         self.agree_on(
             Call(["check", "@/x.v", "@/c.m", "@/a.mem"], "verilog L2", 14, [empty, another]),
@@ -95,7 +95,7 @@ class Texts(Calls):
         )
 
     def test_texts_of_another_kind(self) -> None:
-        looks = "  the file looks like a memory description, and MARCH is to be a march: have two words changed places?"
+        looks = "  the file looks like a memory description, but MARCH has to be a march: did you swap two words?"
         (self.folder / "marked.m").write_bytes(b"\xef\xbb\xbf{any(w0)}")
         mark = "  the file begins with a byte-order mark: save it as plain UTF-8, without one"
         self.assertEqual(self.told(["bench", "@/a.mem", "@/c.m"], "march M1 byte 0", 3)[-1], looks)
@@ -104,7 +104,7 @@ class Texts(Calls):
     def test_unit_of_a_chip_is_told_by_its_own_file(self) -> None:
         chip = self.folder / "soc.chip"
         chip.write_text(f"chip 1\nname soc\nbudget 1\nunit 1 {self.folder}/wrong.m {self.folder}/a.mem\n")
-        told = ["@/wrong.m:1:6: error: 'w2' can't stand here", "  {any(w2)}", "       ^"]
+        told = ["@/wrong.m:1:6: error: 'w2' is not allowed here", "  {any(w2)}", "       ^"]
         self.agree_on(
             Call(["chip", "@/soc.chip", "@/out"], "unit 0 march M1 byte 6", 3, told),
             Call(["chip", "@/soc.chip", "@/out"], "unit 7 march M1 byte 6", 3, []),
@@ -149,20 +149,23 @@ class Words(Calls):
         self.assertEqual(self.told([], "usage", 2)[0], "vidlakost: error: there is no command")
 
     def test_number_of_words(self) -> None:
-        one, two = "judge takes 3 words, and there are 2: REPORT is missing", "judge takes 3 words, and there are 1: "
+        one, two = (
+            "judge takes 3 words, but the call has 2: REPORT is missing",
+            "judge takes 3 words, but the call has 1: ",
+        )
         self.assertEqual(self.usage("judge", "c.m", "x.list"), one)
         self.assertEqual(self.usage("judge", "c.m"), two + "FAULTS and REPORT are missing")
         self.assertEqual(
             self.usage("decoder", "c.m", "out", "more"),
-            "decoder takes 2 words, and there are 3: 'more' is one word too many",
+            "decoder takes 2 words, but the call has 3: 'more' is one word too many",
         )
 
     def test_files(self) -> None:
-        same = "MARCH and REPORT are both 'c.m', and no two files of a call have one name"
+        same = "MARCH and REPORT are both 'c.m', but the files of a call need different names"
         self.assertEqual(self.usage("judge", "c.m", "x.list", "c.m"), same)
         self.assertEqual(self.usage("judge", "c.m", "", "out"), "FAULTS is empty")
-        self.assertEqual(self.usage("judge", "-c", "x", "out"), "MARCH is '-c', and no word begins with '-'")
-        self.assertEqual(self.usage("judge", "c.m", "x.list", "out"), "the words are not those of judge")
+        self.assertEqual(self.usage("judge", "-c", "x", "out"), "MARCH is '-c', but no word may begin with '-'")
+        self.assertEqual(self.usage("judge", "c.m", "x.list", "out"), "these words don't fit judge")
 
     def test_kind_of_show(self) -> None:
         kinds = "KIND is march, memory, list, chip or module, and not 'netlist'"
@@ -174,10 +177,10 @@ class Words(Calls):
             ("SIZE", "04", "SIZE is a decimal number without a leading zero, and not '04'"),
             ("SIZE", "1", "SIZE is 2 to 4,096, and not 1"),
             ("CONTENT", "0020", "CONTENT has the digits 0 and 1, one for each cell, and not '0020'"),
-            ("CONTENT", "000", "CONTENT has 3 digits, and SIZE is 4"),
+            ("CONTENT", "000", "CONTENT has 3 digits, but SIZE is 4"),
             ("AGG", "nobody", "AGG is the number of a cell or none, and not 'nobody'"),
             ("VIC", "none", "VIC is the number of a cell, and not 'none'"),
-            ("VIC", "4", "VIC is cell 4, and there are the cells 0 to 3"),
+            ("VIC", "4", "VIC is cell 4, but the cells are 0 to 3"),
             ("AGG", "3", "AGG and VIC are both cell 3"),
             ("DIRS", "uxu", "DIRS is a letter u or d for each element, 1 to 64 of them, and not 'uxu'"),
         ]
@@ -188,9 +191,7 @@ class Words(Calls):
                 self.assertEqual(self.usage("sim", "c.m", *words), message)
 
     def test_words_of_other_commands(self) -> None:
-        form = (
-            "AGG is a cell as two numbers with a full stop between, its word's index and its bit, as 6.3, and not '6'"
-        )
+        form = "AGG names a cell by the index of its word, a full stop and its bit, as 6.3, and not '6'"
         self.assertEqual(self.usage("benchfault", "c.m", "a.mem", "<0/1/->", "6", "1.0"), form)
         self.assertEqual(
             self.usage("make", "65535", "a", "b", "c", "d", "e"),
@@ -215,8 +216,8 @@ class Files(Calls):
 
     def test_size(self) -> None:
         (self.folder / "huge.m").write_bytes(b" " * 1048577)
-        huge = "@/huge.m: error: the file has 1,048,577 bytes, and an input at most 1,048,576"
-        device = "/dev/zero: error: the file has more bytes than may be, and an input at most 1,048,576"
+        huge = "@/huge.m: error: the file has 1,048,577 bytes, but an input may have at most 1,048,576"
+        device = "/dev/zero: error: the file has too many bytes, but an input may have at most 1,048,576"
         self.agree_on(
             Call(["bench", "@/huge.m", "@/a.mem"], "too large 1", 6, [huge]),
             Call(["bench", "/dev/zero", "@/a.mem"], "too large 1", 6, [device]),
@@ -231,24 +232,26 @@ class Files(Calls):
             ),
             Call([*judge, "@"], "write failed 3", 8, [f"@: {written} it is a folder"]),
             Call([*judge, "@/no/out"], "write failed 3", 8, [f"@/no/out: {written} there is no folder '@/no'"]),
-            Call([*judge, "@/out"], "write failed 3", 8, [f"@/out: {written} the system gave no more room, or failed"]),
+            Call([*judge, "@/out"], "write failed 3", 8, [f"@/out: {written} the system had no more room, or failed"]),
         )
 
     def test_what_the_caller_may_not_open(self) -> None:
         (self.folder / "out").write_text("")
         judge, write = ["judge", "@/c.m", "@/bad.list"], "error: the file could not be written:"
-        read = "@/c.m: error: the file could not be read: it may not be opened"
+        read = "@/c.m: error: the file could not be read: you may not open it"
         with mock.patch.object(os, "access", return_value=False):
             self.agree_on(
                 Call(["bench", "@/c.m", "@/a.mem"], "read failed 1", 7, [read]),
-                Call([*judge, "@/out"], "write failed 3", 8, [f"@/out: {write} it may not be opened"]),
-                Call([*judge, "@/new"], "write failed 3", 8, [f"@/new: {write} no file may be made in this folder"]),
+                Call([*judge, "@/out"], "write failed 3", 8, [f"@/out: {write} you may not open it"]),
+                Call(
+                    [*judge, "@/new"], "write failed 3", 8, [f"@/new: {write} you may not create files in this folder"]
+                ),
             )
 
     def test_line_and_memory(self) -> None:
         self.agree_on(
             Call(["show", "march", "@/c.m"], "", 8, ["vidlakost: error: the line of the answer could not be written"]),
-            Call(["show", "march", "@/c.m"], "no memory", 9, ["vidlakost: error: there was no memory"]),
+            Call(["show", "march", "@/c.m"], "no memory", 9, ["vidlakost: error: out of memory"]),
         )
 
 
@@ -256,8 +259,8 @@ class Meanings(Calls):
     def test_boxes(self) -> None:
         call = ["benchfault", "@/c.m", "@/a.mem", "<0w1;0/1/->"]
         outside = "is outside ram: its words are 0 to 15, by physical index"
-        one_word = "VIC: error: aggressor 2.0 and victim 2.1 are in one word; the cells have to stand in two"
-        none = "vidlakost: error: there is no model of a memory to run beside"
+        one_word = "VIC: error: aggressor 2.0 and victim 2.1 are in one word; they have to be in two words"
+        none = "vidlakost: error: the program has no model of a memory for this run"
         room = "vidlakost: error: the model has too little room for this memory"
         self.agree_on(
             Call([*call, "16.0", "3.1"], "device V2", 11, [f"AGG: error: 16.0 {outside}"]),
@@ -274,8 +277,8 @@ class Meanings(Calls):
         )
 
     def test_aggressor_that_does_not_fit(self) -> None:
-        two = "AGG: error: <0w1;0/1/-> has two cells, so AGG is the cell of its aggressor, and not 'none'"
-        one = "AGG: error: <0w1/0/-> has one cell, so AGG is none, and not '2'"
+        two = "AGG: error: <0w1;0/1/-> has two cells, so AGG has to be the cell of its aggressor, not 'none'"
+        one = "AGG: error: <0w1/0/-> has one cell, so AGG has to be none, not '2'"
         self.agree_on(
             Call(["sim", "@/c.m", "<0w1;0/1/->", *SIM[1:]], "misfit aggressor", 13, [two]),
             Call(["sim", "@/c.m", "<0w1/0/->", "4", "0000", "2", "3", "uuuu"], "misfit aggressor", 13, [one]),
@@ -285,10 +288,10 @@ class Meanings(Calls):
         """The march is any, up, a pause and down: the second has u, the pause u, the last d."""
         columns = "  {:24} {}".format
         elements = ["any(w0)", "up(r0,w1)", "del", "down(r1)"]
-        few = ["DIRS: error: 'uu' has 2 letters, and @/c.m has 4 elements"]
+        few = ["DIRS: error: 'uu' has 2 letters, but @/c.m has 4 elements"]
         few += map(columns, elements, ["u", "u", "(no letter)", "(no letter)"])
         wrong = [
-            "DIRS: error: letter 1 is 'd', and does not agree with element 1",
+            "DIRS: error: letter 1 is 'd', which does not fit element 1",
             columns("any(w0)", "d"),
             columns("up(r0,w1)", "d   this element goes up: u"),
             columns("del", "u"),
@@ -305,8 +308,8 @@ class Meanings(Calls):
         """In a background the march takes 4 operations on 65,536 words and a pause of 1 cycle: 262,145 cycles. Seven
         backgrounds and the 3 cycles of reset and latency are within 2,000,000, eight are not."""
         (self.folder / "long.mem").write_text(TEXTS["long.mem"].replace("backgrounds 0", "backgrounds" + " 0" * 8))
-        lead = "@/long.mem: error: the test takes 2,097,163 cycles, and at most 2,000,000 are run"
-        each = "  the march takes 262,145 cycles in each of 8 backgrounds; with 7 backgrounds it would not be too long"
+        lead = "@/long.mem: error: the test takes 2,097,163 cycles, but the program runs at most 2,000,000"
+        each = "  the march takes 262,145 cycles in each of 8 backgrounds; with 7 backgrounds the test would fit"
         self.agree_on(
             Call(
                 ["bench", "@/c.m", "@/long.mem"],
@@ -321,7 +324,7 @@ class Meanings(Calls):
         (self.folder / "long.m").write_text(f"{{any(w0);{';'.join(['up(r0,w0)'] * 16)}}}")
         said = f"too long {33 * 65536 + 3}"
         self.assertIn(
-            "; a shorter march, or fewer words, would do", self.told(["bench", "@/long.m", "@/long.mem"], said, 12)[1]
+            "; use a shorter march, or fewer words", self.told(["bench", "@/long.m", "@/long.mem"], said, 12)[1]
         )
 
     def test_empty_list_is_a_warning(self) -> None:

@@ -61,7 +61,7 @@ def told_by(reader: FewTexts, kind: str, marked: str, is_word: bool = False) -> 
     answers = mock.patch.object(Trier, "refusal", lambda _self, _folder, asked: reader.refusal(asked.decode()))
     with mock.patch.object(finding, "quick_program", return_value="program"), answers:
         _, notes, whole = could_stand(kind, text, at, is_word)
-    return [note[len("here could stand ") :] for note in notes], whole
+    return [note[len("expected here: ") :] for note in notes], whole
 
 
 MARCHES = FewTexts("march M", "{any(w0)}", "{any(w0,w1);up(r1)}", "{any(w0);up(r0)}", "{any(w0);del;any(r0)}")
@@ -161,20 +161,20 @@ class Messages(unittest.TestCase):
     def test_word_that_could_stand_is_meant(self) -> None:
         self.answer(MARCHES)
         found = texts.march("c.m", b"{any(w0);dle}", "M1", {"byte": "10"})
-        self.assertEqual(found.message, "'dle' can't stand here; did you mean 'del'?")
-        self.assertEqual((found.at, found.notes), (9, ["here could stand up or del"]))
+        self.assertEqual(found.message, "'dle' is not allowed here; did you mean 'del'?")
+        self.assertEqual((found.at, found.notes), (9, ["expected here: up or del"]))
 
     def test_whole_word_is_not_to_blame(self) -> None:
         self.answer(MEMORIES)
         found = texts.memory("a.mem", b"memory 1\nname\n", "D1", {"line": "2", "byte": "4"})
         self.assertEqual((found.message, found.at), ("the line can't end here", 13))
-        self.assertEqual(found.notes, ["here could stand a name"])
+        self.assertEqual(found.notes, ["expected here: a name"])
 
     def test_text_that_stops_early(self) -> None:
         self.answer(MARCHES)
         found = texts.march("c.m", b"{any(w0);", "M2", {})
-        self.assertEqual((found.message, found.at), ("the march stops here, and is not whole", 9))
-        self.assertEqual(found.notes, ["here could stand up or del"])
+        self.assertEqual((found.message, found.at), ("the march ends here, but is not complete", 9))
+        self.assertEqual(found.notes, ["expected here: up or del"])
 
 
 class Asked(unittest.TestCase):

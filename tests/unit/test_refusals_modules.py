@@ -38,20 +38,20 @@ class Grammar(WithoutProgram):
         self.agree(
             module,
             [
-                Row("module ‸1", "L1 byte 7", "'1' can't stand here"),
-                Row("‸modul m(input clk);", "L1 byte 5", "'modul' can't stand here; did you mean 'module'?"),
+                Row("module ‸1", "L1 byte 7", "'1' is not allowed here"),
+                Row("‸modul m(input clk);", "L1 byte 5", "'modul' is not allowed here; did you mean 'module'?"),
                 Row(
                     f"{HEAD}  ‸assigm y = a;",
                     f"L1 byte {len(HEAD) + 7}",
-                    "'assigm' can't stand here; did you mean 'assign'?",
+                    "'assigm' is not allowed here; did you mean 'assign'?",
                 ),
                 Row(" \n", "L2", "the file is empty"),
-                Row(f"{HEAD}assign y =‸ \n", "L2", "the module stops here, and is not whole"),
+                Row(f"{HEAD}assign y =‸ \n", "L2", "the module ends here, but is not complete"),
             ],
         )
 
     def test_limits_of_texts(self) -> None:
-        opens = "this opens the 65th of (, {, begin, case and if that are open at once; at most 64 may be"
+        opens = "this opens the 65th of (, {, begin, case and if that are open at once; at most 64 may be open"
         size = "a literal has 1 to 64 bits and a value that they hold, and an index is at most 63"
         start = len(HEAD)
         self.agree(
@@ -61,7 +61,7 @@ class Grammar(WithoutProgram):
                 Row(
                     inside(f"assign y = a{' + a' * 256} ‸+ a;"),
                     f"L3 byte {start + 12 + 4 * 256 + 1}",
-                    "this is the 257th operator of an expression, and at most 256 may be",
+                    "this is the 257th operator of an expression; it may have at most 256",
                 ),
                 Row(f"module {'m' * 64}‸m(", "L4 byte 71", "this name goes on for more than 64 bytes"),
                 Row(inside("assign y = ‸65'h0;"), f"L5 byte {start + 11}", f"this number is too large: {size}"),
@@ -90,7 +90,7 @@ class Rules(WithoutProgram):
         )
 
     def test_widths(self) -> None:
-        sides = "one side has {} bits and the other {}, and they have to be as wide as one another".format
+        sides = "one side has {} bits and the other {}, but both have to be equally wide".format
         self.agree(
             module,
             [
@@ -106,7 +106,7 @@ class Rules(WithoutProgram):
                 Row(
                     inside(f"assign y = ‸{{{', '.join(['a'] * 17)}}};"),
                     "N3 64 68",
-                    "this concatenation has 68 bits, and at most 64 are taken",
+                    "this concatenation has 68 bits, but may have at most 64",
                 ),
             ],
         )
@@ -115,7 +115,7 @@ class Rules(WithoutProgram):
         """The operands of && || << >> and a condition may have any width, so the first unequal sides come behind."""
         free = "assign y = (a && q) ? a << 3'h1 : {2'b00, a[3:2]};\n"
         block = "always @(posedge clk) if (a) q <= a || q; else ‸q <= a;"
-        message = "one side has 1 bit and the other 4, and they have to be as wide as one another"
+        message = "one side has 1 bit and the other 4, but both have to be equally wide"
         self.agree(module, [Row(inside(free + block), "N3 1 4", message)])
 
     def test_what_is_driven(self) -> None:
@@ -143,7 +143,7 @@ class Rules(WithoutProgram):
             [
                 Row(inside("assign y = {3'h0, ‸a[4]};"), "N6 a", "'a' has the bits 0 to 3, and not 4"),
                 Row(inside("assign y = {2'h0, ‸a[1:2]};"), "N6 a", "'a' has the bits 0 to 3, and 2 is above 1"),
-                Row(inside("assign y = {3'h0, ‸q[0]};"), "N6 q", "'q' has one bit, of which nothing can be selected"),
+                Row(inside("assign y = {3'h0, ‸q[0]};"), "N6 q", "'q' has one bit, so nothing can be selected from it"),
             ],
         )
 
@@ -154,7 +154,7 @@ class Rules(WithoutProgram):
                 Row(
                     inside("wire v;\nwire w;\nassign ‸v = ~w;\nassign w = v & q;"),
                     "N7 v w",
-                    "these wires form a loop, each uses the next",
+                    "these wires form a loop: each uses the next",
                     ["v -> w -> v"],
                 ),
                 Row(inside("assign ‸y = y & a;"), "N7 y", "this wire uses itself", ["y -> y"]),
@@ -175,7 +175,7 @@ class Rules(WithoutProgram):
                 Row(
                     inside("assign y = {a[2:0], ‸clk};"),
                     "N10 clk",
-                    "'clk' is the clock, and stands in no expression",
+                    "'clk' is the clock, so no expression may use it",
                 ),
             ],
         )
@@ -202,17 +202,17 @@ class Ports(WithoutProgram):
                     Row(
                         self.ports(we="input ‸we"),
                         "B2 we",
-                        "'we' is an input here, and an output of the self-test of ram",
+                        "'we' is an input here, but an output of the self-test of ram",
                     ),
                     Row(
                         self.ports(reset="output reg ‸reset"),
                         "B2 reset",
-                        "'reset' is an output here, and an input of the self-test of ram",
+                        "'reset' is an output here, but an input of the self-test of ram",
                     ),
                     Row(
                         self.ports(addr="output [4:0] ‸addr"),
                         "B2 addr",
-                        "'addr' has 5 bits here, and 4 bits in the self-test of ram",
+                        "'addr' has 5 bits here, but 4 bits in the self-test of ram",
                     ),
                     Row(
                         self.ports(fail="output fail, input ‸scan"),

@@ -21,11 +21,11 @@ class Marches(WithoutProgram):
         self.agree(
             texts.march,
             [
-                Row("{any(‸w2)}", "M1 byte 6", "'w2' can't stand here"),
-                Row("any(w0)‸}", "M1 byte 7", "'}' can't stand here"),
-                Row("{any(w0);‸upp(r0)}", "M1 byte 11", "'upp' can't stand here; did you mean 'up'?"),
-                Row("{‸ANY(w0)}", "M1 byte 1", "'ANY' can't stand here; did you mean 'any'?"),
-                Row("{any(w0);up(r0,‸ \n", "M2", "the march stops here, and is not whole"),
+                Row("{any(‸w2)}", "M1 byte 6", "'w2' is not allowed here"),
+                Row("any(w0)‸}", "M1 byte 7", "'}' is not allowed here"),
+                Row("{any(w0);‸upp(r0)}", "M1 byte 11", "'upp' is not allowed here; did you mean 'up'?"),
+                Row("{‸ANY(w0)}", "M1 byte 1", "'ANY' is not allowed here; did you mean 'any'?"),
+                Row("{any(w0);up(r0,‸ \n", "M2", "the march ends here, but is not complete"),
             ],
         )
 
@@ -35,7 +35,7 @@ class Marches(WithoutProgram):
             texts.march,
             [
                 Row("{}", "M3", "the march has no element"),
-                Row("{del;del}", "M3", "the march has pauses alone, and visits no cell"),
+                Row("{del;del}", "M3", "the march has only pauses, and visits no cell"),
                 Row(
                     f"{'any(w0);' * 64}‸any(r0)",
                     "M4",
@@ -67,13 +67,13 @@ class Marches(WithoutProgram):
                 Row(
                     "{any(w0);\n up(‸r1)}",
                     "M8 element 1 operation 0",
-                    "r1 expects 1, and w0 of element 0 (line 1, column 6) wrote 0 last",
+                    "r1 expects 1, but w0 of element 0 (line 1, column 6) wrote 0 last",
                 ),
                 # bytes are counted for the place, characters for the column
                 Row(
                     "{⇕(w0);⇑(r0,w1,‸r0)}",
                     "M8 element 1 operation 2",
-                    "r0 expects 0, and w1 of element 1 (line 1, column 13) wrote 1 last",
+                    "r0 expects 0, but w1 of element 1 (line 1, column 13) wrote 1 last",
                 ),
             ],
         )
@@ -94,12 +94,12 @@ class Lists(WithoutProgram):
         self.agree(
             in_list,
             [
-                Row("<0w1/0‸>", "F1 line 1 byte 6", "'>' can't stand here"),
+                Row("<0w1/0‸>", "F1 line 1 byte 6", "'>' is not allowed here"),
                 Row("SF\n<0w1/‸\n", "F1 line 2 byte 5", "the line can't end here"),
-                Row("‸tf\n", "F1 line 1 byte 1", "'tf' can't stand here; did you mean 'TF'?"),
-                Row("SF ‸one\n", "F1 line 1 byte 3", "'one' can't stand here"),
-                Row("<0w1‸ x/0/->", "F1 line 1 byte 4", "a blank can't stand here"),
-                Row("<0w1/0‸", "F2 line 1", "the last line stops here, and is not whole"),
+                Row("‸tf\n", "F1 line 1 byte 1", "'tf' is not allowed here; did you mean 'TF'?"),
+                Row("SF ‸one\n", "F1 line 1 byte 3", "'one' is not allowed here"),
+                Row("<0w1‸ x/0/->", "F1 line 1 byte 4", "a blank is not allowed here"),
+                Row("<0w1/0‸", "F2 line 1", "the last line ends here, but is not complete"),
                 Row("‸AF\n", "F1 line 1 byte 0", "'AF' is no name of a class here", [decoder]),
                 Row("SF\n‸CF\n", "F1 line 2 byte 2", "'CF' is no name of a class here", [two]),
                 Row("‸CFrdr\n", "F1 line 1 byte 4", "'CFrdr' is no name of a class here; 'CFrd' is"),
@@ -112,18 +112,18 @@ class Lists(WithoutProgram):
             "<0r0/0/0>": f"{nothing} 0, and the read answers it, as it does without a fault",
             "<0w1/1/->": f"{nothing} 1, as it does without a fault",
             "<0w1r1/1/1>": f"{nothing} 1, and the read answers it, as it does without a fault",
-            "<0;0t/1/->": "a pause (t) stands alone, behind the state of a cell without an aggressor",
-            "<0tt/1/->": "a pause (t) stands alone, behind the state of a cell without an aggressor",
-            "<0w1r0/0/1>": "r0 reads 0, and the cell holds 1 before it",
-            "<0r0/1/->": "S ends in a read of the victim, so R is the bit that it answers, and not '-'",
-            "<0w1;0/1/0>": "S does not end in a read of the victim, so R is '-'",
+            "<0;0t/1/->": "a pause (t) comes alone, after the state of a single cell, without an aggressor",
+            "<0tt/1/->": "a pause (t) comes alone, after the state of a single cell, without an aggressor",
+            "<0w1r0/0/1>": "r0 reads 0, but the cell holds 1 before it",
+            "<0r0/1/->": "S ends in a read of the victim, so R has to be the bit that it answers, not '-'",
+            "<0w1;0/1/0>": "S does not end in a read of the victim, so R has to be '-'",
         }
         rows = [Row(f"SF\n  ‸{it} # a comment\n", "F3 line 2", f"this is no fault: {why}") for it, why in wrong.items()]
         self.agree(in_list, rows)
 
     def test_too_many_operations(self) -> None:
-        parted = "the primitive has an operation on each cell; a primitive has them on one"
-        three = "the primitive has 3 operations; it has at most one, or two in one part"
+        parted = "the primitive has an operation on each cell; it may have operations on one cell alone"
+        three = "the primitive has 3 operations; it may have one at most, or two in one part"
         self.agree(
             in_list,
             [
@@ -135,13 +135,13 @@ class Lists(WithoutProgram):
         )
 
     def test_a_primitive_among_the_words(self) -> None:
-        two = "the primitive has two operations, and this command takes primitives of at most one; a list may hold it"
+        two = "the primitive has two operations, but this command takes at most one; a list may have it"
         self.agree(
             as_word,
             [
-                Row("‸SF", "F1 line 1 byte 0", "a primitive has to stand here, as <0w1/0/->, and no class"),
-                Row("<0w1/0‸>", "F1 line 1 byte 6", "'>' can't stand here"),
-                Row("<0w1/0/‸", "F2 line 1", "the primitive stops here, and is not whole"),
+                Row("‸SF", "F1 line 1 byte 0", "a primitive is needed here, as <0w1/0/->, not a class"),
+                Row("<0w1/0‸>", "F1 line 1 byte 6", "'>' is not allowed here"),
+                Row("<0w1/0/‸", "F2 line 1", "the primitive ends here, but is not complete"),
                 Row("‸<0w1r1/0/0>", "F4 line 1", two),
             ],
         )
@@ -155,10 +155,10 @@ class Memories(WithoutProgram):
         self.agree(
             texts.memory,
             [
-                Row(" # nothing\n", "D2", "no line of the description says anything"),
-                Row("memory‸", "D2", "the last line stops here, and is not whole"),
+                Row(" # nothing\n", "D2", "the description is empty, or has only comments"),
+                Row("memory‸", "D2", "the last line ends here, but is not complete"),
                 Row("# sizes\n  ‸words 4\n", "D1 line 2 byte 2", first),
-                Row("memory 1\n‸wrods 4\n", "D1 line 2 byte 1", "'wrods' can't stand here; did you mean 'words'?"),
+                Row("memory 1\n‸wrods 4\n", "D1 line 2 byte 1", "'wrods' is not allowed here; did you mean 'words'?"),
                 Row("memory ‸7\n", "D11", "there is no version 7: write 'memory 1' or 'memory 2'"),
                 Row(
                     "memory 1\nname m\n  ‸latency 2\n",
@@ -173,19 +173,19 @@ class Memories(WithoutProgram):
         self.agree(
             texts.memory,
             [
-                Row("memory 1\nname a\n‸name b\n", "D3 line 3", "'name' stands in line 2 already"),
+                Row("memory 1\nname a\n‸name b\n", "D3 line 3", "line 2 already has 'name'"),
                 Row(
                     self.BODY + "scramble a0 = p0\nscramble a1 = p1\n‸scramble a00 = p1\n",
                     "D3 line 7",
-                    "row a0 stands in line 5 already",
+                    "line 5 already has row a0",
                 ),
                 Row("memory 1\nname m\nwords 4\n", "D4 bits", "the line 'bits N' is missing, the bits of a word"),
                 Row("memory 1\nwords 4\n", "D4 name", "the line 'name IDENT' is missing, the memory's name"),
                 Row(
                     "memory 1\nname m\nwords 8\nbits 1\n‸scramble a0 = p0\nscramble a2 = p2\n",
                     "D4 a1",
-                    "there is no row a1, and a scrambling has a row for each bit of an address, a0 to a2",
-                    ["the rows that stand are a0 and a2"],
+                    "row a1 is missing: a scrambling has a row for each address bit, a0 to a2",
+                    ["the description has a0 and a2"],
                 ),
             ],
         )
@@ -197,7 +197,7 @@ class Memories(WithoutProgram):
             "latency ‸5": "'latency 5' is outside its range, 1 to 4 cycles",
             "pause ‸0": "'pause 0' is outside its range, 1 to 65,535 cycles",
             "name ‸wire": "'wire' can't name a memory: it is a reserved word of Verilog",
-            f"name ‸{'n' * 49}": f"'{'n' * 49}' can't name a memory: it has 49 bytes, and a name at most 48",
+            f"name ‸{'n' * 49}": f"'{'n' * 49}' can't name a memory: it has 49 bytes, but a name has at most 48",
         }
         rows = [Row(f"memory 2\n{line} # so\n", "D5 line 2", message) for line, message in ranges.items()]
         self.agree(texts.memory, rows)
@@ -206,8 +206,8 @@ class Memories(WithoutProgram):
         outside = {
             "scramble ‸a2 = p0": "there is no a2: an address of 4 words has 2 bits, a0 to a1",
             "scramble a1 = p0 ^ ‸p2": "there is no p2: an index of 4 words has 2 bits, p0 to p1",
-            "backgrounds 0 ‸1f": "the background 1f needs 5 bits, and a word of this memory has 2",
-            "polarity ‸4": "the polarity 4 needs 3 bits, and a word of this memory has 2",
+            "backgrounds 0 ‸1f": "the background 1f needs 5 bits, but a word of this memory has 2",
+            "polarity ‸4": "the polarity 4 needs 3 bits, but a word of this memory has 2",
         }
         rows = [Row(f"{self.BODY}{line}\n", "D5 line 5", message) for line, message in outside.items()]
         self.agree(texts.memory, rows)
@@ -227,7 +227,7 @@ class Memories(WithoutProgram):
                 Row(
                     f"{body}scramble a0 = p1 ^ 1\nscramble ‸a1 = p1\n",
                     "D6 rows a0 a1",
-                    "row a1 is the same as row a0, but for the constant 1",
+                    "row a1 is the same as row a0, apart from the constant 1",
                     note,
                 ),
                 Row(
@@ -243,14 +243,14 @@ class Memories(WithoutProgram):
         return f"row {row} has no index bit, so this bit of an address never changes"
 
     def test_scrambling_and_backgrounds(self) -> None:
-        power = "a scrambling wants words 4 or 8; without scramble lines any number will do"
+        power = "a scrambling needs words 4 or 8; without scramble lines any number works"
         self.agree(
             texts.memory,
             [
                 Row(
                     "memory 1\nname m\n‸words 6\nbits 1\nscramble a0 = p0\n",
                     "D7",
-                    "the memory has a scrambling, and words 6 is no power of two",
+                    "the memory has a scrambling, but words 6 is no power of two",
                     [power],
                 ),
                 Row(
@@ -259,7 +259,9 @@ class Memories(WithoutProgram):
                     "the word 0 is not among the backgrounds",
                     ["write 'backgrounds 0 1 2'"],
                 ),
-                Row(f"{self.BODY}‸backgrounds{' 0' * 9}\n", "D9", "there are 9 backgrounds, and at most 8 are run"),
+                Row(
+                    f"{self.BODY}‸backgrounds{' 0' * 9}\n", "D9", "there are 9 backgrounds, but a memory has at most 8"
+                ),
             ],
         )
 
@@ -271,10 +273,10 @@ class Chips(WithoutProgram):
         self.agree(
             chip,
             [
-                Row("# nothing\n", "C2", "no line of the chip file says anything"),
-                Row("chip‸", "C2", "the last line stops here, and is not whole"),
+                Row("# nothing\n", "C2", "the chip file is empty, or has only comments"),
+                Row("chip‸", "C2", "the last line ends here, but is not complete"),
                 Row("‸name c\n", "C1 line 1 byte 0", "the first line that says anything has to be 'chip 1'"),
-                Row("chip 1\n‸namw c\n", "C1 line 2 byte 3", "'namw' can't stand here; did you mean 'name'?"),
+                Row("chip 1\n‸namw c\n", "C1 line 2 byte 3", "'namw' is not allowed here; did you mean 'name'?"),
                 Row("chip ‸2\n", "C7", "there is no version 2: write 'chip 1'"),
             ],
         )
@@ -283,7 +285,7 @@ class Chips(WithoutProgram):
         self.agree(
             chip,
             [
-                Row(f"{self.BODY}‸budget 6\n", "C3 line 4", "'budget' stands in line 3 already"),
+                Row(f"{self.BODY}‸budget 6\n", "C3 line 4", "line 3 already has 'budget'"),
                 Row(
                     self.BODY, "C4 unit", "there is no line 'unit N MARCHFILE MEMORYFILE', so there is nothing to test"
                 ),
@@ -291,25 +293,25 @@ class Chips(WithoutProgram):
                 Row(
                     f"chip 1\nname ‸{'n' * 49}\n",
                     "C5 line 2",
-                    f"'{'n' * 49}' can't name a chip: it has 49 bytes, and a name at most 48",
+                    f"'{'n' * 49}' can't name a chip: it has 49 bytes, but a name has at most 48",
                 ),
                 Row("chip 1\nbudget ‸0\n", "C5 line 2", "a budget is 1 to 1,000,000, and not 0"),
                 Row(f"{self.BODY}unit ‸1000001 a b\n", "C5 line 4", "a weight is 1 to 1,000,000, and not 1000001"),
                 Row(
                     f"{self.BODY}unit ‸3 a {'b' * 256}\n",
                     "C5 line 4",
-                    "a name of a file has 256 bytes, and at most 255 may be",
+                    "a file name has 256 bytes, but may have at most 255",
                 ),
                 Row(
                     self.BODY + "unit 1 a b\n" * 16 + "‸unit 1 a b\n",
                     "C6",
-                    "this is the 17th unit, and a chip has at most 16",
+                    "this is the 17th unit, but a chip has at most 16",
                 ),
                 Row(
                     f"{self.BODY}unit 5 a b\nunit ‸6 a b\n",
                     "C9 line 5",
-                    "this unit weighs 6, and the budget of line 3 is 5",
-                    ["so it could never be tested"],
+                    "this unit weighs 6, but the budget in line 3 is 5",
+                    ["so no group has room for it"],
                 ),
             ],
         )

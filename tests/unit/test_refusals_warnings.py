@@ -8,7 +8,7 @@ import unittest
 from vidlakost_tools.refusals import otherwise
 
 CHIP = "chip 1\nname {}\nbudget 3\nunit 1 c.m a.mem\nunit 2 c.m b.mem\n"
-LAST = "  what is found of this module need not hold in a tool that does so"
+LAST = "  in such a tool this answer need not hold"
 
 
 class Modules(unittest.TestCase):

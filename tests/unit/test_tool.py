@@ -47,7 +47,7 @@ class Words(unittest.TestCase):
         wrong: dict[str, list[str]] = {
             "there is no option --no": ["--no"],
             "there is no option --ye": ["--ye"],
-            "--one needs a word behind it": ["a", "--one"],
+            "--one needs a word after it": ["a", "--one"],
             "too few words": [],
             "too many words": ["a", "b", "c"],
         }
@@ -92,7 +92,7 @@ class Ends(unittest.TestCase):
             "raise ToolError('so it is', 7)": (7, "", "some: so it is\n"),
             "open('nowhere')": (2, "", "some: nowhere: No such file or directory\n"),
             "b'\\xff'.decode()": (2, "", "some: a file is not UTF-8: invalid start byte at byte 0\n"),
-            "raise MemoryError": (9, "", "some: there was no memory\n"),
+            "raise MemoryError": (9, "", "some: out of memory\n"),
             "raise RecursionError": (2, "", "some: an input is nested too deeply\n"),
             "raise KeyboardInterrupt": (130, "", ""),
             "raise BrokenPipeError": (141, "", ""),
@@ -157,7 +157,7 @@ class Files(Folder):
         with mock.patch.object(threading.Event, "wait", soon), mock.patch.object(tool, "tell", tell):
             with tool.telling("something is done", lambda: "half"):
                 wait(is_told, 20)
-        self.assertRegex(lines[0], r": something is done \(half\), for 10 seconds by now$")
+        self.assertRegex(lines[0], r": something is done \(half\), 10 seconds so far$")
         self.assertEqual(list(tool.progress(range(3), "cycles")), [0, 1, 2])
 
 
@@ -183,7 +183,7 @@ class Programs(Folder):
     def test_program_that_is_slow_or_missing(self) -> None:
         with self.named("exec sleep 5"), mock.patch.object(program, "SECONDS", 0.05):
             with self.assertRaisesRegex(
-                ToolError, "^the program took longer than 0.05 seconds, and was ended$"
+                ToolError, "^the program took longer than 0.05 seconds, so it was ended$"
             ) as slow:
                 program.run("show")
         self.assertEqual(slow.exception.status, 124)
