@@ -323,7 +323,7 @@ class Chips(WithoutProgram):
                 (folder / memory).write_text(f"memory 1\nname {memory}\nwords 4\nbits 1\n")
             one, two, own = (folder / memory for memory in ("one", "two", "c"))
             units = f"unit 1 m {one}\nunit 1 m {two}\n{MARK}unit 1 m "
-            lead = "can't be told from the others"
+            lead = "needs another name"
             twice = f"{lead}: its memory has the name of unit 0, 'one'"
             taken = f"{lead}: its module would be 'c_bist', which is the name of the chip"
             self.agree(

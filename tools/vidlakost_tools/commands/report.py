@@ -16,7 +16,7 @@ The object:
     march       the printed march
     length      its operations on each of n words, and its pauses, as 23n+2D
     memory      of a report of `compile`: name, words, bits, backgrounds, commands
-    verdicts    in the list's order, each with primitive, class, covered (true or false), and for an escape `escape`:
+    verdicts    in the list's order, each with primitive, class, covered (true or false). An escape also has `escape`:
                 cells, aggressor (null for a primitive of one cell), victim, content (a digit for each cell, cell 0
                 first), directions (a letter for each element)
     classes     by name: primitives, covered

@@ -86,7 +86,7 @@ def same_name(description: Description, number: int) -> Finding:
         why = f"its memory has the name of unit {names.index(names[number])}, '{names[number]}'"
     else:
         why = f"its module would be '{names[number]}_bist', which is the name of the chip"
-    return description.found(description.at(line), f"unit {number} ({memory}) can't be told from the others: {why}")
+    return description.found(description.at(line), f"unit {number} ({memory}) needs another name: {why}")
 
 
 def unit_call(chip_file: str, said: str) -> tuple[list[str], str]:
