@@ -108,7 +108,7 @@ def other_reader(command: str) -> list[str]:
     )
 
 
-# how a text of each kind begins; a comment matches only up to its first end, since else the search would try many splits
+# how a text of each kind begins; a comment matches only up to its first end, or the search would try many splits
 BEGINS = {
     "a march": rb"\s*(?:\{\s*)?(?:any|up|down|del|[v^*])\b\s*[(;}]",
     "a memory description": rb"(?:\s|#[^\n]*\n)*memory\b",

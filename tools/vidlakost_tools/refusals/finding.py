@@ -150,8 +150,8 @@ SHOWN = {
 }
 
 
-# the longest text, in bytes, for which it says what is expected. This is not a time limit, so that the answer for a text
-# is the same on every machine, however busy it is.
+# the longest text, in bytes, for which it says what is expected. This is no time limit, so the answer for a text is the
+# same on every machine, however busy it is.
 LONGEST = 65536
 
 

@@ -56,7 +56,8 @@ class Session:
         for link in self.modules[self.top].links:
             told, found = self.bsdl.registers.get(link), len(path(self.modules, self.top, link, self.state))
             if told is None or told[1] != found:
-                raise ToolError(f"the path of {link} has {found} bits by ICL, but {told[1] if told else 'none'} by BSDL")
+                by_bsdl = told[1] if told else "none"
+                raise ToolError(f"the path of {link} has {found} bits by ICL, but {by_bsdl} by BSDL")
 
     def begin(self) -> Iterator[Cycle]:
         """The reset."""

@@ -79,7 +79,7 @@ def read_of(elements: list[Element], memory: Memory, answered: int) -> Read:
     operation = span.element.operations[visit.operation]
     if operation[0] == "w":
         raise ToolError(f"{before} does {operation}")
-    # the background is what the cells hold; at the port the bits that the memory stores inverted are the other way round
+    # the background is what the cells hold; the port has the bits inverted that the memory stores inverted
     word = memory.backgrounds[visit.background] ^ memory.polarity
     if operation == "r1":
         word ^= (1 << memory.bits) - 1
