@@ -13,7 +13,7 @@ from vidlakost_tools.program import ROOT
 
 # what is said after ten seconds, which a machine under load may take for any run
 SLOW = re.compile(
-    r"^(?:vidlakost: still running: .*|\w+: .*, (?:\d+ seconds so far|for \d+ seconds by now))\n", re.MULTILINE
+    r"^(?:vidlakost: still running: .*|\w+: .*, (?:\d+ seconds so far|after \d+ seconds))\n", re.MULTILINE
 )
 
 
