@@ -100,7 +100,7 @@ def with_found(march: object, elements: List[Element], words: Words) -> Said:
     """What `inword` says about the march with the backgrounds that the search finds for it."""
     path, memory = str(words.in_word), read_memory(str(words.in_word))
     names = list(dict.fromkeys(it.primitive for it in judged_in_word(str(march), path, words.faults).verdicts))
-    with telling("looks for backgrounds"):
+    with telling("looking for backgrounds"):
         listed = backgrounds.found(elements, names, memory, words.backgrounds)
     text = with_backgrounds(read_described(path), memory, listed)
     digits = " ".join(map(memory.digits, listed))
