@@ -1,4 +1,4 @@
-"""Which read a cycle of `bench`, `benchfault`, `benchfile` or a waveform belongs to, or which command one of `check`.
+"""The read behind a cycle of `bench`, `benchfault`, `benchfile` or a waveform; the command behind a line of `check`.
 
 usage: vidlakost locate MARCH MEMORY CYCLE [EXPECTED RETURNED]
        vidlakost locate MARCH MEMORY --line LINE      the cycle and the words from the line of such a command

@@ -1,4 +1,4 @@
-"""Any synthesizable Verilog, or VHDL, as a module in the subset that `check` reads, made by Yosys.
+"""A module in the subset that `check` reads, which Yosys makes of any synthesizable Verilog or VHDL.
 
 usage: vidlakost plain OUT.v IN.v .. [--top NAME] [--pins FILE] [--liberty LIB] [--cells ice40]
        vidlakost plain --help

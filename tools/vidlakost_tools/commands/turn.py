@@ -1,4 +1,4 @@
-"""Turns a scrambling round: from the bits of an index by those of an address, to the other way.
+"""Inverts a scrambling: index bits by address bits become address bits by index bits.
 
 usage: vidlakost turn FILE
        vidlakost turn --help
