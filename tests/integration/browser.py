@@ -293,7 +293,7 @@ def elsewhere(it: Looker) -> None:
     it.browser.get(it.address.replace("127.0.0.1", REBOUND))
     it.look(
         "a name that is bound to it is refused",
-        lambda: "this is not the host that was asked" in it.browser.page_source,
+        lambda: "the request names another host" in it.browser.page_source,
     )
     server.shutdown()
 

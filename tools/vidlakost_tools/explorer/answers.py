@@ -165,7 +165,7 @@ def complete(question: Object) -> Object:
     completes."""
     kind = text_in(question, "kind")
     if kind not in ("march", "list", "memory"):
-        raise Wrong("kind is march, list or memory")
+        raise Wrong("kind has to be march, list or memory")
     before, after = (text_in(question, name).encode("utf-8") for name in ("before", "after"))
     found, whole = Trier(kind).fitting(before + after, len(before))
     begun = "" if whole else before[word_start(before + after, len(before)) :].decode("utf-8", "replace")
@@ -281,7 +281,7 @@ def traced_link(march: pathlib.Path, name: str) -> Object:
     report = linked.linked(march)
     verdict = next((it for it in report.verdicts if it.primitive == name), None)
     if verdict is None:
-        raise Wrong("primitive is no link")
+        raise Wrong("primitive has to be a link")
     elements = [dataclasses.asdict(element) for element in report.elements]
     found: Object = {"report": {"march": report.march, "verdicts": [verdict.as_object()], "elements": elements}}
     return found if verdict.covered else {**found, **replayed_link(verdict, report.elements)}
@@ -297,7 +297,7 @@ def trace(folder: Folder, question: Object) -> Object:
     if LINK.fullmatch(primitive):
         return traced_link(march, primitive)
     if not PRIMITIVE.fullmatch(primitive):
-        raise Wrong("primitive is none of a report's")
+        raise Wrong("primitive has to be one of the report")
     report = judged(march, folder.put("list", primitive + "\n"))
     found = {"report": shown_report(report)}
     if report.escapes:
@@ -313,10 +313,10 @@ def inside(folder: Folder, question: Object) -> Object:
     memory_path = folder.put("memory", text_in(question, "memory"))
     primitive = text_in(question, "primitive")
     if not PRIMITIVE.fullmatch(primitive):
-        raise Wrong("primitive is none of a report's")
+        raise Wrong("primitive has to be one of the report")
     report = in_word.judged_in_word(march, memory_path, folder.put("list", primitive + "\n"))
     if not report.verdicts:
-        raise Wrong("the primitive is no coupling")
+        raise Wrong("the primitive has to be a coupling")
     return told_inside(report.verdicts[0], report, read_memory(memory_path))
 
 

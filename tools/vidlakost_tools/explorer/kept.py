@@ -99,7 +99,7 @@ def texts_in(question: Object, name: str) -> list[str]:
     """The texts of the marches of a question."""
     found = question.get(name)
     if not isinstance(found, list) or not 1 <= len(found) <= MOST_MARCHES:
-        raise questions.Wrong(f"{name} are one to {MOST_MARCHES} texts")
+        raise questions.Wrong(f"{name} has to be 1 to {MOST_MARCHES} texts")
     return [questions.text_in({"march": text}, "march") for text in found]
 
 
@@ -114,7 +114,7 @@ class Keeper:
         marches, faults = texts_in(question, "marches"), questions.text_in(question, "list")
         memory, place = questions.text_in(question, "memory"), question.get("place")
         if not isinstance(place, int) or not 0 <= place < len(marches):
-            raise questions.Wrong("place is that of a march")
+            raise questions.Wrong("place has to name a march")
         told = self.beginning.told
         # the place of the program does not concern those who get the file
         program: Object = {**told["program"], "path": ""}

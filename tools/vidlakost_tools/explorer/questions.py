@@ -24,11 +24,11 @@ def text_in(question: Object, name: str) -> str:
     """A text of a question."""
     text = question.get(name)
     if not isinstance(text, str):
-        raise Wrong(f"{name} is no text")
+        raise Wrong(f"{name} has to be a text")
     try:
         text.encode("utf-8")
     except UnicodeEncodeError as error:
-        raise Wrong(f"{name} is no text of Unicode") from error
+        raise Wrong(f"{name} has to be a Unicode text") from error
     return text
 
 

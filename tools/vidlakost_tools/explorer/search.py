@@ -21,7 +21,7 @@ from vidlakost_tools.texts.report import judged
 LETTERS = "ABCD"
 # how long a process may still run after its own time limit, and how much it may say
 LATE_SECONDS, MOST_BYTES = 10, 1 << 20
-BROKE_OFF = "the search broke off without an answer of the program"
+BROKE_OFF = "the search ended early, without an answer of the program"
 
 
 class Search:
@@ -113,7 +113,7 @@ class Searches:
             return None
         letter = text_in(question, "letter")
         if len(letter) != 1 or letter not in LETTERS:
-            raise Wrong("letter is that of a march")
+            raise Wrong("letter has to name a march")
         march_of(folder.put("march", text_in(question, "march")))
         return f"march {letter}"
 
@@ -143,5 +143,5 @@ class Searches:
 def flag_in(question: Object, name: str) -> bool:
     found: Any = question.get(name)
     if not isinstance(found, bool):
-        raise Wrong(f"{name} is true or false")
+        raise Wrong(f"{name} has to be true or false")
     return found

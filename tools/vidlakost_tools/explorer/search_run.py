@@ -104,7 +104,7 @@ def main(arguments: List[str]) -> int:
     except ToolError as error:
         say(broken=str(error))
     except MemoryError:
-        say(broken="the search had no memory left")
+        say(broken="the search ran out of memory")
     except KeyboardInterrupt:
         say(broken="the search was ended before it found a march")
     return 0

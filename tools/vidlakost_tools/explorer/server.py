@@ -237,7 +237,7 @@ class Handler(http.server.BaseHTTPRequestHandler):
     def named(self) -> str:
         """What the path names after the token, for a request that comes from this page or opens it."""
         if self.only("Host") != self.server.host:
-            raise Refusal(421, "this is not the host that was asked")
+            raise Refusal(421, "the request names another host")
         origin, site = self.only("Origin"), self.only("Sec-Fetch-Site")
         if origin not in (None, f"http://{self.server.host}"):
             raise Refusal(403, "another page asks")
@@ -297,7 +297,7 @@ class Handler(http.server.BaseHTTPRequestHandler):
             raise Refusal(404, "there is no such question")
         asked = self.asked()
         if not self.server.calls.acquire(timeout=WAIT_SECONDS):
-            raise Refusal(503, "too much is asked at once")
+            raise Refusal(503, "too many questions at once")
         try:
             return 200, "application/json", json.dumps(answer(asked)).encode()
         except Wrong as error:
@@ -310,7 +310,7 @@ class Handler(http.server.BaseHTTPRequestHandler):
     def asked(self) -> Object:
         """The object that a question sends."""
         if self.only("Content-Type") != "application/json" or self.only("Transfer-Encoding") is not None:
-            raise Refusal(415, "a question is an object of JSON")
+            raise Refusal(415, "a question has to be a JSON object")
         length = self.only("Content-Length") or ""
         if not (length.isascii() and length.isdigit() and len(length) < 10):
             raise Refusal(411, "a question needs its length")
@@ -324,7 +324,7 @@ class Handler(http.server.BaseHTTPRequestHandler):
         try:
             asked = json.loads(body)
         except (ValueError, RecursionError) as error:
-            raise Refusal(400, "a question is an object of JSON") from error
+            raise Refusal(400, "a question has to be a JSON object") from error
         if len(body) != int(length) or not isinstance(asked, dict):
-            raise Refusal(400, "a question is an object of JSON")
+            raise Refusal(400, "a question has to be a JSON object")
         return asked
