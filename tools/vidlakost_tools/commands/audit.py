@@ -88,11 +88,12 @@ def verdict_of(audit: Audit) -> tuple[str, int]:
         print(end or f"after the end done is 1 and en 0 to cycle {until}")
     told = fail_found(audit, found, number_of(audit.options.get("--limit", "600"), "--limit", 1))
     wave(audit, found, told.cycle if told.kind != "exact" else len(audit.commands()) - 1)
-    limited = [f"done and en are right up to cycle {until}"] if until >= 0 else []
+    limited = [f"done and en are right to cycle {until}"] if until >= 0 else []
     parts = [found.told(), *([end] if end else limited), told.short()]
     in_reset = found.in_reset and "--reset-open" not in audit.options
     if in_reset:
-        print("in the cycle of the reset they have to be 0; --reset-open allows anything there")
+        ports = f"{' and '.join(found.in_reset)} {'has' if len(found.in_reset) == 1 else 'have'}"
+        print(f"in the cycle of the reset {ports} to be 0; --reset-open allows anything there")
     is_late = found.end_late > number_of(audit.options.get("--fail-late", "0"), "--fail-late")
     if is_late and told.kind == "exact":
         print(f"the rule of the ports allows no late end; --fail-late {found.end_late} does")
