@@ -68,7 +68,7 @@ def named_by_vhdl(bench: Bench) -> None:
             bench.is_so(done.returncode == 1 and told in done.stderr, f"{declared!r}: {words[0]} says {done.stderr!r}")
         is_kept(bench, declared)
     (bench.folder / "looks.vhd").write_text(ENTITY.format(LOOKS))
-    bench.look(["tools/plain", "made.v", "looks.vhd"], 0, "", "plain: made.v is what Yosys makes")
+    bench.look(["tools/plain", "made.v", "looks.vhd"], 0, "", "plain: Yosys made made.v of the sources")
 
 
 def named_by_verilog(bench: Bench) -> None:
@@ -84,7 +84,7 @@ def named_by_verilog(bench: Bench) -> None:
         bench.look(
             ["timeout", "60", "tools/plain", "made.v", "endless.v"], 1, "", "plain: 'endless.v': it names '/dev/zero'"
         )
-        bench.look(["tools/plain", "made.v", "reads.v"], 0, "", "plain: made.v is what Yosys makes")
+        bench.look(["tools/plain", "made.v", "reads.v"], 0, "", "plain: Yosys made made.v of the sources")
         bench.look(
             ["tools/audit", "reads.v", "c.m", "s.mem", "--vcd", "kept.hex"], 2, "", "audit: 'kept.hex' is what is read"
         )
@@ -99,7 +99,7 @@ def untold_by_verilog(bench: Bench) -> None:
     bench.look(["tools/audit", "reads.v", "c.m", "s.mem", "--vcd", "kept.hex"], 2, "", f"audit: {told}")
     is_kept(bench, UNTOLD)
     for _ in range(2):
-        bench.look(["tools/plain", "made.v", "reads.v"], 0, "", "plain: made.v is what Yosys makes")
+        bench.look(["tools/plain", "made.v", "reads.v"], 0, "", "plain: Yosys made made.v of the sources")
 
 
 def named_files(bench: Bench) -> None:

@@ -21,7 +21,9 @@ from vidlakost_tools.tool import ToolError
 # a log by hand: left has eight words and a latency of one, so the first word that is read comes in cycle 8 + 1 + 1; its
 # test runs once more from cycle 532 on. Low has four words and a latency of two, and both five and one; their tests
 # begin in cycle 82
-FILES["joined.log"] = """fail 00011110 unit 1 cycle 10 expected 0 returned 1
+FILES[
+    "joined.log"
+] = """fail 00011110 unit 1 cycle 10 expected 0 returned 1
 unit 1 cycle 10 expected 0 returned 1
 unit 1 cycle 541 expected 0 returned 1
 unit 1 cycle 543 expected 0 returned 2
@@ -50,16 +52,16 @@ CALLS: List[Call] = [
     Call(f"{IN_WHOLE} --unit 2", status=2, says="bitmap: joined.log: in cycle 500 the test of right does not run"),
     Call(f"{IN_WHOLE} --unit 3 --second", status=2, says="bitmap: joined.log: the log was full before the second run"),
     Call(f"{IN_WHOLE} --unit 4 --second", status=2, says="bitmap: joined.log: no read of the second run was wrong"),
-    Call(IN_WHOLE, status=2, says="bitmap: a log, a march and a memory are wanted"),
+    Call(IN_WHOLE, status=2, says="bitmap: give a log, a march and a memory"),
     Call(
         f"tools/bitmap joined.log {JOINS} --unit 0 --second",
         status=2,
-        says="bitmap: --second and a list are of a whole chip",
+        says="bitmap: --second and a list need a whole chip",
     ),
     Call(
         "tools/bitmap joined.log access.m late.mem --second",
         status=2,
-        says="bitmap: a log, a march and a memory are wanted",
+        says="bitmap: give a log, a march and a memory",
     ),
     Call(f"{AT_LINE} 'unit 5 cycle 88 expected 00 returned 02'", prints="memory high, cycle 7 of its test\n"),
     Call(f"{AT_LINE} 'unit 8 cycle 88 expected 00 returned 02'", status=2, says="locate: the unit is 0 to 7"),

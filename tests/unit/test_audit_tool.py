@@ -86,7 +86,7 @@ class Verdicts(Tool):
     def test_reset_that_may_be_open(self) -> None:
         open_reset = changed(("en = !reset && step", "en = step"))
         self.assertIn(
-            "in the cycle of the reset they have to be 0; --reset-open allows anything there",
+            "in the cycle of the reset en has to be 0; --reset-open allows anything there",
             self.audit(open_reset)[1][-2],
         )
         status, lines, _ = self.audit(open_reset, "--reset-open")
@@ -140,7 +140,8 @@ class Verdicts(Tool):
     def test_waveform_beside_the_verdict(self) -> None:
         status, _, told = self.audit(SMALL, "--vcd", "@/run.vcd")
         self.assertEqual(
-            (status, told), (0, [f"audit: the run is in {self.folder}/run.vcd, and a save file for GTKWave beside it"])
+            (status, told),
+            (0, [f"audit: the run is in {self.folder}/run.vcd, and a save file for GTKWave is beside it"]),
         )
         self.assertTrue((self.folder / "run.gtkw").exists())
 
@@ -197,7 +198,7 @@ class Refusals(Tool):
             "is a source$": [*words, "--vcd", words[0]],
             "is the march$": [*words, "--vcd", words[1]],
             "is the name of the save file": [*words, "--vcd", str(self.folder / "run.gtkw")],
-            "--limit is a number from 1 on": [*words, "--limit", "0"],
+            "--limit is a number of at least 1": [*words, "--limit", "0"],
         }
         for message, arguments in wrong.items():
             with self.subTest(arguments=arguments), self.assertRaisesRegex(ToolError, message):

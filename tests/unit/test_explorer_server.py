@@ -116,7 +116,7 @@ class Questions(Served):
         self.assertEqual(self.ask("POST", "thrice", b"{}", Origin=self.origin)[0], 404)
 
     def test_what_is_no_question(self) -> None:
-        none = (400, b"a question is an object of JSON")
+        none = (400, b"a question has to be a JSON object")
         for text in (b"", b"[1]", b"{", b"1", b"[" * 5000):
             self.assertEqual(self.question(text), none, text[:9])
         self.assertEqual(self.question({}, Content_Type="text/plain")[0], 415)
@@ -139,7 +139,7 @@ class Questions(Served):
     def test_too_many_questions_at_once(self) -> None:
         with mock.patch.object(server, "WAIT_SECONDS", 0.01):
             self.take_all(self.server.calls, server.CALLS)
-            self.assertEqual(self.question({"number": 3}), (503, b"too much is asked at once"))
+            self.assertEqual(self.question({"number": 3}), (503, b"too many questions at once"))
 
 
 class Waits(Served):

@@ -136,7 +136,7 @@ class Files(Tools):
         status, lines = self.tool(
             "bitmap", "@/log", "@/c.m", "@/a.mem", "--mux", "2", "--csv", "@/x.csv", "--svg", "@/x.svg"
         )
-        self.assertEqual((status, lines[0]), (0, "pair: 2 cells in 2 reads, and more came"))
+        self.assertEqual((status, lines[0]), (0, "pair: 2 cells in 2 reads, and more followed"))
         self.assertEqual(
             lines[1:3],
             [

@@ -60,15 +60,13 @@ class Launcher(Tools):
     def test_refusal_in_its_call(self) -> None:
         self.put(c_m="{any(w2)}")
         lines = self.explained("--said", "3", "march M1 byte 6", "--", "bench", "@/c.m", "@/a.mem")
-        self.assertEqual(lines, ["@/c.m:1:6: error: 'w2' can't stand here", "  {any(w2)}", "       ^"])
-        self.assertEqual(
-            self.explained("--said", "9", "no memory", "--", "bench"), ["vidlakost: error: there was no memory"]
-        )
+        self.assertEqual(lines, ["@/c.m:1:6: error: 'w2' is not allowed here", "  {any(w2)}", "       ^"])
+        self.assertEqual(self.explained("--said", "9", "no memory", "--", "bench"), ["vidlakost: error: out of memory"])
 
     def test_warnings_of_a_call(self) -> None:
         self.put(a_v="// full_case\nmodule m(output y);\n  assign y = 1'b1;\nendmodule\n")
         lines = self.explained("--warn", "check", "@/a.v", "c.m", "a.mem")
-        self.assertEqual(lines[0], "@/a.v:1:4: warning: a comment that tools which make gates obey")
+        self.assertEqual(lines[0], "@/a.v:1:4: warning: a comment that synthesis tools obey")
 
     def test_wrong_words(self) -> None:
         for words in (["--said", "3", "march M2", "bench"], ["--said", "x", "march M2", "--", "bench"], ["--no"]):

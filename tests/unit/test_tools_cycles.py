@@ -85,19 +85,21 @@ class Locate(Told):
 
     def test_what_is_no_read(self) -> None:
         call = ("locate", "@/c.m", "@/a.mem")
-        self.refused("in cycle 8 no answer comes: 2 earlier element 1 does w1$", *call, "8")
-        self.refused("in cycle 15 no answer comes: 2 earlier element 2 is a pause$", *call, "15")
-        self.refused("^answers of this test stand on rdata in the cycles 3 to 40, and not in 41$", *call, "41")
-        self.refused("^the expected word is 0, and this march expects 1 there", *call, "7", "0", "2")
-        self.refused("^1 is expected and returned, so this read is not wrong$", *call, "7", "1", "1")
+        self.refused("no answer comes in cycle 8: 2 cycles earlier element 1 does w1$", *call, "8")
+        self.refused("no answer comes in cycle 15: 2 cycles earlier element 2 is a pause$", *call, "15")
+        self.refused("^this test has answers on rdata in the cycles 3 to 40, but not in 41$", *call, "41")
+        self.refused("^the expected word is 0, but this march expects 1 there", *call, "7", "0", "2")
+        self.refused("^1 is both expected and returned, so this read is not wrong$", *call, "7", "1", "1")
         self.refused("^'4' is no hexadecimal word of 2 bits$", *call, "7", "1", "4")
         self.refused(
-            "^the line expects 3 on addr, and of this march 0 is due there",
+            "^the line expects 3 on addr, but this march has 0 there",
             *call,
             "--line",
             "differs cycle 5 port addr expected 3 got 1",
         )
-        self.refused("is no line of check: a port is one of en, we", *call, "--line", "differs cycle 5 port addr")
+        self.refused(
+            "is no line of check: it names one of the ports en, we", *call, "--line", "differs cycle 5 port addr"
+        )
         self.refused(
             "^the line is of unit 1 of a chip", *call, "--line", "fail 10 unit 1 cycle 7 expected 1 returned 2"
         )
@@ -105,9 +107,9 @@ class Locate(Told):
     def test_words_that_do_not_go_together(self) -> None:
         self.refused("^too few words", "locate", "@/c.m")
         self.refused("^too many words", "locate", "@/c.m", "@/a.mem", "7", "1", "3", "0")
-        self.refused("^--sib stands beside --tdr", "locate", "@/c.m", "@/a.mem", "--sib")
-        self.refused("^--elements stands alone", "locate", "@/c.m", "@/a.mem", "7", "--elements")
-        self.refused("^behind --at stands fail alone$", "locate", "@/c.m", "@/a.mem", "7", "--at", "done")
+        self.refused("^--sib needs --tdr", "locate", "@/c.m", "@/a.mem", "--sib")
+        self.refused("^--elements takes only a march and a memory", "locate", "@/c.m", "@/a.mem", "7", "--elements")
+        self.refused("^--at takes only fail$", "locate", "@/c.m", "@/a.mem", "7", "--at", "done")
         self.refused("^--chip takes a chip file, a cycle", "locate", "@/x.chip", "--chip", "9")
 
 
@@ -153,11 +155,11 @@ class Tables(Told):
     def test_rows_that_turn_nowhere(self) -> None:
         wrong = {
             "p0 = a0\np1 = a0\n": "row 1 depends on rows before it, so two words would have one place$",
-            "p0 = a1\n": "a bit on the right is none of 0 to 0$",
-            "p1 = a0\n": "there has to be a row for each bit from 0 on$",
+            "p0 = a1\n": "a bit on the right is not one of 0 to 0$",
+            "p1 = a0\n": "each bit from 0 on needs a row$",
             "p0 = a0\np0 = a1\n": ":2: there is a row p0 already$",
-            "p0 = p1\n": ":1: the bits on the right are all of the other side, a0 and so on$",
-            "p0 : a0\n": ":1: a line is p0 = a0 \\^ a1, and not 'p0 : a0'$",
+            "p0 = p1\n": ":1: all bits on the right are of the other side: a0 and so on$",
+            "p0 : a0\n": ":1: a line has the form p0 = a0 \\^ a1, and not 'p0 : a0'$",
         }
         for text, message in wrong.items():
             self.put(rows=text)
@@ -204,11 +206,9 @@ total 3 covered 0 escapes 3
         self.assertEqual(calls[0], "vidlakost sim @/report.m '<1w0/1/->' 2 00 none 0 uuuu")
         self.assertEqual((self.folder / "report.m").read_text(), "{any(w0);up(w1,r1);del;any(r1)}\n")
         (self.folder / "report.m").write_text("any(w0)")
-        self.refused(
-            "report.m is there and holds something else than the report's march", "trace", "@/report", "--calls"
-        )
+        self.refused("report.m is there, and does not hold the report's march", "trace", "@/report", "--calls")
 
     def test_what_is_no_escape(self) -> None:
         self.refused("report has no escape of <0/1/->$", "trace", "@/report", "<0/1/->")
         self.refused("^--memory is for a report of `inword`$", "trace", "@/report", "--memory", "@/a.mem")
-        self.refused("^--calls and --run stand alone", "trace", "@/report", "--calls", "--steps")
+        self.refused("^--calls and --run take a report and nothing else", "trace", "@/report", "--calls", "--steps")

@@ -123,7 +123,7 @@ class Liberty(Written):
     def test_what_is_refused(self) -> None:
         call = ("liberty", "@/l.lib", "RAM", "@/out")
         self.refused("^'wire' is no name for a memory: give one with --name$", *call, "--name", "wire")
-        self.refused("^--pin names a pin and what it is", *call, "--pin", "csb")
+        self.refused("^--pin is PIN=KIND, with KIND one of", *call, "--pin", "csb")
         self.refused("^--pin 'x=en': there is no such pin$", *call, "--pin", "x=en")
         self.refused("^--pin 'csb=we': the pin is named twice$", *call, "--pin", "csb=en", "--pin", "csb=we")
         self.refused("^--pin 'q=en': q is an output$", *call, "--pin", "q=en")
@@ -139,7 +139,7 @@ class Diagnoses(Written):
         status, lines = self.tool("diagnosis", "@/log", "@/c.m", "@/a.mem", "--with", "@/c.m")
         self.assertEqual(status, 0)
         self.assertEqual(lines[2:4], ["data bit: data bit 1 stuck at 1", "column: column 1 stuck at 1"])
-        self.assertEqual(lines[4:], ["no march tells the 2 candidates apart"])
+        self.assertEqual(lines[4:], ["no march separates the 2 candidates"])
 
     def test_log_that_nothing_gives(self) -> None:
         """Bit 0 is wrong in one read of word 0, and bit 1 in one of word 1; all other reads are right."""
@@ -147,7 +147,7 @@ class Diagnoses(Written):
         self.put(log="cycle 6 expected 0 returned 1\ncycle 10 expected 0 returned 2\n")
         status, lines = self.tool("diagnosis", "@/log", "@/c.m", "@/a.mem", "--with", "@/c.m")
         self.assertEqual(status, 1)
-        self.assertIn("no single defect that is known here gives this log", lines)
+        self.assertIn("no single defect that this tool knows gives this log", lines)
 
 
 class Flows(Chips):
