@@ -11,7 +11,7 @@ JOINED_PINS, PLACED_PINS = " ".join(PINS), " ".join(PLACED)
 WHOLE = f"tools/locate {JOINS} {JOINED_PINS} --whole"
 CALLS: List[Call] = [
     Call(f"{READ_AT} 0 1", prints="bits 0\n"),
-    Call(f"{READ_AT} 0 0", status=2, says="locate: 0 is expected and returned, so this read is not wrong"),
+    Call(f"{READ_AT} 0 0", status=2, says="locate: 0 is both expected and returned, so this read is not wrong"),
     Call(f"{READ_AT} 0 1 --mux 3", status=2, says="locate: --mux 3 does not divide the 4 words of s"),
     Call(
         "tools/locate c.m s.mem --line 'unknown cycle 5 port bogus'",
@@ -36,14 +36,14 @@ CALLS: List[Call] = [
     Call(
         "tools/locate c.m s.mem --line 'differs cycle 5 port we expected 0 got 0'",
         status=2,
-        says="locate: the line got 0",
+        says="locate: the line expects 0",
     ),
     Call("tools/locate c.m s.mem --line 'unknown cycle 5 port we'", prints="operation 0 r0"),
+    Call("tools/locate pair.chip --chip --tdr 3", status=2, says="locate: the register has 13 hexadecimal digits"),
     Call(
-        "tools/locate pair.chip --chip --tdr 3", status=2, says="locate: the register is hexadecimal and has 13 digits"
-    ),
-    Call(
-        "tools/locate pair.chip --chip --tdr 00000000000003", status=2, says="locate: the register is hexadecimal and"
+        "tools/locate pair.chip --chip --tdr 00000000000003",
+        status=2,
+        says="locate: the register has 13 hexadecimal digits",
     ),
     Call("tools/bitmap made.log access.m late.mem", prints="cell: 1 cell in 1 read"),
     Call("tools/bitmap made.log access.m turned.mem", status=2, says="bitmap: in cycle 13 the expected word is 15"),
@@ -54,7 +54,7 @@ CALLS: List[Call] = [
     ),
     Call("tools/diagnosis none.log access.m late.mem", status=2, says="diagnosis: none.log: no line has"),
     Call("tools/diagnosis made.log access.m late.mem --mux 3", status=2, says="diagnosis: --mux 3 does not divide"),
-    Call("tools/diagnosis made.log pair.chip", status=2, says="diagnosis: a log, a march and a memory are wanted"),
+    Call("tools/diagnosis made.log pair.chip", status=2, says="diagnosis: give a log, a march and a memory"),
     Call("tools/access late.mem acc --apb --jtag --march access.m", prints="acc/late_tap.v"),
     Call("tools/access pair.chip acc2 --apb --log 4", prints="acc2/late_log.v"),
     Call(
@@ -109,7 +109,7 @@ CALLS: List[Call] = [
     Call(
         f"tools/schedule {JOINS} {JOINED_PINS} --svg x.svg",
         status=2,
-        says="schedule: --svg is of a chip file without pins",
+        says="schedule: --svg draws a chip file without pins",
     ),
     Call(f"{WHOLE} 88 00100000 00 02", prints="memory high, cycle 7 of its test\n"),
     Call(f"{WHOLE} 434 00000001", prints="lanes of masked, command 2 of lane 0, address 0\n"),
@@ -123,34 +123,40 @@ CALLS: List[Call] = [
         status=2,
         says="locate: cycle 1011 is in no step of the test, which has the cycles 1 to 1010",
     ),
-    Call(f"{WHOLE} 88 00100001", status=2, says="locate: masked, high fail: whose is the cycle? Give one bit alone"),
+    Call(
+        f"{WHOLE} 88 00100001", status=2, says="locate: masked, high fail: which of them does the cycle belong to? Set"
+    ),
     Call(
         f"{WHOLE} --tdr 00105020000000058f",
         prints="cycle 88 expected 00 returned 02\nmemory high, cycle 7 of its test\n",
     ),
-    Call(f"{WHOLE} --tdr 0105020000000058f", status=2, says="locate: the register is hexadecimal and has 18 digits"),
+    Call(f"{WHOLE} --tdr 0105020000000058f", status=2, says="locate: the register has 18 hexadecimal digits"),
     Call("tools/access late.mem acc --log 65", status=2, says="access: --log is 1 to 64, and not 65"),
-    Call("tools/access late.mem acc --log 0", status=2, says="access: --log is a number from 1 on"),
+    Call("tools/access late.mem acc --log 0", status=2, says="access: --log is a number of at least 1"),
     Call("tools/access late.mem acc --jtag --march access.m --mhz 0", status=2, says="access: --mhz is a clock"),
     Call("tools/access missing.mem acc", status=2, says="access: missing.mem: No such file"),
     Call("tools/sdc late.mem acc --mhz 100 --falling", prints="acc/late_normal.sdc"),
     Call("tools/sdc late.mem acc", status=2, says="sdc: --mhz is wanted"),
     Call("tools/sdc late.mem acc --mhz 1e3", status=2, says="sdc: --mhz is a number above 0"),
     Call("tools/sdc late.mem acc --mhz 1 --share 1", status=2, says="sdc: --share is below 1"),
-    Call("tools/locate pair.chip --chip 20 011 1 2", status=2, says="locate: FAILBITS has 2 digits"),
-    Call("tools/locate pair.chip --chip 20 00", status=2, says="locate: FAILBITS has 2 digits"),
-    Call("tools/locate pair.chip --chip 9999 01", status=2, says="locate: in cycle 9999 no answer of a failing unit"),
+    Call("tools/locate pair.chip --chip 20 011 1 2", status=2, says="locate: FAILBITS needs 2 digits"),
+    Call("tools/locate pair.chip --chip 20 00", status=2, says="locate: FAILBITS needs 2 digits"),
+    Call(
+        "tools/locate pair.chip --chip 9999 01",
+        status=2,
+        says="locate: no failing unit has an answer on rdata in cycle 9999",
+    ),
     Call("tools/locate pair.chip --chip --tdr 0000000000003", prints="no wrong read was seen"),
     Call("tools/locate pair.chip --chip --tdr 0000000000001", prints="not done: the test still runs"),
-    Call("tools/locate pair.chip --chip --tdr 0x0000000000002", status=2, says="locate: start is 0 there"),
+    Call("tools/locate pair.chip --chip --tdr 0x0000000000002", status=2, says="locate: start is 0 in this scan"),
     Call("tools/locate pair.chip --chip --tdr 000000000000b", status=2, says="locate: the bits of the state disagree"),
     Call(
         "tools/locate access.m late.mem --tdr ffffffffffffffffffffffffffffff",
         status=2,
-        says="locate: the register is hexadecimal",
+        says="locate: the register has to be hexadecimal",
     ),
-    Call("tools/locate access.m late.mem --tdr zz", status=2, says="locate: the register is hexadecimal"),
-    Call("tools/locate access.m late.mem 14 --at done", status=2, says="locate: behind --at stands fail alone"),
+    Call("tools/locate access.m late.mem --tdr zz", status=2, says="locate: the register has to be hexadecimal"),
+    Call("tools/locate access.m late.mem 14 --at done", status=2, says="locate: --at takes only fail"),
     Call(
         "tools/bitmap wrong.log access.m late.mem",
         status=2,
@@ -160,7 +166,7 @@ CALLS: List[Call] = [
     Call(
         "tools/bitmap right.log access.m late.mem",
         status=2,
-        says="bitmap: in cycle 13 the expected word is 0a, and this march",
+        says="bitmap: in cycle 13 the expected word is 0a, but this march",
     ),
     Call(
         "tools/bitmap right.log access.m late.mem --mux 3", status=2, says="bitmap: --mux 3 does not divide the 8 words"
@@ -187,7 +193,7 @@ CALLS: List[Call] = [
     Call("tools/vhdl two.log acc", status=14, says="vhdl: verilog L1 byte 31\ntwo.log:3:1: error: "),
     Call("tools/vhdl access.m acc", status=14, says="vhdl: verilog L1 byte 0\n"),
     Call("tools/vhdl wide.v acc", status=14, says="vhdl: verilog N3 2 3\n"),
-    Call("tools/vhdl two.log acc access.m", status=2, says="vhdl: a march and a memory stand together"),
+    Call("tools/vhdl two.log acc access.m", status=2, says="vhdl: give both a march and a memory"),
     Call("tools/report --all sized.report --csv --memory s.mem", prints="s,4,1,1,"),
     Call(
         "tools/report --all again.report --csv --memory s.mem",
@@ -197,10 +203,10 @@ CALLS: List[Call] = [
     Call(
         "tools/report --all sized.report --csv --memory s.mem --memory slow.mem",
         status=2,
-        says="report: slow.mem: another description of s is given",
+        says="report: slow.mem: the call has another description of s",
     ),
-    Call("tools/report --all judged.report --csv", status=2, says="report: judged.report: this report is of `judge`"),
-    Call("tools/report --all judged.report", status=2, says="report: --all is with --csv or with --html FILE"),
+    Call("tools/report --all judged.report --csv", status=2, says="report: judged.report: this is a report of `judge`"),
+    Call("tools/report --all judged.report", status=2, says="report: --all needs --csv or --html FILE"),
     Call("tools/report --tester pair.chip --html pair.html"),
     Call("tools/report --tester pair.chip --html ./late.mem", status=2, says="report: './late.mem' is what is read"),
 ]
