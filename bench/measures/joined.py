@@ -94,7 +94,7 @@ class Place:
         return Outcome.REASON if reason_of(self.told(damage)) else Outcome.UNTOLD
 
     def runs_through(self, folder: pathlib.Path) -> Optional[bool]:
-        """Whether each run passes; None where one comes to no end, as with a loop of wires, of which lint has a word."""
+        """Whether each run passes; None where one never ends, as with a loop of wires, which lint tells."""
         try:
             runs = all(called(["vvp", "-n", "tb", *more], folder) for more in self.runs)
             return runs and (not self.beside or called(self.beside, folder))

@@ -181,7 +181,7 @@ def main(arguments: list[str]) -> int:
             raise ToolError("the line names no read: it has no 'cycle C expected X returned Y'")
         whose = OF_UNIT.search(options["--line"])
         if whose is not None:
-            why = "and its cycles are the chip's: give the chip file with --chip and the cycle, or its pins with --whole"
+            why = "whose cycles are the chip's: give the chip file with --chip and the cycle, or its pins with --whole"
             raise ToolError(f"the line is of unit {whose[1]} of a chip, {why}")
         rest = list(match.groups())
     if len(rest) not in (1, 3):
