@@ -19,7 +19,8 @@ ABOUT = """{mark} top: the {count} memories of {name}, in collars, with the test
 // The test runs once while test is 1. It begins when test rises, after 0 for a few cycles. fail has these bits:
 {bits}
 """
-ABOUT_ACCESS = """// asks has such a bit too, 1 while the test of that memory commands a read; given_I is what its test writes or expects
+ABOUT_ACCESS = """\
+// asks has such a bit too, 1 while the test of that memory commands a read; given_I is what its test writes or expects
 // then, and taken_I what the memory answers
 """
 

@@ -252,9 +252,8 @@ def refuse_memory(path: str, memory: Group, groups: list[Group], pins: list[Foun
     for pin in pins:
         for address in {pin.writes_at, pin.reads_at} - {""}:
             if address not in widths:
-                raise ToolError(
-                    f"{path}:{lines[pin.name]}: the address of {shown(pin.name)} is {shown(address)}, which is not a pin"
-                )
+                told = f"the address of {shown(pin.name)} is {shown(address)}, which is not a pin"
+                raise ToolError(f"{path}:{lines[pin.name]}: {told}")
             refuse_width(path, memory, "address_width", address, widths[address], lines[address])
         if pin.writes_at or pin.reads_at:
             refuse_width(path, memory, "word_width", pin.name, pin.width, lines[pin.name])

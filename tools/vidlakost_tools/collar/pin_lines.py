@@ -88,7 +88,8 @@ class Lines:
             raise self.macro.refuse(line, f"a line of the other port begins with one of {', '.join(OF_PORT)}")
         told = f"{'port ' if second else ''}{kind}"
         if (kind in ONCE or kind == "registers") and self.once(told, rest) in self.seen:
-            more = "; a macro with an address for reads and one for writes has raddr and waddr" if kind == "addr" else ""
+            both = "; a macro with an address for reads and one for writes has raddr and waddr"
+            more = both if kind == "addr" else ""
             raise self.macro.refuse(
                 line, f"'{told}' may stand in one line only, and line {self.seen[self.once(told, rest)]} has it{more}"
             )
@@ -270,7 +271,7 @@ def refuse_halves(macro: Macro, word: Word) -> None:
     """The low and the high part are the two memories, and do the same in each cycle."""
     if not macro.halves:
         if len(word.memories) > 1:
-            raise macro.refuse(0, "two memories make one word: add the lines low and high, which say which part each is")
+            raise macro.refuse(0, "two memories make one word: the lines low and high have to say which part each is")
         return
     if set(macro.halves) != {"low", "high"}:
         raise macro.refuse(0, f"no line for {'high' if 'low' in macro.halves else 'low'}")
