@@ -128,14 +128,14 @@ CALLS: List[Call] = [
         says="collar: listed/files.f is the list of 't_collar_tb.sv', so nothing is written",
     ),
     Call(f"{COLLAR} vendor --model hidden.v", status=2, says="collar: s.pins:1: there is no module ram4x1 in /"),
-    Call(f"{COLLAR} vendor --model 'no such.v'", status=2, says="collar: --model: 'no such.v' is no file"),
+    Call(f"{COLLAR} vendor --model 'no such.v'", status=2, says="collar: --model: 'no such.v' is not a file"),
     Call(f"{COLLAR} vendor --model shown.v", prints="vendor/files.f", says="collar: not tested: ce: whether"),
     Call(f"{COLLAR} open --open", prints="open/s_collar.v\nopen/ram4x1.v\n", says="collar: not tested: ce: whether"),
     Call(f"{COLLAR} open --open --through apb", status=2, says="collar: use --open or --through, not both"),
     Call(
         "tools/collar s.mem --macro clash.pins none",
         status=2,
-        says="collar: clash.pins:1: 's_bist' is a module that stands",
+        says="collar: clash.pins:1: 's_bist' is a module beside the macro",
     ),
     Call(
         "tools/liberty few.lib RAM8X4 cells",

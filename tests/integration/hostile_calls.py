@@ -43,7 +43,7 @@ CALLS: List[Call] = [
     Call("tools/testbench loose.chip harm --chip", prints="harm/both_tb.v\n"),
     Call("tools/collar s.mem --macro loose.pins harm", prints="harm/ram.v\n", says="collar: not tested: we: whether"),
     Call("tools/collar s.mem --macro named.pins harm", status=2, says="collar: named.pins:1: the name of a pin"),
-    Call("tools/collar s.mem --macro tied.pins harm", status=2, says="collar: tied.pins:7: what an input is tied to"),
+    Call("tools/collar s.mem --macro tied.pins harm", status=2, says="collar: tied.pins:7: an input is tied to"),
     Call(
         f"tools/audit {RIGHT} --vcd 'latin\udce9.vcd'",
         status=2,
