@@ -45,7 +45,7 @@ CALLS: List[Call] = [
         says="access: a memory in its place keeps its first failure alone: leave out --log",
     ),
     Call(f"{IN_WHOLE} --unit 1", prints="cell: 1 cell in 1 read\n"),
-    Call(f"{IN_WHOLE} --unit 1 --second", prints="pair: 2 cells in 2 reads, and more came\n"),
+    Call(f"{IN_WHOLE} --unit 1 --second", prints="pair: 2 cells in 2 reads, and more followed\n"),
     Call(IN_WHOLE.replace("bitmap", "diagnosis") + " --unit 1", prints="at index 0 bit 0"),
     Call(f"{IN_WHOLE} --unit 8", status=2, says="bitmap: --unit is 0 to 7, and not 8"),
     Call(f"{IN_WHOLE} --unit 0", status=2, says="bitmap: joined.log: no line has 'unit 0 cycle C"),
