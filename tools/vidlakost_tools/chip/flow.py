@@ -6,6 +6,7 @@ import hashlib
 import os
 import pathlib
 import re
+from typing import ClassVar
 
 from vidlakost_tools.chip import text as system_text
 from vidlakost_tools.chip.system import Part, Placed, System
@@ -57,6 +58,9 @@ def plain(path: str) -> str:
 class Flow:
     """A chip, its files, and the folder of the makefile."""
 
+    # the folders that belong to no memory
+    FOLDERS: ClassVar[tuple[str, ...]] = ("chip",)
+
     system: System
     chip_file: str
     pins: list[str]
@@ -66,8 +70,9 @@ class Flow:
     clock_mux: str = ""
 
     def __post_init__(self) -> None:
-        if any(part.memory.name.lower() == "chip" for part in self.system.parts):
-            raise ToolError("a memory named chip would have the folder of the whole: rename it")
+        taken = next((part.memory.name for part in self.system.parts if part.memory.name.lower() in self.FOLDERS), None)
+        if taken:
+            raise ToolError(f"a memory named {taken} would have the folder of the whole: rename it")
         here, there = os.path.realpath("."), os.path.realpath(self.folder)
         self.root, self.out = plain(os.path.relpath(here, there)), plain(os.path.relpath(there, here))
 
@@ -208,6 +213,7 @@ class Flow:
             written=" ".join([*(f"chip/{name}" for name in written), *vendors]),
             models="".join(f" --model {self.beside(file)}" for file in self.vendors),
             modules=" ".join(modules),
+            timed=f"chip/{system.name}_access.v chip/{system.name}_test.sdc",
         )
 
     def known(self) -> str:
@@ -231,8 +237,7 @@ class Flow:
         return [(f"tester_{number}.html", f"{self.out}/chip/{name}.chip") for number, name in enumerate(names)]
 
     def pages(self) -> str:
-        reports = [f"{part.memory.name}.report" for part in self.bases()]
-        memories = [part.unit.memory_file for part in self.bases()]
+        reports, memories = self.reports(), [part.unit.memory_file for part in self.bases()]
         every = " ".join(f"$(OUT)/{report}" for report in reports)
         files = " ".join([*reports, *map(self.given, memories)])
         options = "".join(f" --memory {file}" for file in memories)
@@ -243,27 +248,40 @@ class Flow:
             text += TESTER.format(page=page, chip=chip, needs=needs, files=" ".join(read))
         return text
 
+    def steps(self) -> dict[str, list[str]]:
+        """The words for make, and the steps of each."""
+        of_each = {what: [f"{placed.word.name}/{what}" for placed in self.collars()] for what in ("passed", "gates")}
+        return {
+            "reports": [*self.reports(), "reports.html", *(page for page, _ in self.chips())],
+            "collars": of_each["passed"],
+            "gates": of_each["gates"],
+            "top": ["chip/passed"],
+            "lint": ["chip/lint.txt"],
+            "synthesis": ["chip/synthesis.txt"],
+            "access": ["chip/access"],
+            "sta": ["chip/sta.txt"],
+        }
+
+    def reports(self) -> list[str]:
+        return [f"{part.memory.name}.report" for part in self.bases()]
+
+    def described_by(self) -> list[str]:
+        """What the makefile is made from, beside descriptions: it is of these files as they are now."""
+        return [self.chip_file]
+
     def text(self) -> str:
         """The makefile."""
-        passed = " ".join(f"{placed.word.name}/passed" for placed in self.collars())
-        reports = " ".join(f"{part.memory.name}.report" for part in self.bases())
-        testers = "".join(f" {page}" for page, _ in self.chips())
-        gates = " ".join(f"{placed.word.name}/gates" for placed in self.collars())
-        steps = (
-            f"{reports} reports.html{testers} {passed} {gates} chip/made chip/passed chip/lint.txt chip/synthesis.txt"
-            " chip/access chip/sta.txt"
-        )
+        steps, made_from = self.steps(), [plain(path) for path in self.described_by()]
+        sums = {path: hashlib.sha256(pathlib.Path(path).read_bytes()).hexdigest() for path in made_from}
         head = HEAD.substitute(
             mark=MARK,
             name=self.system.name,
-            chip=plain(self.chip_file),
-            sum=hashlib.sha256(pathlib.Path(self.chip_file).read_bytes()).hexdigest(),
+            chip=" or ".join(made_from),
+            sums="".join(f' "{value}  {path}"' for path, value in sums.items()),
             root=self.root,
             out=self.out,
-            reports=reports,
-            testers=testers,
-            collars=passed,
-            gates=gates,
-            steps=steps,
+            kinds=" ".join(steps),
+            targets="\n".join(f"{word}: {' '.join(made)}" for word, made in steps.items()),
+            steps=" ".join(["chip/made", *(step for made in steps.values() for step in made)]),
         )
         return "".join([head, *self.compiled(), *self.collared(), self.whole(), self.pages()])

@@ -1,31 +1,44 @@
 """A makefile for a whole chip: controllers, collars, the top, testbenches, lint, synthesis and reports.
 
-usage: vidlakost flow CHIPFILE|LIST [PINS..] FOLDER [--list FAULTS] [--model FILE]..
+usage: vidlakost flow CHIPFILE|LIST [PINS..] FOLDER [--list FAULTS] [--model FILE].. [--in-place [--places FILE]]
                       [--clock-mux CELL:SELECT:CHIP:TEST:OUT]
        vidlakost flow --help
 
-The words are those of `vidlakost top`, and so is --clock-mux. Where no PINS are named, they are the files NAME.pins beside
-the description of each memory, or those there that tell a word of two memories. It writes to FOLDER
+The words are those of `vidlakost top`, and so are --clock-mux and --in-place. Where no PINS are named, they are the
+files NAME.pins beside the description of each memory, or those there that tell a word of two memories. It writes to
+FOLDER
     Makefile       the steps; names in it go from the folder that the tool runs in
     faults.list    the primitives of the reports: all, and DRF, where FAULTS names no list
     sta.known      the pins of macros of which OpenSTA may say something
 `make -j -C FOLDER` makes of each memory MEMORY.report and in a folder of its own the controller, the collar and its
-testbench, which passes and finds what it plants; the collar as gates of Yosys in the same testbench; in FOLDER/chip what `top`
-writes, its testbench, what Verilator's lint says (nothing), Yosys' netlist and count of cells, and what `access` writes
-with its testbenches; reports.html and a page for the tester. Lint and synthesis see of a macro its ports alone, so that no
-model has to please them. Words for `make`:
+testbench, which passes and finds what it plants; the collar as gates of Yosys in the same testbench; in FOLDER/chip
+what `top` writes, its testbench, what Verilator's lint says (nothing), Yosys' netlist and count of cells, and what
+`access` writes with its testbenches; reports.html and a page for the tester. Lint and synthesis see of a macro its
+ports alone, so that no model has to please them.
+
+With --in-place each memory has in the folder WORD the testbench of the module WORD_in_place, its gates in that, its
+lint, cells and timing; FOLDER/chip has the sequencer with the same, and what `access` writes with its testbenches,
+sound and with a wrong bit. FILE of --places is a text as `vidlakost places` takes it. Then FOLDER/places has the
+testbench of the chip, sound and with wrong bits, and its timing, and Yosys proves its use; `make places` is that
+step. There is no page for a tester.
+
+Words for `make`; a file that they name goes from FOLDER on:
     SIM=verilator    runs that in place of Icarus
-    MORE=..          what the simulator is told besides; LINT_MORE=.. what lint is, SYNTH_MORE=.. what Yosys is as it reads
-    LIBERTY=FILE     the library to whose cells Yosys maps; of their functions it makes the models for the runs of gates
+    MORE=..          what the simulator is told besides; LINT_MORE=.. what lint is, SYNTH_MORE=.. what Yosys is as it
+                     reads
+    LIBERTY=FILE     the library to whose cells Yosys maps; of their functions it makes the models for the runs of
+                     gates
     MACRO_LIBERTY=.. those of the macros: OpenSTA reads both with the constraints of `vidlakost sdc`, at MHZ=N (100)
     PARTS=N          so many runs side by side of what is planted in the whole
-Its status is that of the whole: a testbench passes where its last line says so. A step is run again unless each file that
-it reads or writes, and each that a simulator was seen to read, is as it was when the step was done; beside a model that
-opens files while it runs, as by $readmemh, it is run each time. Where the chip file is another by now no step is run,
-since the makefile is of the one that it was made from. Names have letters, digits and _./+@- alone."""
+Its status is that of the whole: a testbench passes where its last line says so. A step is run again unless each file
+that it reads or writes, and each that a simulator was seen to read, is as it was when the step was done; beside a
+model that opens files while it runs, as by $readmemh, it is run each time. Where the chip file or FILE is another by
+now no step is run, since the makefile is of the one that it was made from. Names have letters, digits and _./+@-
+alone."""
 from __future__ import annotations
 
 import pathlib
+from typing import Any
 
 from vidlakost_tools.chip import system as soc, text as system_text
 from vidlakost_tools.chip.flow import MARK, Flow
@@ -33,7 +46,10 @@ from vidlakost_tools.chip.system import System
 from vidlakost_tools.collar.clock_mux import clock_mux
 from vidlakost_tools.collar.vendor import modules_of, named, refuse_other_ports
 from vidlakost_tools.files import write_own
-from vidlakost_tools.tool import ToolError, words_of
+from vidlakost_tools.in_place import files as in_place_files
+from vidlakost_tools.in_place.flow import PlaceFlow
+from vidlakost_tools.in_place.place_list import inputs_of, read_places
+from vidlakost_tools.tool import ToolError, usage_of, words_of
 
 
 def pins_beside(system: System) -> list[str]:
@@ -53,39 +69,44 @@ def pins_beside(system: System) -> list[str]:
     return list(dict.fromkeys(map(str, found.values())))
 
 
+def vendors_of(system: System, options: dict[str, Any], is_placed: bool) -> dict[str, list[str]]:
+    """The files of --model and their modules, where these fit."""
+    vendors = {file: modules_of(file) for file in map(named, options.get("--model", []))}
+    modules = [name for names in vendors.values() for name in names]
+    refuse = in_place_files.refuse_modules if is_placed else system_text.refuse_modules
+    refuse(system, modules)
+    for file, names in vendors.items():
+        for macro in (placed.macro for placed in system.collars if placed.macro.name in names):
+            refuse_other_ports(macro, file)
+    return vendors
+
+
 def main(arguments: list[str]) -> int:
-    words, options = words_of(__doc__, arguments, {"--list": 1, "--model": [], "--clock-mux": 1}, 2)
-    path, *pins, folder = words
+    allowed: dict[str, int | list[str]] = {"--list": 1, "--model": [], "--clock-mux": 1, "--in-place": 0, "--places": 1}
+    (path, *pins, folder), options = words_of(__doc__, arguments, allowed, 2)
+    is_placed = "--in-place" in options
+    if "--places" in options and not is_placed:
+        raise ToolError(f"--places is of memories in their places, and stands beside --in-place\n{usage_of(__doc__)}")
     system = soc.read_system(path)
     pins = pins or pins_beside(system)
     soc.give_collars(system, pins)
-    soc.planned(system, path)
-    vendors = {file: modules_of(file) for file in map(named, options.get("--model", []))}
-    system_text.refuse_modules(system, [name for modules in vendors.values() for name in modules])
-    for file, modules in vendors.items():
-        for macro in (placed.macro for placed in system.collars if placed.macro.name in modules):
-            refuse_other_ports(macro, file)
-    system_text.refuse_names(system)
+    if not is_placed:
+        soc.planned(system, path)
+    vendors = vendors_of(system, options, is_placed)
+    if not is_placed:
+        system_text.refuse_names(system)
     if "--clock-mux" in options:
         clock_mux(options["--clock-mux"])
     out = pathlib.Path(folder)
-    flow = Flow(
-        system,
-        path,
-        pins,
-        options.get("--list", str(out / "faults.list")),
-        out,
-        vendors,
-        options.get("--clock-mux", ""),
-    )
+    told = (system, path, pins, options.get("--list", str(out / "faults.list")), out, vendors)
+    mux = options.get("--clock-mux", "")
+    places = read_places(options["--places"], system) if "--places" in options else None
+    flow = PlaceFlow(*told, mux, places) if is_placed else Flow(*told, mux)
     texts = {"Makefile": flow.text(), "sta.known": flow.known()}
     if "--list" not in options:
         texts["faults.list"] = f"{MARK}\nall\nDRF\n"
-    inputs = [
-        path,
-        *pins,
-        *vendors,
-        *(name for part in system.parts for name in (part.unit.march, part.unit.memory_file)),
-    ]
-    write_own(out, texts, [*inputs, *([options["--list"]] if "--list" in options else [])])
+    inputs = [path, *pins, *vendors, *([options["--list"]] if "--list" in options else [])]
+    inputs += [name for part in system.parts for name in (part.unit.march, part.unit.memory_file)]
+    inputs += [places.path, *inputs_of(places)] if places else []
+    write_own(out, texts, inputs)
     return 0

@@ -3,6 +3,7 @@
 usage: vidlakost sdc MEMORY|CHIPFILE FOLDER --mhz F [--normal-mhz F] [--apb | --jtag] [--bus-mhz F] [--share S]
                      [--falling]
        vidlakost sdc LIST|CHIPFILE PINS.. FOLDER .. with the same options
+       vidlakost sdc LIST|CHIPFILE PINS.. FOLDER --in-place [--clock MEMORY=F].. [--places FILE] .. but for --falling
        vidlakost sdc --help
 
 It writes to FOLDER two files for the module NAME_access, or NAME_apb, or NAME_tap:
@@ -12,32 +13,51 @@ It writes to FOLDER two files for the module NAME_access, or NAME_apb, or NAME_t
 --mhz is the clock of the test, --normal-mhz that of normal use (the same where it is left out), --bus-mhz that of the
 bus (20). The other side of a port takes the share S of a period, 0.4 where nothing is said. With --falling the memories
 answer at the falling edge, and half a period is left for their words. With PINS the files are of the whole chip that
-`vidlakost top` joins: its pins are of the clock of their port, and each further clock of the chip's is one by itself. The clock of a bus is asynchronous to that of the
-memories."""
+`vidlakost top` joins: its pins are of the clock of their port, and each further clock of the chip's is one by itself.
+The clock of a bus is asynchronous to that of the memories.
+
+With --in-place the files are of the memories that `vidlakost top --in-place` left in their places. NAME_test.sdc and
+NAME_normal.sdc are of the sequencer NAME_access, or of the module of its bus. There are two files more of each memory:
+    WORD_in_place_test.sdc, WORD_in_place_normal.sdc
+                             of the module WORD_in_place: each of its clocks, and its pins by the clock of their port
+--clock says that a memory has another clock than the sequencer. With --places, a text as `vidlakost places` takes it,
+there are two files of the chip itself:
+    NAME_chip_test.sdc, NAME_chip_normal.sdc
+                             with the periods that the text tells. What goes from one clock to another has at most a
+                             period of the clock that takes it. Each port of the chip is timed by each clock, since
+                             nothing tells by which it is used"""
 from __future__ import annotations
 
 import pathlib
 import re
 from typing import Any
 
-from vidlakost_tools.access.target import Target, is_chip_file, is_list
 from vidlakost_tools.access.constraints import Timing, constraints
+from vidlakost_tools.access.target import Target, is_chip_file, is_list
 from vidlakost_tools.chip import access as system_access, system as soc
 from vidlakost_tools.files import marked, write_own
+from vidlakost_tools.in_place import constraints as in_place
+from vidlakost_tools.in_place.place_list import inputs_of, read_places
+from vidlakost_tools.in_place.sequencer import of_places
 from vidlakost_tools.text import shown
 from vidlakost_tools.texts.chip import read_chip
 from vidlakost_tools.texts.memory import read_memory
 from vidlakost_tools.tool import ToolError, usage_of, words_of
 
+# the options of memories in their places
+PLACED = ("--clock", "--places")
 
-def positive(options: dict[str, Any], name: str, usual: float) -> float:
-    """A number above 0 behind an option."""
-    text = options.get(name)
-    if text is None:
-        return usual
+
+def number(name: str, text: str) -> float:
+    """A number above 0."""
     if not re.fullmatch(r"[0-9]{1,6}(\.[0-9]{1,6})?", text) or not float(text):
         raise ToolError(f"{name} is a number above 0, and not {shown(text)}")
     return float(text)
+
+
+def positive(options: dict[str, Any], name: str, usual: float) -> float:
+    """A number above 0 behind an option."""
+    return number(name, options[name]) if name in options else usual
 
 
 def target_of(path: str, pins: list[str]) -> Target:
@@ -53,19 +73,58 @@ def target_of(path: str, pins: list[str]) -> Target:
     return Target.of_memory(read_memory(path), None)
 
 
+def clocks_of(options: dict[str, Any], names: list[str]) -> dict[str, float]:
+    """The clocks of memories in megahertz, as --clock tells them."""
+    found: dict[str, float] = {}
+    for text in options.get("--clock", []):
+        name, _, mhz = text.partition("=")
+        if name not in names:
+            raise ToolError(f"--clock is MEMORY=F, where the memories are {', '.join(names)}, and not {shown(text)}")
+        if name in found:
+            raise ToolError(f"--clock tells the clock of {name} twice")
+        found[name] = number(f"the clock of {name}", mhz)
+    return found
+
+
+def texts_in_place(
+    path: str, pins: list[str], kind: str, timing: Timing, options: dict[str, Any]
+) -> tuple[dict[str, str], list[str]]:
+    """The files of memories in their places, and what was read for them."""
+    if not pins:
+        raise ToolError(f"of memories in their places the files of pins are wanted\n{usage_of(__doc__)}")
+    if timing.is_falling:
+        raise ToolError("--falling is of ports towards the memories, and in their places these stand inside")
+    system = soc.read_system(path)
+    soc.give_collars(system, pins)
+    target = of_places(system)
+    places = read_places(options["--places"], system) if "--places" in options else None
+    clocks = clocks_of(options, list(dict.fromkeys(placed.word.name for placed in system.collars)))
+    read = [options["--places"], *inputs_of(places)] if places else []
+    return in_place.texts(target, places, kind, timing, clocks), read
+
+
 def main(arguments: list[str]) -> int:
-    allowed = {"--mhz": 1, "--normal-mhz": 1, "--bus-mhz": 1, "--share": 1, "--apb": 0, "--jtag": 0, "--falling": 0}
+    allowed: dict[str, int | list[str]] = dict.fromkeys(
+        ("--mhz", "--normal-mhz", "--bus-mhz", "--share", "--places"), 1
+    )
+    allowed.update({"--apb": 0, "--jtag": 0, "--falling": 0, "--in-place": 0, "--clock": []})
     (path, *pins, folder), options = words_of(__doc__, arguments, allowed, 2, None)
     if "--mhz" not in options or {"--apb", "--jtag"} <= set(options):
         raise ToolError(f"--mhz is wanted, and one of --apb and --jtag at most\n{usage_of(__doc__)}")
+    alone = next((name for name in PLACED if name in options and "--in-place" not in options), None)
+    if alone:
+        raise ToolError(f"{alone} is of memories in their places, and stands beside --in-place\n{usage_of(__doc__)}")
     test, share = positive(options, "--mhz", 0), positive(options, "--share", 0.4)
     if share >= 1:
         raise ToolError(f"--share is below 1, and not {share:g}")
     normal, bus = positive(options, "--normal-mhz", test), positive(options, "--bus-mhz", 20)
     timing = Timing(test, normal, bus, share, "--falling" in options)
     kind = "apb" if "--apb" in options else "tap" if "--jtag" in options else "access"
-    target, out = target_of(path, pins), pathlib.Path(folder)
-    cases = (("test", True), ("normal", False))
-    texts = {f"{target.name}_{name}.sdc": constraints(target, kind, timing, in_test) for name, in_test in cases}
-    write_own(out, marked("sdc", texts), [path, *pins])
+    if "--in-place" in options:
+        texts, read = texts_in_place(path, pins, kind, timing, options)
+    else:
+        target, read = target_of(path, pins), []
+        cases = (("test", True), ("normal", False))
+        texts = {f"{target.name}_{name}.sdc": constraints(target, kind, timing, in_test) for name, in_test in cases}
+    write_own(pathlib.Path(folder), marked("sdc", texts), [path, *pins, *read])
     return 0

@@ -5,7 +5,7 @@ from __future__ import annotations
 from typing import Callable
 
 from vidlakost_tools.access import tap
-from vidlakost_tools.access.target import zero
+from vidlakost_tools.access.target import extended, zero
 from vidlakost_tools.collar.liberty import Found
 from vidlakost_tools.collar.names import MARK
 from vidlakost_tools.collar.text import PLANTED
@@ -122,17 +122,20 @@ class ChipBench:
         cases = []
         for number, placed in enumerate(self.system.collars):
             kept, bits = self.net(number, "first"), placed.word.bits
-            words = [f"{kept}[{CYCLE + bits - 1}:{CYCLE}]", f"{kept}[{CYCLE + 2 * bits - 1}:{CYCLE + bits}]"]
+            places_of = (f"{CYCLE + bits - 1}:{CYCLE}", f"{CYCLE + 2 * bits - 1}:{CYCLE + bits}")
+            words = [extended(f"{kept}[{place}]", bits, target.word) for place in places_of]
             asked = f"when_read !== {kept}[{CYCLE - 1}:0] || wanted !== {words[0]} || got !== {words[1]}"
             told = f'"{target.name}: memory {number} has kept %h", {kept}'
             cases.append(f"        {number}: if ({asked})\n          $fatal(1, {told});")
         way = TAP if places.has_tap else SIGNALS
+        values["whose"] = extended(f"dut.{places.access}.unit", target.unit_bits, 32)
         if places.has_tap:
             at = {part.name: part.bits for part in tap.parts(target)}
             size = tap.length(target)
             values.update(last=size - 1, length=size, rest=size - self.count, identity=target.identity)
-            values.update({name: at[name] for name in ("failing", "unit", "cycle")})
+            values.update({name: at[name] for name in ("failing", "cycle")})
             values.update(wanted=at["expected"], got=at["returned"])
+            values["whose"] = extended(f"heard{at['unit']}", target.unit_bits, 32)
         return FIRST.format(cases="\n".join(cases), **values) + way.format(**values)
 
     def faults(self) -> str:

@@ -12,6 +12,7 @@ from vidlakost_tools.collar.planted import also
 from vidlakost_tools.collar.text import PLANTED
 from vidlakost_tools.in_place.text import CYCLE
 from vidlakost_tools.text import template
+from vidlakost_tools.tool import ToolError
 from vidlakost_tools.verilog.syntax import ranged
 
 ABOUT = template(__file__, "sequencer_about.sv")
@@ -70,6 +71,9 @@ def length(placed: Placed) -> int:
 
 def of_places(system: System) -> PlaceTarget:
     """The target of memories in their places."""
+    shared = next((part.memory.name for part in system.parts if part.is_shared), None)
+    if shared:
+        raise ToolError(f"{shared} is shared, and in its place each memory has a controller of its own: leave it out")
     numbers = {id(placed): number for number, placed in enumerate(system.collars)}
     found = groups_of(system, system.collars, len(system.parts))
     groups = [sorted(numbers[id(placed)] for placed in group) for group in found]

@@ -11,12 +11,7 @@ chip/sta.txt: chip/access FORCE
 ifeq ($(and $(CELLS),$(TIMED),$(MADE)),)
 	@echo "{name}: the timing is looked at where LIBERTY names cells, and sta and yosys are installed" | tee $@
 else
-	@$(call kept,$@,{written} $(CELLS) $(MACRO_CELLS) $@) || {{ $(call again,$@); \
-	  (cd chip && yosys -q -p "read_verilog $(SYNTH_MORE) -lib {name}_boxes.v; read_verilog $(SYNTH_MORE) {name}_access.v {modules}; \
-	  synth -flatten -top {name}_access; $(mapped); splitnets -ports; clean; write_verilog -noattr {name}_access_gates.v" >sta.log 2>&1 && \
-	  {{ for file in $(CELLS) $(MACRO_CELLS); do echo "read_liberty $$file"; done; \
-	  printf '%s\n' "read_verilog {name}_access_gates.v" "link_design {name}_access" "read_sdc {name}_test.sdc" \
-	  "check_setup -verbose" "report_checks -format summary"; }} >sta.tcl && \
-	  sta -no_splash -exit sta.tcl >sta.txt 2>&1 && ! $(untimed) || {{ tail -n 5 sta.log sta.txt; exit 1; }}) && \
-	  $(call done,$@,{written} $(CELLS) $(MACRO_CELLS) $@); }}
+	@$(call kept,$@,{written} {timed} $(CELLS) $(MACRO_CELLS) sta.known $@) || {{ $(call again,$@); \
+	  (cd chip && $(call timed,{name}_access,{name}_access.v {modules},{name}_boxes.v,{name}_test.sdc,../sta.known)) && \
+	  $(call done,$@,{written} {timed} $(CELLS) $(MACRO_CELLS) sta.known $@); }}
 endif

@@ -20,10 +20,10 @@ LINTED := $(shell command -v verilator)
 MADE := $(shell command -v yosys)
 TIMED := $(shell command -v sta)
 
-.PHONY: all reports collars gates top lint synthesis access sta clean FORCE
+.PHONY: all @@{kinds} clean FORCE
 .DELETE_ON_ERROR:
 
-all: reports collars gates top lint synthesis access sta
+all: @@{kinds}
 	@echo "@@{name}: every step is done"
 
 # A step is run again unless each file that it reads or writes is as it was when the step was done, whatever its date: beside
@@ -38,7 +38,8 @@ done = { $(call opens,$(1)) || $(call sums,$(1),$(2)) >$(1).sums; }
 
 # the steps are those of this chip file as it was when the makefile was written
 FORCE:
-	@cd $(ROOT) && echo "@@{sum}  @@{chip}" | sha256sum -c --status 2>/dev/null || 	  { echo "@@{name}: @@{chip} is another than the one that this makefile is of: run vidlakost flow again" >&2; exit 1; }
+	@cd $(ROOT) && printf '%s\n'@@{sums} | sha256sum -c --status 2>/dev/null || { \
+	  echo "@@{name}: @@{chip} is another than the one that this makefile is of: run vidlakost flow again" >&2; exit 1; }
 
 # in a folder with files.f: the testbench, sound and with what it plants; each passes where its last line says so, and only there
 ifeq ($(SIM),verilator)
@@ -62,7 +63,9 @@ CELLS := $(if $(LIBERTY),$(abspath $(LIBERTY)))
 MACRO_CELLS := $(if $(MACRO_LIBERTY),$(abspath $(MACRO_LIBERTY)))
 # without a library of the macros what they answer has no time, and OpenSTA says so; with one it may tell of the pins of the
 # macros in sta.known alone: those that are tied, and the clocks that the test chooses
-untimed = { grep -E "^Error|port .* not found" sta.txt || { test -n "$(MACRO_CELLS)" && {   grep "^Warning" sta.txt | grep -vE "pins? with multiple clocks|unconstrained endpoint" ||   grep "^  [^ ]" sta.txt | grep -vxF -f ../sta.known; }; }; }
+untimed = { grep -E "^Error|port .* not found" sta.txt || { test -n "$(MACRO_CELLS)" && { \
+  grep "^Warning" sta.txt | grep -vE "pins? with multiple clocks|unconstrained endpoint" || \
+  grep "^  [^ ]" sta.txt | grep -vxF -f $(1); }; }; }
 # behind that Yosys is told which pins of the cells are outputs, or it would find that nothing drives what they drive
 mapped = $(if $(CELLS),dfflibmap -liberty $(CELLS); abc -liberty $(CELLS); clean; read_liberty -lib -ignore_miss_func $(CELLS))
 counted = stat $(if $(CELLS),-liberty $(CELLS))
@@ -70,16 +73,25 @@ modelled = $(if $(CELLS),read_liberty -ignore_miss_func $(CELLS); write_verilog 
 # a flip-flop begins with a bit by chance: gates of a few kinds hand an unknown one on where the module does not
 drawn = sed -i 's/^  reg \([A-Za-z_0-9]*\);/  reg \1 = $$random;/' cells.v
 # the netlist of the module $(1), of the files $(2) beside the boxes $(3): simulated as the module was, but for what is planted
-netlist = yosys -q -p "read_verilog $(SYNTH_MORE) -lib $(3); read_verilog $(SYNTH_MORE) $(2); synth -flatten -top $(1); $(mapped);   check -assert; write_verilog -noattr $(1)_gates.v" >gates.log 2>&1 &&   $(if $(CELLS),yosys -q -p "$(modelled)" >>gates.log 2>&1 && $(drawn),true) || { tail -n 5 gates.log; exit 1; }
+netlist = yosys -q -p "read_verilog $(SYNTH_MORE) -lib $(3); read_verilog $(SYNTH_MORE) $(2); \
+  synth -flatten -top $(1); $(mapped); check -assert; write_verilog -noattr $(1)_gates.v" >gates.log 2>&1 && \
+  $(if $(CELLS),yosys -q -p "$(modelled)" >>gates.log 2>&1 && $(drawn),true) || { tail -n 5 gates.log; exit 1; }
+# what other tools say of the module $(1) of the files $(2) beside the boxes $(3): what lint does, and how many cells it takes
+linted = verilator --lint-only -Wall -Wno-DECLFILENAME $(LINT_MORE) --top-module $(1) $(2) $(3) >lint.txt 2>&1 || \
+  { cat lint.txt; exit 1; }
+synthesized = yosys -q -E synthesis.d -p "read_verilog $(SYNTH_MORE) -lib $(3); read_verilog $(SYNTH_MORE) $(2); \
+  synth -top $(1); $(mapped); check -assert; write_verilog -noattr $(1)_cells.v; \
+  tee -q -o synthesis.txt $(counted)" >synthesis.log 2>&1 || { tail -n 5 synthesis.log; exit 1; }; \
+  sed 's/^[^:]*: //' synthesis.d | xargs -n 1 >synthesis.txt.read
+# that module as cells, by the constraints $(4) in OpenSTA, which may tell of the pins of macros in the list $(5) alone
+timed = rm -f sta.txt && yosys -q -p "read_verilog $(SYNTH_MORE) -lib $(3); read_verilog $(SYNTH_MORE) $(2); synth -flatten -top $(1); \
+  $(mapped); splitnets -ports; clean; write_verilog -noattr $(1)_timed.v" >sta.log 2>&1 && \
+  { for file in $(CELLS) $(MACRO_CELLS); do echo "read_liberty $$file"; done; \
+  printf '%s\n' "read_verilog $(1)_timed.v" "link_design $(1)" "read_sdc $(4)" \
+  "check_setup -verbose" "report_checks -format summary"; } >sta.tcl && \
+  sta -no_splash -exit sta.tcl >sta.txt 2>&1 && ! $(call untimed,$(5)) || { tail -n 5 sta.log; head -n 12 sta.txt 2>/dev/null; exit 1; }
 
-reports: @@{reports} reports.html@@{testers}
-collars: @@{collars}
-gates: @@{gates}
-top: chip/passed
-lint: chip/lint.txt
-access: chip/access
-sta: chip/sta.txt
-synthesis: chip/synthesis.txt
+@@{targets}
 
 clean:
 	rm -f -- $(foreach step,@@{steps},$(step) $(step).sums $(step).read)

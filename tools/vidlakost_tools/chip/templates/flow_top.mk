@@ -13,8 +13,7 @@ chip/passed: chip/made FORCE
 chip/lint.txt: chip/made FORCE
 ifneq ($(LINTED),)
 	@$(call kept,$@,{written} $@) || {{ $(call again,$@); \
-	  (cd chip && verilator --lint-only -Wall -Wno-DECLFILENAME $(LINT_MORE) --top-module {name}_system {modules} {name}_boxes.v \
-	  >lint.txt 2>&1 || {{ cat lint.txt; exit 1; }}) && $(call done,$@,{written} $@); }}
+	  (cd chip && $(call linted,{name}_system,{modules},{name}_boxes.v)) && $(call done,$@,{written} $@); }}
 else
 	@echo "{name}: verilator is not installed, so nothing is linted" | tee $@
 endif
@@ -22,11 +21,7 @@ endif
 chip/synthesis.txt: chip/made FORCE
 ifneq ($(MADE),)
 	@$(call kept,$@,{written} $(CELLS) $@) || {{ $(call again,$@); \
-	  (cd chip && yosys -q -E synthesis.d -p "read_verilog $(SYNTH_MORE) -lib {name}_boxes.v; read_verilog $(SYNTH_MORE) {modules}; \
-	  synth -top {name}_system; $(mapped); check -assert; write_verilog -noattr {name}_system_gates.v; \
-	  tee -q -o synthesis.txt $(counted)" >synthesis.log 2>&1 || {{ tail -n 5 synthesis.log; exit 1; }}; \
-	  sed 's/^[^:]*: //' synthesis.d | xargs -n 1 >synthesis.txt.read) && \
-	  $(call done,$@,{written} $(CELLS) $@); }}
+	  (cd chip && $(call synthesized,{name}_system,{modules},{name}_boxes.v)) && $(call done,$@,{written} $(CELLS) $@); }}
 else
 	@echo "{name}: yosys is not installed, so nothing is synthesized" | tee $@
 endif

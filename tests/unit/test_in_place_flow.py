@@ -1,0 +1,172 @@
+"""Timing constraints and the makefile of memories that stay where they are: each port is told, each clock is one by
+itself, and OpenSTA may tell of those pins alone to which no path goes."""
+from __future__ import annotations
+
+import os
+import pathlib
+import re
+import unittest
+
+from vidlakost_tools.access.constraints import Timing
+from vidlakost_tools.chip import system as soc
+from vidlakost_tools.collar.port_list import Ports
+from vidlakost_tools.commands import flow as flow_command, sdc
+from vidlakost_tools.in_place import constraints
+from vidlakost_tools.in_place.flow import PlaceFlow
+from vidlakost_tools.in_place.place_list import Places, read_places
+from vidlakost_tools.in_place.sequencer import PlaceTarget, of_places
+from vidlakost_tools.in_place.text import InPlace
+from vidlakost_tools.program import ROOT, quick_program
+from vidlakost_tools.tool import ToolError
+
+LIST = "examples/in_place/camera.list"
+PLACES = "examples/in_place/camera.places"
+PINS = [f"examples/joins/{name}.pins" for name in ("late", "left", "low", "masked", "kept")]
+TIMING = Timing(100, 80, 20, 0.4, False)
+# a chip whose test is started by ports of its own, by one clock
+CHIP = "module camera(input clk, input go, input [1:0] x, output over, output [5:0] bad, output y); endmodule\n"
+
+
+def told(text: str, *commands: str) -> list[str]:
+    """The ports that these commands name, each as often as they do."""
+    found: list[str] = []
+    for line in text.splitlines():
+        if line.split()[:1] and line.split()[0] in commands:
+            names = re.search(r"get_ports (?:\{(.*?)\}|(\w+))", line)
+            found += [name.replace("[*]", "") for name in (names[1] or names[2]).split()] if names else []
+    return found
+
+
+def ports_in(text: str, module: str, way: str) -> set[str]:
+    """The ports of a module, as the reader of port lists has them."""
+    return {port.name for port in Ports("a", text, module).ports() if port.way == way}
+
+
+@unittest.skipUnless(quick_program(), "no program is here that answers at once")
+class InPlaceFlow(unittest.TestCase):
+    """All of these read the examples from the root."""
+
+    def setUp(self) -> None:
+        before = os.getcwd()
+        os.chdir(ROOT)
+        self.addCleanup(os.chdir, before)
+        system = soc.read_system(LIST)
+        soc.give_collars(system, PINS)
+        self.target: PlaceTarget = of_places(system)
+        self.places: Places = read_places(PLACES, system)
+
+    def texts(self, kind: str = "access") -> dict[str, str]:
+        return constraints.texts(self.target, self.places, kind, TIMING, {"low": 125.0})
+
+    # ---- the constraints
+
+    def is_told(self, text: str, inputs: set[str], outputs: set[str]) -> None:
+        """Each input is a clock or has a delay, each output has one, and no other port is named."""
+        inward = {*told(text, "create_clock"), *told(text, "set_input_delay")}
+        self.assertEqual(inward, inputs)
+        self.assertEqual(set(told(text, "set_output_delay")), outputs)
+
+    def test_each_port_of_a_module(self) -> None:
+        for placed in self.target.system.collars:
+            made, name = InPlace(placed.macro, placed.word), f"{placed.word.name}_in_place"
+            ports = {way: {port for side, _, port in made.ports() if side == way} for way in ("input", "output")}
+            for case in ("test", "normal"):
+                self.is_told(self.texts()[f"{name}_{case}.sdc"], ports["input"], ports["output"])
+
+    def test_each_port_of_the_sequencer(self) -> None:
+        module = re.sub("`.*", "", self.target.module())
+        inputs, outputs = (ports_in(module, "camera_access", way) for way in ("input", "output"))
+        self.assertIn("of_5", inputs)
+        self.is_told(self.texts()["camera_test.sdc"], inputs, outputs)
+
+    def test_each_port_of_a_chip(self) -> None:
+        ports = {way: {port.name for port in self.places.ports if port.way == way} for way in ("input", "output")}
+        self.is_told(self.texts()["camera_chip_test.sdc"], ports["input"], ports["output"])
+
+    def test_clocks(self) -> None:
+        """By the pins of left: qb, ceb and ab are of clkb, and clkc is a clock by itself; low has another clock."""
+        left, low = self.texts()["left_in_place_test.sdc"], self.texts()["low_in_place_test.sdc"]
+        self.assertIn("set_clock_groups -asynchronous -group clka -group clkb -group clkc\n", left)
+        self.assertIn("set_input_delay 4 -clock clkb [get_ports {ceb ab[*]}]\n", left)
+        self.assertIn("set_output_delay 4 -clock clkb [get_ports {qb[*]}]\n", left)
+        self.assertIn("create_clock -name clk -period 8 [get_ports {clk}]\n", low)
+        self.assertNotIn("set_clock_groups", low)
+        self.assertIn("-period 12.5 ", self.texts()["late_in_place_normal.sdc"])
+
+    def test_crossing(self) -> None:
+        """What goes to a clock has a period of that, from whichever other one; the TAP is cut from all."""
+        text = self.texts()["camera_chip_test.sdc"]
+        for clock, period, others in (("clk", 10, "dot_clk bus_clk"), ("bus_clk", 8, "clk dot_clk")):
+            self.assertIn(f"set_max_delay {period} -from [get_clocks {{{others}}}] -to [get_clocks {clock}]\n", text)
+            self.assertIn(f"set_false_path -hold -from [get_clocks {{{others}}}] -to [get_clocks {clock}]\n", text)
+        self.assertIn("set_clock_groups -asynchronous -group tck -group {clk dot_clk bus_clk}\n", text)
+        self.assertIn("set_case_analysis 0 [get_ports {scan_mode}]\n", text)
+        self.assertNotIn("get_nets", text)
+        self.assertIn("[get_nets {back/sums/test}]", self.texts()["camera_chip_normal.sdc"])
+
+    def test_started_by_ports(self) -> None:
+        """What starts the test comes of any clock; with one clock nothing crosses."""
+        places = Places("a", "camera", ports=Ports("a", CHIP, "camera").ports())
+        places.clocks, places.start = {"clk": 20}, {"start": "go", "done": "over", "fail": "bad"}
+        text = constraints.chip(self.target, places, TIMING, True)
+        self.is_told(text, {"clk", "go", "x"}, {"over", "bad", "y"})
+        self.assertIn("set_input_delay 0 -clock clk -add_delay [get_ports {go}]\n", text)
+        self.assertIn("set_false_path -hold -from [get_ports {go}]\n", text)
+        self.assertNotIn("set_max_delay", text)
+
+    def test_generated(self) -> None:
+        self.assertEqual(constraints.instance("core.bank[2].word.mem"), "core/bank[2].word/mem")
+
+    # ---- the words
+
+    def refused(self, why: str, *words: str) -> None:
+        main = flow_command.main if words[0] == "flow" else sdc.main
+        with self.assertRaisesRegex(ToolError, why):
+            main(list(words[1:]))
+
+    def test_words(self) -> None:
+        common = ("sdc", LIST, *PINS, "none", "--mhz", "50")
+        self.refused("--places is of memories in their places", *common, "--places", PLACES)
+        self.refused("--clock is of memories in their places", *common, "--clock", "low=9")
+        self.refused("--clock is MEMORY=F, where the memories are late, left", *common, "--in-place", "--clock", "x=9")
+        self.refused("the clock of low twice", *common, "--in-place", "--clock", "low=9", "--clock", "low=8")
+        self.refused("the clock of low is a number above 0", *common, "--in-place", "--clock", "low=-9")
+        self.refused("--falling is of ports towards the memories", *common, "--in-place", "--falling")
+        self.refused("the files of pins are wanted", "sdc", LIST, "none", "--mhz", "50", "--in-place")
+        self.refused("--places is of memories in their places", "flow", LIST, *PINS, "none", "--places", PLACES)
+
+    # ---- the makefile
+
+    def flow(self, places: Places | None) -> PlaceFlow:
+        folder = pathlib.Path("build/flow")
+        return PlaceFlow(self.target.system, LIST, PINS, "all.list", folder, {}, "", places)
+
+    def test_steps(self) -> None:
+        words = ["late", "left", "low", "masked", "kept"]
+        steps = self.flow(self.places).steps()
+        self.assertEqual(steps["collars"], [f"{word}/passed" for word in words])
+        self.assertEqual(steps["places"], ["places/passed"])
+        self.assertEqual(steps["sta"], [f"{word}/sta.txt" for word in [*words, "chip", "places"]])
+        self.assertNotIn("places", self.flow(None).steps())
+        text = self.flow(self.places).text()
+        for step in (step for made in steps.values() for step in made):
+            self.assertEqual(len(re.findall(rf"^{re.escape(step)}: .*FORCE$", text, re.MULTILINE)), 1, step)
+
+    def test_known(self) -> None:
+        """By the pins mode and stby of kept are tied, and clkb and clkc of left have another clock in test."""
+        lines = self.flow(self.places).known().splitlines()[1:]
+        self.assertEqual(lines[:2], ["left:  collar.memory/clkb", "left:  collar.memory/clkc"])
+        pins = ["mode", "mode[0]", "mode[1]", "stby", "stby[0]"]
+        self.assertEqual(lines[2:7], [f"kept:  collar.memory/{pin}" for pin in pins])
+        self.assertEqual(lines[7], "places:  front.line.collar.memory/clkb")
+        self.assertEqual(lines[9:], [f"places:  back.sums.collar.memory/{pin}" for pin in pins])
+
+    def test_folders(self) -> None:
+        """A memory can't have a folder of the whole."""
+        self.target.system.parts[0].memory.name = "places"
+        with self.assertRaisesRegex(ToolError, "a memory named places would have the folder of the whole"):
+            self.flow(None)
+
+
+if __name__ == "__main__":
+    unittest.main()
