@@ -10,6 +10,7 @@ import re
 from typing import Iterable
 
 from vidlakost_tools.access.target import is_chip_file
+from vidlakost_tools.chip.sharing import follow, share
 from vidlakost_tools.collar.pin_lines import is_name, read_macro
 from vidlakost_tools.verilog.reserved_words import RESERVED
 from vidlakost_tools.collar.pins import Macro, Word
@@ -28,7 +29,8 @@ HEADS = {"list": "list 1", "name": "name NAME", "budget": "budget N"}
 @dataclasses.dataclass
 class Part:
     """A memory of the whole: its name, the description that it is an instance of, its number among equal ones, and its
-    unit; then the number of its chip file, and its place there."""
+    unit; then the number of its chip file, and its place there. Where its line says so, equal memories share a
+    controller: how many of them, and whose the unit is."""
 
     name: str
     memory: Memory
@@ -36,6 +38,14 @@ class Part:
     unit: Unit
     chip: int = 0
     place: int = 0
+    is_shared: bool = False
+    shares: int = 1
+    leader: Part | None = dataclasses.field(default=None, compare=False)
+
+    @property
+    def weight(self) -> int:
+        """What it weighs by itself."""
+        return self.unit.weight // self.shares
 
 
 @dataclasses.dataclass
@@ -68,8 +78,9 @@ class System:
         return f"{self.name}_{chip}" if self.is_list else self.name
 
     def of_chip(self, chip: int) -> list[Part]:
-        """The memories of a chip file, in its order."""
-        return sorted((part for part in self.parts if part.chip == chip), key=lambda part: part.place)
+        """The memories of a chip file, in its order; of those that share a controller the first."""
+        own = (part for part in self.parts if part.chip == chip and part.leader is None)
+        return sorted(own, key=lambda part: part.place)
 
 
 # ---- reading
@@ -77,8 +88,8 @@ class System:
 
 def unit_of(path: str, line: int, words: list[str]) -> tuple[Unit, int | None]:
     """The unit of a line of a list, and how many of it there are."""
-    if len(words) not in (3, 5) or words[3:4] not in ([], ["instances"]):
-        raise ToolError(f"{path}:{line}: a line is unit WEIGHT MARCH MEMORY [instances N]")
+    if len(words) not in (3, 5, 6) or words[3:4] not in ([], ["instances"]) or words[5:] not in ([], ["shared"]):
+        raise ToolError(f"{path}:{line}: a line is unit WEIGHT MARCH MEMORY [instances N [shared]]")
     count = number_of(words[4], f"{path}:{line}: instances", 1) if words[3:] else None
     weight = number_of(words[0], f"{path}:{line}: a weight", 1)
     if (count or 1) > OF_LIST:
@@ -112,7 +123,9 @@ def read_list(path: str) -> System:
             )
         for number in range(count or 1):
             name = base if count is None else f"{base}_{number}"
-            parts.append(Part(name, unit.memory, None if count is None else number, dataclasses.replace(unit)))
+            part = Part(name, unit.memory, None if count is None else number, dataclasses.replace(unit))
+            part.is_shared = words[-1] == "shared"
+            parts.append(part)
     return checked(path, said, parts)
 
 
@@ -196,6 +209,7 @@ def give_collars(system: System, files: list[str]) -> None:
         )
     order = {part.name: number for number, part in enumerate(system.parts)}
     system.collars.sort(key=lambda placed: order[placed.name])
+    share(system)
     for placed in system.collars:
         first = placed.parts[0].unit.elements
         if any([one.text for one in part.unit.elements] != [one.text for one in first] for part in placed.parts):
@@ -278,9 +292,10 @@ def place_list(system: System) -> list[list[Part]]:
     """The memories in chips of at most sixteen, the parts of a word in one group: a chip ends where the next group has
     no room in it. Those with a second port have chips of their own, since these run twice."""
     chips: list[list[Part]] = []
+    led = [placed for placed in system.collars if placed.parts[0].leader is None]
     for second in (False, True):
         batch: list[Placed] = []
-        for group in groups_of(system, [placed for placed in system.collars if placed.macro.has_second == second]):
+        for group in groups_of(system, [placed for placed in led if placed.macro.has_second == second]):
             tried = [*batch, *group]
             order = together(system, tried) if batch and sum(len(one.parts) for one in tried) <= OF_CHIP else None
             if order is None:
@@ -295,6 +310,7 @@ def place_list(system: System) -> list[list[Part]]:
     for number, parts in enumerate(chips):
         for at, part in enumerate(parts):
             part.chip, part.place = number, at
+    follow(system)
     return chips
 
 

@@ -5,6 +5,7 @@ from __future__ import annotations
 import collections
 
 from vidlakost_tools.access.target import Port
+from vidlakost_tools.chip import sharing
 from vidlakost_tools.chip.steps import steps_of
 from vidlakost_tools.chip.system import Part, Placed, System
 from vidlakost_tools.collar import planted as collar_planted
@@ -128,6 +129,20 @@ class Text:
             links += [f".reset(~{self.names.of(f'chip_{number}_on')})", f".done({over})", f".fail({bad})"]
             instance = self.names.of(f"chip_{number}")
             self.lines += [f"  {self.system.name_of(number)} {instance}(", "    " + ",\n    ".join(links), "  );"]
+            for part in parts:
+                self.followers(number, part)
+
+    def followers(self, number: int, part: Part) -> None:
+        """The memories that share the controller of this one: its commands go to them too."""
+        others = sharing.followers(self.system, part)
+        for other in others:
+            for name, width in (("en", 1), ("we", 1), ("addr", other.memory.width)):
+                net = self.wire(f"n_{other.name}_{name}", width)
+                self.lines.append(f"  assign {net} = {self.names.of(f'n_{part.name}_{name}')};")
+            given, _ = self.turned(other)
+            self.lines.append(f"  assign {given} = {self.names.of(f'n_{part.name}_given')};")
+        if others:
+            self.lines += sharing.comparators(part, others, self.names.of(f"chip_{number}_on"), self.names.of)
 
     def turned(self, part: Part) -> tuple[str, str]:
         """The words that a chip gives and takes for a memory, which a testbench can turn."""
@@ -180,11 +195,13 @@ class Text:
         for part in self.system.parts:
             width = len(self.system.of_chip(part.chip))
             bit = self.names.of(f"chip_{part.chip}_fail") + (f"[{part.place}]" if width > 1 else "")
+            if part.leader is not None:
+                bit = f"{self.names.of(f'chip_{part.chip}_on')} & {self.names.of(f'n_{part.name}_bad')}"
             number = next(number for number, one in enumerate(self.system.collars) if part in one.parts)
             placed = self.system.collars[number]
             more = [self.names.of(f"lanes_fail_{number}")] if placed.macro.masks else []
             more += [self.names.of(f"apart_{number}")] if len(placed.parts) > 1 else []
-            bits.append(" | ".join([bit, *more]))
+            bits.append(" | ".join([f"({bit})" if more and part.leader else bit, *more]))
         return bits
 
     def sequence(self) -> None:
@@ -258,4 +275,5 @@ class Text:
 
 
 def told_of(part: Part, system: System) -> str:
-    return f"{part.name}, unit {part.place} of {system.name_of(part.chip)}"
+    shared = f", by the controller of {part.leader.name}" if part.leader else ""
+    return f"{part.name}, unit {part.place} of {system.name_of(part.chip)}{shared}"

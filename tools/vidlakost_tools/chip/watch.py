@@ -65,21 +65,27 @@ class Watch:
         """In test a collar has what its chip's test commands, and the test what the memory answers."""
         found, number = [], self.system.collars.index(placed)
         for (half, _), part in zip(halves(placed.word), placed.parts):
-            chip = f"dut.{self.text.names.of(f'chip_{part.chip}')}"
             for name in ("en", "we", "addr", "wdata", "rdata"):
-                theirs, ours = f"{chip}.{name}_{part.place}", f"{self.collar(number)}.{half}_{name}"
-                found += self.compared(f"{half}_{name} of the collar of {placed.name}", ours, theirs)
-            found += self.told(part, chip) if self.system.has_access else []
+                ours = f"{self.collar(number)}.{half}_{name}"
+                found += self.compared(f"{half}_{name} of the collar of {placed.name}", ours, self.at_test(part, name))
+            found += self.told(part) if self.system.has_access else []
         return found
 
-    def told(self, part: Part, chip: str) -> List[str]:
+    def told(self, part: Part) -> List[str]:
         """A tester is told what the test of a memory commands, writes and reads."""
-        number, place = self.system.parts.index(part), part.place
+        number = self.system.parts.index(part)
         asks = f"dut.asks[{number}]" if len(self.system.parts) > 1 else "dut.asks"
-        found = self.compared(f"asks of {part.name}", asks, f"({chip}.en_{place} & ~{chip}.we_{place})")
+        command = f"({self.at_test(part, 'en')} & ~{self.at_test(part, 'we')})"
+        found = self.compared(f"asks of {part.name}", asks, command)
         for name, theirs in (("given", "wdata"), ("taken", "rdata")):
-            found += self.compared(f"{name} of {part.name}", f"dut.{name}_{number}", f"{chip}.{theirs}_{place}")
+            found += self.compared(f"{name} of {part.name}", f"dut.{name}_{number}", self.at_test(part, theirs))
         return found
+
+    def at_test(self, part: Part, name: str) -> str:
+        """What the test of a memory commands or takes; a comparator takes what one answers that shares a controller."""
+        if part.leader is not None and name == "rdata":
+            return f"dut.{self.text.names.of(f'n_{part.name}_taken')}"
+        return f"dut.{self.text.names.of(f'chip_{part.chip}')}.{name}_{part.place}"
 
     def clocks(self) -> List[str]:
         """The clocks of the collars and of the chips, and whether they are in test."""
@@ -102,7 +108,7 @@ class Watch:
         """What the memories that are on weigh."""
         parts = []
         for number, placed in enumerate(self.system.collars):
-            weight = sum(part.unit.weight for part in placed.parts)
+            weight = sum(part.weight for part in placed.parts)
             parts.append(f"      if (({self.is_on(number, placed)}) !== 1'b0) load = load + {weight};")
         name, budget = self.system.name, self.system.budget
         return [
