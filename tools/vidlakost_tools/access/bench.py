@@ -4,11 +4,17 @@ from __future__ import annotations
 
 from vidlakost_tools.access import logs
 from vidlakost_tools.access.target import Port, Target, extended, links, zero
-from vidlakost_tools.text import template
+from vidlakost_tools.text import beside, template
 from vidlakost_tools.verilog.bench_end import FINISH, over, planted
 from vidlakost_tools.verilog.syntax import ranged
 
 TOP = template(__file__, "bench_top.sv")
+AGES = template(__file__, "bench_ages.sv")
+BEGINS = beside(__file__, "bench_begins.sv")
+# the cycle that is told is counted beside the module, too
+AT_AGE = """      if (planted && when_read !== failed_at[at_unit])
+        $fatal(1, "{name}: cycle %0d is told, and fail rose in cycle %0d", when_read, failed_at[at_unit]);
+"""
 
 
 def testbench(target: Target, kind: str, how: str, half: int, declared: str, link: str, body: str) -> str:
@@ -29,11 +35,19 @@ def testbench(target: Target, kind: str, how: str, half: int, declared: str, lin
         planted=planted(f"{target.name}_{kind}_tb", sizes(target)),
         wanted_fails=target.wanted_fails(),
         word_one=f"{target.word}'d1",
-        links=link + target.beside() + target.ends(kind),
+        links=link + target.beside() + ages(target, kind) + target.ends(kind),
+        at_age=AT_AGE.format(name=target.name) if target.counts_cycles else "",
         body=body,
         unit_form=" unit %0d" if target.is_chip else "",
         unit_value=", whose" if target.is_chip else "",
     )
+
+
+def ages(target: Target, kind: str) -> str:
+    """In which cycle each bit of fail rose."""
+    inside = "dut" if kind == "access" else "dut.tested"
+    begins = BEGINS if kind == "access" else ""
+    return AGES.substitute(count=target.count, inside=inside) + begins if target.counts_cycles else ""
 
 
 def sizes(target: Target) -> list[tuple[int, int]]:
@@ -56,7 +70,7 @@ READ = """      when_read = cycle;
 ACCESS_BODY = """
   initial begin
     repeat (4) @(posedge clk);
-    for (round = 0; round < 2; round = round + 1) begin
+    for (round = 0; round < {rounds}; round = round + 1) begin
       #1 start = 1'b1;
       waited = 0;
       while (done !== 1'b1) begin
@@ -69,7 +83,9 @@ ACCESS_BODY = """
       failing = fail;
 {read}
       told(round);
-{each}{log}      #3 start = 1'b0;
+{each}      if (round < 2) begin
+{log}      end
+      #3 start = 1'b0;
       repeat (8) @(posedge clk);
       if (done !== 1'b0 || seen !== 1'b0 || fail !== {none}) $fatal(1, "{name}: the state stays when start falls");
     end
@@ -94,6 +110,7 @@ def access_bench(target: Target) -> str:
     body = ACCESS_BODY.format(
         name=target.name,
         most=most(target) + 100,
+        rounds="(planted ? 12 : 2)" if target.counts_cycles else "2",
         any=f"fail != {zero(target.count)}",
         read=read,
         each=target.read_each("access", f"        #1;\n{read}\n"),

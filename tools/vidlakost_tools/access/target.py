@@ -158,6 +158,11 @@ class Target:
         """What stands beside the module under test, and has faults planted in it."""
         return model_links(self)
 
+    @property
+    def counts_cycles(self) -> bool:
+        """Whether the cycle of the first failure is counted in the module itself."""
+        return True
+
     def ends(self, kind: str) -> str:
         """What looks at both ends of the pins that go through the module under test, which is of this kind."""
         return ""

@@ -24,7 +24,6 @@ from vidlakost_tools.verilog.syntax import ranged
 INNER = re.compile(r"^ +(?:reg|wire) (?:\[\d+:0\] )?(\w+);", re.MULTILINE)
 ENDS = template(__file__, "access_ends.sv")
 EACH = template(__file__, "access_each.sv")
-AGES = template(__file__, "access_ages.sv")
 ABOUT = """//   +planted +unit=U +bit=B   each word that memory U answers has bit B wrong"""
 ABOUT_EACH = """
 //   +each                      the lowest bit of each macro is wrong, and of each memory {what} is read"""
@@ -98,12 +97,6 @@ class SystemTarget(Target):
                 for (at, low), width in zip(places, widths)
             )
         return "" if kind == "access" else "        shift_ignored;"
-
-    def ages(self, kind: str) -> str:
-        """In which cycle each bit of fail rose."""
-        return (
-            AGES.substitute(count=self.count, inside="dut" if kind == "access" else "dut.tested") if self.each else ""
-        )
 
     # ---- the logs
 
@@ -188,7 +181,7 @@ class SystemTarget(Target):
         ends = [(port, port.name) for port in self.by_way("output")]
         ends += access_log.words_to(self, tested) if self.has_inner_log else []
         outputs = [port for port, _ in ends]
-        return self.ages(kind) + ENDS.substitute(
+        return ENDS.substitute(
             name=self.name,
             ins=width_of(inputs),
             outs=width_of(outputs),

@@ -37,6 +37,10 @@ class PlaceTarget(Target):
         """The module NAME_access."""
         return Sequencer(self).text()
 
+    @property
+    def counts_cycles(self) -> bool:
+        return False
+
     def how_planted(self) -> str:
         return "//   +planted +unit=U +bit=B   each word that memory U answers has bit B wrong"
 
