@@ -2,12 +2,10 @@
 from __future__ import annotations
 
 import dataclasses
-import hashlib
 import os
 import pathlib
 import re
 import subprocess
-import tempfile
 from typing import Callable, TypeVar
 
 from vidlakost_tools.text import LARGE_BYTES, Path, lines_of, read_described, read_text
@@ -152,6 +150,8 @@ def sum_of_sources() -> str:
 def proof_of(program: Path) -> str | None:
     """The line of the kit that proved a program from the present sources. The file `kit` beside the program has it,
     which its proof left. None if nothing says so."""
+    import hashlib
+
     path = pathlib.Path(program)
     kept = path.with_name("kit")
     told = lines_of(read_described(kept)) if kept.is_file() and path.is_file() else []
@@ -206,6 +206,8 @@ def ask(*words: object) -> str:
 
 def with_text(text: str, use: Callable[[pathlib.Path], Answer]) -> Answer:
     """What `use` answers for a file that holds the text during the call."""
+    import tempfile
+
     with tempfile.TemporaryDirectory() as folder:
         path = pathlib.Path(folder) / "text"
         path.write_text(text, encoding="utf-8")
@@ -228,6 +230,8 @@ def take_module(path: Path, text: str) -> None:
 
 def vectors_of(march: Path, memory: Path) -> list[str]:
     """The lines of `vectors`; a refused march or memory becomes an exception."""
+    import tempfile
+
     with tempfile.TemporaryDirectory() as folder:
         path = pathlib.Path(folder) / "vectors"
         ask("vectors", march, memory, path)

@@ -15,7 +15,6 @@ import re
 import signal
 import stat
 import sys
-import tempfile
 import threading
 import time
 from typing import Any, Callable, Iterable, Iterator, Mapping, NoReturn, Sequence, TextIO, cast
@@ -312,6 +311,8 @@ def sweep(folder: pathlib.Path) -> None:
 
 def beside(path: pathlib.Path, text: str) -> str:
     """Makes a new file beside another, with the text and the other's permissions, and returns its name."""
+    import tempfile
+
     sweep(path.parent)
     before = path.stat() if path.exists() else None
     if before is not None and not os.access(path, os.W_OK):
