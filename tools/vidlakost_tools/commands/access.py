@@ -6,44 +6,44 @@ usage: vidlakost access MEMORY|CHIPFILE FOLDER [--apb] [--jtag [--sib] [--idcode
                         [--jtag [--sib] [--idcode HEX]] [--mhz F]
        vidlakost access --help
 
-NAME is the name of the memory or of the chip. It writes to FOLDER
+NAME is the name of the memory or of the chip. access writes to FOLDER
     NAME_access.v            the module NAME_access round the self-test NAME_bist that `compile` writes, or round the
-                             chip NAME that `chip` writes; its start may come of any clock
-    NAME_access_tb.sv        a testbench: two runs; with +planted a bit of a word is stuck, which has to be found. The
-                             last line of a run that passes is `NAME_access_tb: passed`
+                             chip NAME that `chip` writes; its start may come from any clock
+    NAME_access_tb.sv        a testbench: two runs. With +planted a bit of a word is stuck, and the test has to find it.
+                             A run that passes ends with the line `NAME_access_tb: passed`
     NAME_model.v             memories for the testbenches
 With --apb, a block of registers on an APB3 bus:
     NAME_apb.v, NAME_cross.v, NAME_apb_tb.sv, NAME_apb.md (the registers as a table) and NAME_apb.rdl (in SystemRDL)
 With --jtag, a TAP of IEEE 1149.1 with the instruction BIST:
     NAME_tap.v, NAME_cross.v, NAME_tap_tb.sv, NAME.svf (a run that has to find nothing), NAME.stil and NAME.wgl (the
     same, a vector for each cycle of TCK), NAME.bsdl (without pads), NAME.icl and NAME.pdl (IEEE 1687), and for a trial
-    with OpenOCD NAME_board.v, NAME_socket.cpp and NAME.cfg. Its identity is that of --idcode. With --sib the register
-    of the self-test and that of the log stand behind segment insertion bits of IEEE 1687, in NAME_sib.v, which BIST
-    selects
-With --log, for each memory a comparator beside its self-test that keeps the first N wrong reads, 1 to 64:
-    MEMORY_log.v, and of one memory NAME_log_tb.sv, which prints the log for `vidlakost bitmap`. With --apb and --jtag
-    too the buses read it: from 0x800 on, and by the instruction LOG, an entry in each scan; NAME_log.tcl has OpenOCD do
-    that
-Of one memory --march says how long the test takes, which the SVF and the PDL have to wait; --mhz is the clock of the
-test, for which an SVF then waits in seconds also where TCK is faster. Put the module of the self-test beside them:
+    with OpenOCD NAME_board.v, NAME_socket.cpp and NAME.cfg. --idcode sets its identity. With --sib segment insertion
+    bits of IEEE 1687, in NAME_sib.v, give access to the register of the self-test and to that of the log; BIST selects
+    them
+With --log, for each memory a comparator beside its self-test, which keeps the first N wrong reads, 1 to 64:
+    MEMORY_log.v, and for one memory NAME_log_tb.sv, which prints the log for `vidlakost bitmap`. With --apb or --jtag
+    the buses read the log, too: APB from 0x800 on, JTAG by the instruction LOG, an entry in each scan. NAME_log.tcl
+    has OpenOCD read it
+For one memory --march says how long the test takes; the SVF and the PDL have to wait so long. --mhz is the clock of the
+test. With it an SVF waits in seconds, so TCK may be faster than that clock. Put the module of the self-test in FOLDER:
     cd FOLDER && iverilog -g2012 -o tb NAME_access_tb.sv NAME_access.v NAME_model.v NAME_bist.v && vvp -n tb
     vvp -n tb +planted +address=3 +bit=1 +value=1
-With PINS it is of the whole chip that `vidlakost top --access` wrote to FOLDER with the same words: a bit of fail for
-each memory, and of the first failure the cycle, the words and the memory. There is no model and no trial with OpenOCD
-then; the files of each testbench are listed in NAME_access.f, NAME_apb.f or NAME_tap.f, and a planted bit is wrong in
-each word that memory U answers:
+With PINS the files are for the whole chip that `vidlakost top --access` wrote to FOLDER with the same words. There is a
+bit of fail for each memory, and of the first failure the cycle, the words and the memory. There is no model and no
+trial with OpenOCD then. NAME_access.f, NAME_apb.f and NAME_tap.f list the files of each testbench. A planted bit is
+wrong in each word that memory U answers:
     cd FOLDER && iverilog -g2012 -o tb -c NAME_tap.f && vvp -n tb && vvp -n tb +planted +unit=3 +bit=1
-There --log wants --apb or --jtag, since a bus reads the logs, which stand in NAME_access. Equal memories share one
-MEMORY_log.v. A log keeps wrong reads of the march, and none of the lanes. The testbenches look at each log, and print
-it with `unit U` in each line for `vidlakost bitmap` and `vidlakost diagnosis`; with +each in place of +planted the
-lowest bit of each macro is wrong.
-With --each the first failure of each memory is kept: behind done each change of ignore tells that of another one,
-without a new run, as the procedure read_first of NAME.pdl has it, and +each tries that. A second register of each word
-of each memory is what it costs.
-With --in-place it is of the memories that `vidlakost top --in-place` left in their places: NAME_access is there, and
-its ports to_I and of_I are those of the bus and the TAP too. Behind done each change of ignore brings the first failure
-of another memory, without a new run. In the testbenches what stands at each bundle is no memory; those are in that of
-`vidlakost places`."""
+Here --log needs --apb or --jtag, because a bus reads the logs, which are in NAME_access. Equal memories share one
+MEMORY_log.v. A log keeps wrong reads of the march, and none of the lanes. The testbenches check each log, and print it
+with `unit U` in each line for `vidlakost bitmap` and `vidlakost diagnosis`. With +each in place of +planted the lowest
+bit of each macro is wrong.
+--each keeps the first failure of each memory. After done, each change of ignore shows the first failure of another
+memory, without a new run; the procedure read_first of NAME.pdl does so, and +each tries it. This costs a second
+register for each word of each memory.
+With --in-place the files are for the memories that `vidlakost top --in-place` left in their places. NAME_access is
+there, and the modules of the bus and of the TAP have its ports to_I and of_I, too. After done, each change of ignore
+shows the first failure of another memory, without a new run. These testbenches have no memories at the bundles; the
+testbench of `vidlakost places` has them."""
 from __future__ import annotations
 
 import dataclasses

@@ -4,37 +4,37 @@ usage: vidlakost flow CHIPFILE|LIST [PINS..] FOLDER [--list FAULTS] [--model FIL
                       [--clock-mux CELL:SELECT:CHIP:TEST:OUT]
        vidlakost flow --help
 
-The words are those of `vidlakost top`, and so are --clock-mux and --in-place. Where no PINS are named, they are the
-files NAME.pins beside the description of each memory, or those there that tell a word of two memories. It writes to
-FOLDER
-    Makefile       the steps; names in it go from the folder that the tool runs in
-    faults.list    the primitives of the reports: all, and DRF, where FAULTS names no list
-    sta.known      the pins of macros of which OpenSTA may say something
-`make -j -C FOLDER` makes of each memory MEMORY.report and in a folder of its own the controller, the collar and its
-testbench, which passes and finds what it plants; the collar as gates of Yosys in the same testbench; in FOLDER/chip
-what `top` writes, its testbench, what Verilator's lint says (nothing), Yosys' netlist and count of cells, and what
-`access` writes with its testbenches; reports.html and a page for the tester. Lint and synthesis see of a macro its
-ports alone, so that no model has to please them.
+The words are those of `vidlakost top`, and so are --clock-mux and --in-place. If you name no PINS, flow takes the files
+NAME.pins in the folder of each memory's description, or those there that list the pins of a word of two memories. flow
+writes to FOLDER
+    Makefile       the steps; file names in it start from the folder in which you call flow
+    faults.list    the primitives of the reports, all and DRF, if --list names no list
+    sta.known      the pins of macros that OpenSTA may warn of
+`make -j -C FOLDER` makes for each memory MEMORY.report, and in a folder of its own the controller, the collar and its
+testbench. The testbench passes, and finds what it plants. Yosys makes gates of the collar, and they run in the same
+testbench. FOLDER/chip gets what `top` writes, its testbench, the messages of Verilator's lint (none), Yosys' netlist
+and count of cells, and what `access` writes with its testbenches. `make` also writes reports.html and a page for the
+tester. Lint and synthesis read only the ports of a macro, so its model need not please them.
 
-With --in-place each memory has in the folder WORD the testbench of the module WORD_in_place, its gates in that, its
-lint, cells and timing; FOLDER/chip has the sequencer with the same, and what `access` writes with its testbenches,
-sound and with a wrong bit. FILE of --places is a text as `vidlakost places` takes it. Then FOLDER/places has the
-testbench of the chip, sound and with wrong bits, and its timing, and Yosys proves its use; `make places` is that
-step. There is no page for a tester.
+With --in-place `make` makes for each memory, in the folder WORD, the testbench of the module WORD_in_place, its gates
+in that testbench, its lint, its count of cells and its timing. FOLDER/chip gets the same for the sequencer, and what
+`access` writes with its testbenches, without a wrong bit and with one. FILE of --places is a text that
+`vidlakost places` reads. With it FOLDER/places gets the testbench of the chip, without wrong bits and with them, and
+its timing, and Yosys proves its use; `make places` is that step. There is no page for a tester.
 
-Words for `make`; a file that they name goes from FOLDER on:
-    SIM=verilator    runs that in place of Icarus
-    MORE=..          what the simulator is told besides; LINT_MORE=.. what lint is, SYNTH_MORE=.. what Yosys is as it
+Words for `make`; name a file in them from FOLDER on:
+    SIM=verilator    uses Verilator in place of Icarus
+    MORE=..          further options of the simulator; LINT_MORE=.. those of lint, SYNTH_MORE=.. those with which Yosys
                      reads
-    LIBERTY=FILE     the library to whose cells Yosys maps; of their functions it makes the models for the runs of
+    LIBERTY=FILE     the library to whose cells Yosys maps. From their functions it makes the models for the runs of
                      gates
-    MACRO_LIBERTY=.. those of the macros: OpenSTA reads both with the constraints of `vidlakost sdc`, at MHZ=N (100)
-    PARTS=N          so many runs side by side of what is planted in the whole
-Its status is that of the whole: a testbench passes where its last line says so. A step is run again unless each file
-that it reads or writes, and each that a simulator was seen to read, is as it was when the step was done; beside a
-model that opens files while it runs, as by $readmemh, it is run each time. Where the chip file or FILE is another by
-now no step is run, since the makefile is of the one that it was made from. Names have letters, digits and _./+@-
-alone."""
+    MACRO_LIBERTY=.. the libraries of the macros. OpenSTA reads both with the constraints of `vidlakost sdc`, at MHZ=N
+                     (100)
+    PARTS=N          divides the planted runs of the whole into N parts that run at once
+The status of `make` is that of all steps. A testbench passes if its last line says so. A step runs again unless all its
+files are as they were when it was done: those that it reads or writes, and those that a simulator was seen to read.
+If a model opens files while it runs, as by $readmemh, its step runs each time. If the chip file or FILE changed since,
+`make` runs no step, because the makefile belongs to the old one. Names have letters, digits and _./+@- alone."""
 from __future__ import annotations
 
 import pathlib

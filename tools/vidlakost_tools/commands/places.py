@@ -3,28 +3,28 @@
 usage: vidlakost places PLACES LIST|CHIPFILE PINS.. FOLDER
        vidlakost places --help
 
-FOLDER is that of `vidlakost top --in-place`, and LIST, CHIPFILE and PINS are the words of that. PLACES has a line for
+FOLDER is that of `vidlakost top --in-place`; LIST, CHIPFILE and PINS are the words of that call. PLACES has a line for
 each of these (`#` begins a comment):
     places 1                       the version
     chip MODULE                    the top of the chip
-    source FILE                    a source of the chip, in which the modules WORD_in_place stand for the macros
+    source FILE                    a source of the chip, in which the modules WORD_in_place replace the macros
     before FILE                    a source of the chip as it was, with its macros
-    at MEMORY PATH [was PATH]      the instance of a memory, from the top on, as core.bank.words; was, where that of its
-                                   macro had another name
-    access PATH                    the instance of NAME_access; in NAME_tap or NAME_apb it is called tested
+    at MEMORY PATH [was PATH]      the instance of a memory, from the top on, as core.bank.words; was, if the instance
+                                   of its macro had another name
+    access PATH                    the instance of NAME_access; in NAME_tap or NAME_apb its name is tested
     clock PORT NANOSECONDS         a clock of the chip, with its period
     set PORT VALUE                 an input that keeps a value; all others are 0 in use, and unknown in test
-    start PORT, done PORT, fail PORT           the ports by which the test is started, each in a line of its own; or
+    start PORT, done PORT, fail PORT           the ports that start the test and show its state, a line for each; or
     tap TCK TMS TDI TRST_N TDO     those of the TAP that `vidlakost access --in-place --jtag` writes
-source, before, at, clock and set may stand many times. It writes to FOLDER
-    NAME_places_tb.sv   a testbench of the chip. Each bit of each bundle has to have the same at both ends, by itself;
-                        then the test runs by the ports of the chip, beside what the sequencer has to do. With +planted
-                        the first, the middle and the last bit of each memory are wrong in turn, and then a bit of all
-                        at once; each has to be found there and nowhere else, with its first failure; +planted=MEMORY
-                        plants at that one alone
+The lines source, before, at, clock and set may come many times. places writes to FOLDER
+    NAME_places_tb.sv   a testbench of the chip. First it compares both ends of each bit of each bundle, one bit at a
+                        time. Then it runs the test by the ports of the chip, and compares it with what the sequencer
+                        has to do. With +planted it makes the first, the middle and the last bit of each memory wrong in
+                        turn, and then a bit of all at once. The test has to find each there and nowhere else, with its
+                        first failure. +planted=MEMORY plants at that memory alone
     NAME_places.f       what a simulator has to read
-Where lines before stand there Yosys proves that each pin of each memory, each flip-flop and each output of the chip has
-in use what it had before; what is another is printed, and the status is 1. Without Yosys it says that nothing
+If there are lines before, Yosys proves that in use each pin of each memory, each flip-flop and each output of the chip
+has what it had before. places prints each one that differs; the status is then 1. Without Yosys it says that nothing
 was proved.
     cd FOLDER && iverilog -g2012 -o tb -c NAME_places.f && vvp -n tb && vvp -n tb +planted"""
 from __future__ import annotations

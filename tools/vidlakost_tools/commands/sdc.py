@@ -6,26 +6,26 @@ usage: vidlakost sdc MEMORY|CHIPFILE FOLDER --mhz F [--normal-mhz F] [--apb | --
        vidlakost sdc LIST|CHIPFILE PINS.. FOLDER --in-place [--clock MEMORY=F].. [--places FILE] .. but for --falling
        vidlakost sdc --help
 
-It writes to FOLDER two files for the module NAME_access, or NAME_apb, or NAME_tap:
+sdc writes to FOLDER two files for the module NAME_access, or NAME_apb, or NAME_tap:
     NAME_test.sdc            under test: the clocks, the ports, and that `start` goes through two registers
-    NAME_normal.sdc          in normal use: the same at that clock, and `test` is 0 by case analysis, so that
-                             what it holds still is not timed
---mhz is the clock of the test, --normal-mhz that of normal use (the same where it is left out), --bus-mhz that of the
-bus (20). The other side of a port takes the share S of a period, 0.4 where nothing is said. With --falling the memories
-answer at the falling edge, and half a period is left for their words. With PINS the files are of the whole chip that
-`vidlakost top` joins: its pins are of the clock of their port, and each further clock of the chip's is one by itself.
-The clock of a bus is asynchronous to that of the memories.
+    NAME_normal.sdc          in normal use: the same at that clock. `test` is 0 by case analysis, so what it holds
+                             still is not timed
+--mhz is the clock of the test. --normal-mhz is the clock of normal use; without it, that of the test. --bus-mhz is the
+clock of the bus; without it, 20. The other side of a port takes the share S of a period; without --share, 0.4. With
+--falling the memories answer at the falling edge, and half a period is left for their words. With PINS the files are
+for the whole chip that `vidlakost top` joins. Its pins belong to the clock of their port, and each further clock of the
+chip is a clock of its own. The clock of a bus is asynchronous to that of the memories.
 
-With --in-place the files are of the memories that `vidlakost top --in-place` left in their places. NAME_test.sdc and
-NAME_normal.sdc are of the sequencer NAME_access, or of the module of its bus. There are two files more of each memory:
+With --in-place the files are for the memories that `vidlakost top --in-place` left in their places. NAME_test.sdc and
+NAME_normal.sdc are for the sequencer NAME_access, or for the module of its bus. Each memory has two more files:
     WORD_in_place_test.sdc, WORD_in_place_normal.sdc
-                             of the module WORD_in_place: each of its clocks, and its pins by the clock of their port
---clock says that a memory has another clock than the sequencer. With --places, a text as `vidlakost places` takes it,
-there are two files of the chip itself:
+                             for the module WORD_in_place: each of its clocks, and its pins by the clock of their port
+--clock gives a memory another clock than the sequencer's. With --places FILE, a text that `vidlakost places` reads, sdc
+writes two files for the chip itself:
     NAME_chip_test.sdc, NAME_chip_normal.sdc
-                             with the periods that the text tells. What goes from one clock to another has at most a
-                             period of the clock that takes it. Each port of the chip is timed by each clock, since
-                             nothing tells by which it is used"""
+                             with the periods of that text. What goes from one clock to another has at most a period of
+                             the clock that takes it. Each port of the chip is timed by each clock, because no file says
+                             which clock uses it"""
 from __future__ import annotations
 
 import pathlib

@@ -4,48 +4,50 @@ usage: vidlakost top CHIPFILE|LIST PINS.. FOLDER [--model FILE].. [--access | --
                      [--plan]
        vidlakost top --help
 
-CHIPFILE is a chip file of at most 16 units. Each file of PINS tells the pins of one memory's macro, as
-`vidlakost collar` takes them, and is named as the memory, NAME.pins; or it tells those of a word of two memories, which
-it names in its lines low and high. The two have one march, and stand in one group of the chip file, or the call is
-refused, with an order of the units in which they do. A LIST stands above chip files, for more units, at most 1,024:
+CHIPFILE is a chip file of at most 16 units. Each file of PINS lists the pins of one memory's macro, in the form that
+`vidlakost collar` reads; it is named after the memory, NAME.pins. A file may also list the pins of a word of two
+memories, which it names in its lines low and high. These two have one march, and must be in one group of the chip file.
+If they are not, top refuses the call, and names an order of the units that puts them in one, if it finds any.
+For more units, at most 1,024, a LIST replaces the chip files:
     list 1                                  the version
     name IDENT                              the name of the whole
-    budget N                                what the tests that run at once may weigh
+    budget N                                the most weight of the tests that run at once
     unit WEIGHT MARCH MEMORY [instances N [shared]]
                                             a memory, or N equal ones, named NAME_0 to NAME_N-1; its pins are NAME.pins
-Of a list the tool writes chip files of at most 16 units, which run one behind the other, each within the budget, and
-puts the units in an order in which the parts of a word are in one group. Equal memories that are shared have one
-controller, as many of them as the budget has room for: their unit weighs what all of them do. It tests the first, whose
-commands go to all, and a comparator beside it looks at each other, which has a bit of fail of its own.
+From a list, top writes chip files of at most 16 units. They run one after the other, each within the budget. top orders
+the units so that the parts of a word are in one group. Equal memories that are shared have one controller, as many of
+them as the budget has room for: their unit weighs as much as all of them. The controller tests the first memory, and
+its commands go to all. Each other memory has a comparator and a bit of fail of its own.
 
-It writes to FOLDER, with NAME the name of the chip or of the list,
+top writes these files to FOLDER; NAME is the name of the chip or of the list:
     NAME.v (or NAME_0.v ..)   what the command `chip` writes
     MEMORY_collar.v           the collar of each memory, without a controller
-    NAME_system.v             the module NAME_system: clk, test, done, a bit of fail for each memory, and each collar's
-                              pins of the chip, with the memory's name in front
-    NAME_system_tb.sv         a testbench, which uses the chip's pins and runs the test; with +planted a fault stands at
-                              each memory in turn, with +planted=MEMORY at that one alone, and with +planted +parts=N
-                              +part=K of these runs each Nth, from K on, or with +seed=S one part in N, as the seed has
-                              it. The last line of a run that passes is `NAME_system_tb: passed`
+    NAME_system.v             the module NAME_system: clk, test, done, a bit of fail for each memory, and the functional
+                              pins of each collar, with the memory's name in front
+    NAME_system_tb.sv         a testbench. It uses the functional pins and runs the test. With +planted it plants a
+                              fault at each memory in turn, with +planted=MEMORY at that one alone. With +planted
+                              +parts=N +part=K it does each Nth of these runs, from K on; with +planted +parts=N +seed=S
+                              the seed chooses one part in N of them. A run that passes ends with the line
+                              `NAME_system_tb: passed`
     files.f                   what a simulator has to read, in this order
     NAME_boxes.v              the ports of the macros alone, for lint and synthesis
     MACRO.v                   a model of each macro that is in no FILE of --model
---clock-mux names the cell that chooses each further clock, as for `vidlakost collar`. With --access NAME_system tells
-what each test writes and reads, as `vidlakost access` wants it. Of a list it writes NAME_0.chip .. and the descriptions
-of the instances. --plan writes nothing, and prints which memory is which bit of fail and which unit of which chip.
+--clock-mux names the cell that chooses each further clock, as for `vidlakost collar`. With --access NAME_system also
+has outputs for what each test writes and reads; `vidlakost access` needs them. From a list, top also writes NAME_0.chip
+and so on, and the descriptions of the instances. --plan writes nothing. It prints for each memory its bit of fail, and
+its unit and chip.
 
-With --in-place each memory stays where it is in the hierarchy, and no module joins them. It writes to FOLDER
-    WORD_in_place.v          the module WORD_in_place: the ports of the macro, and beside them bist_in[1:0] and
-                             bist_out[2:0]. Inside are WORD_collar.v, its controllers NAME_bist.v, and what keeps the
-                             first failure. It stands in place of the macro, and its two ports are brought up through
-                             the hierarchy
-    WORD_in_place_tb.sv      its testbench, as that of `vidlakost collar`, with WORD_in_place.f
-    NAME_access.v            the module NAME_access, which starts the memories in groups within the budget: to_I and
-                             of_I go to bist_in and bist_out of memory I. `vidlakost access --in-place` writes APB and
-                             JTAG for it
+With --in-place each memory stays where it is in the hierarchy, and no module joins them. top writes to FOLDER
+    WORD_in_place.v          the module WORD_in_place: the ports of the macro, and also bist_in[1:0] and bist_out[2:0].
+                             Inside are WORD_collar.v, its controllers NAME_bist.v, and what keeps the first failure. It
+                             replaces the macro; you bring its two further ports up through the hierarchy
+    WORD_in_place_tb.sv      its testbench, like that of `vidlakost collar`, with WORD_in_place.f
+    NAME_access.v            the module NAME_access. It starts the memories in groups within the budget: to_I and of_I
+                             go to bist_in and bist_out of memory I. `vidlakost access --in-place` writes APB and JTAG
+                             for it
     files.f                  all but the testbenches
-A bit of fail is a macro's then, a word of two memories has one, and each memory may have a clock of its own.
-`vidlakost places` looks at the chip in which they stand, and `vidlakost flow --in-place` does all of it.
+Each macro then has one bit of fail, even for a word of two memories. Each memory may have a clock of its own.
+`vidlakost places` checks the chip that has these modules, and `vidlakost flow --in-place` does all of this.
     cd FOLDER && iverilog -g2012 -o tb -c files.f && vvp -n tb && vvp -n tb +planted"""
 from __future__ import annotations
 
