@@ -62,16 +62,16 @@ CALLS: List[Call] = [
         prints="acc3/odd$.svf",
         says="access: odd$ is no name in BSDL",
     ),
-    Call("tools/access late.mem acc --jtag", status=2, says="access: --jtag of one memory wants --march MARCH"),
-    Call("tools/access pair.chip acc2 --march access.m", status=2, says="access: --march is of one memory"),
-    Call("tools/access cross.chip acc4", status=2, says="access: 'cross' is a word of SystemVerilog"),
-    Call(f"tools/access {JOINS} examples/joins/masked.pins acc5", status=2, says="access: no file of pins is of"),
+    Call("tools/access late.mem acc --jtag", status=2, says="access: for one memory --jtag needs --march MARCH"),
+    Call("tools/access pair.chip acc2 --march access.m", status=2, says="access: --march is for one memory"),
+    Call("tools/access cross.chip acc4", status=2, says="access: 'cross' is a reserved word of SystemVerilog"),
+    Call(f"tools/access {JOINS} examples/joins/masked.pins acc5", status=2, says="access: no file lists the pins of"),
     Call(
         f"tools/access {JOINS} {JOINED_PINS} acc5",
         status=2,
-        says="access: acc5 has no joins_system.v and files.f: it is the folder that",
+        says="access: acc5 lacks joins_system.v or files.f: give the folder that",
     ),
-    Call("tools/access examples/joins/many.list acc5", status=2, says="access: of a list the files of pins are wanted"),
+    Call("tools/access examples/joins/many.list acc5", status=2, says="access: a list needs the files of pins"),
     Call(
         f"tools/top {CAMERA} {PLACED_PINS} placed1 --in-place",
         prints="placed1/camera_access.v",
@@ -80,7 +80,7 @@ CALLS: List[Call] = [
     Call(
         f"tools/top {CAMERA} {PLACED_PINS} placed1 --in-place --access",
         status=2,
-        says="top: --access is of a module that joins",
+        says="top: --access needs the module that joins",
     ),
     Call(f"tools/access {CAMERA} {PLACED_PINS} placed2 --in-place --apb", prints="placed2/camera_apb.v"),
     Call(
@@ -88,7 +88,7 @@ CALLS: List[Call] = [
         status=2,
         says="access: --in-place keeps the first failure of",
     ),
-    Call(f"tools/access {CAMERA} placed2 --in-place", status=2, says="access: of a list the files of pins are wanted"),
+    Call(f"tools/access {CAMERA} placed2 --in-place", status=2, says="access: a list needs the files of pins"),
     Call(
         f"tools/places {PLACES} {CAMERA} {PLACED_PINS} placed3",
         status=2,
@@ -101,7 +101,7 @@ CALLS: List[Call] = [
     ),
     Call(f"tools/places {PLACES} {CAMERA}", status=2, says="places: "),
     Call(
-        "tools/sdc examples/joins/many.list acc5 --mhz 50", status=2, says="sdc: of a list the files of pins are wanted"
+        "tools/sdc examples/joins/many.list acc5 --mhz 50", status=2, says="sdc: a list needs the files of pins"
     ),
     Call(f"tools/sdc {JOINS} {JOINED_PINS} acc5 --mhz 50 --jtag", prints="acc5/joins_test.sdc"),
     Call(f"tools/schedule {JOINS} {JOINED_PINS}", prints="cycles 430 to 492: the lanes of masked\n"),
@@ -116,7 +116,7 @@ CALLS: List[Call] = [
     Call(f"{WHOLE} 964 00001000", prints="lanes of both by the second port, command 2 of lane 0, address 0\n"),
     Call(f"{WHOLE} 557 00000010 f 0", prints="memory left by the second port, cycle 26 of its test\n"),
     Call(
-        f"{WHOLE} 434 00000010", status=2, says="locate: in cycle 434 the lanes of another memory than left are tried"
+        f"{WHOLE} 434 00000010", status=2, says="locate: cycle 434 tries the lanes of another memory, not those of left"
     ),
     Call(
         f"{WHOLE} 1011 00000010",
@@ -136,7 +136,7 @@ CALLS: List[Call] = [
     Call("tools/access late.mem acc --jtag --march access.m --mhz 0", status=2, says="access: --mhz is a clock"),
     Call("tools/access missing.mem acc", status=2, says="access: missing.mem: No such file"),
     Call("tools/sdc late.mem acc --mhz 100 --falling", prints="acc/late_normal.sdc"),
-    Call("tools/sdc late.mem acc", status=2, says="sdc: --mhz is wanted"),
+    Call("tools/sdc late.mem acc", status=2, says="sdc: give --mhz"),
     Call("tools/sdc late.mem acc --mhz 1e3", status=2, says="sdc: --mhz is a number above 0"),
     Call("tools/sdc late.mem acc --mhz 1 --share 1", status=2, says="sdc: --share is below 1"),
     Call("tools/locate pair.chip --chip 20 011 1 2", status=2, says="locate: FAILBITS needs 2 digits"),

@@ -82,14 +82,14 @@ CALLS: List[Call] = [
     Call(f"{TOP} whole --plan", prints="  1  t     0     1      1     41   123\n"),
     Call(f"{TOP} mine", status=2, says="top: mine/both_system.v is there and was not written by vidlakost"),
     Call(f"{TOP} whole t.pins", status=2, says="top: whole: Is a directory"),
-    Call("tools/top two.chip none", status=2, says="top: no file of pins is of s, t"),
-    Call("tools/top two.chip s.pins s.pins none", status=2, says="top: s.pins: s.pins tells the pins of s too"),
+    Call("tools/top two.chip none", status=2, says="top: no file lists the pins of s, t"),
+    Call("tools/top two.chip s.pins s.pins none", status=2, says="top: s.pins: s.pins lists the pins of s, too"),
     Call(
-        "tools/top two.chip lo.pins none", status=2, says="top: lo.pins: this file is of lo, and the memories are s, t"
+        "tools/top two.chip lo.pins none", status=2, says="top: lo.pins: there is no memory lo; the memories are s, t"
     ),
-    Call("tools/top two.chip c.m none", status=2, says="top: c.m: a file of pins is named as its memory"),
+    Call("tools/top two.chip c.m none", status=2, says="top: c.m: name a file of pins after its memory"),
     Call(f"{TOP} whole --model shown.v", prints="whole/files.f", says="top: not tested: s.ce, t.ce"),
-    Call("tools/top two.chip clash.pins none", status=2, says="top: clash.pins: this file is of clash"),
+    Call("tools/top two.chip clash.pins none", status=2, says="top: clash.pins: there is no memory clash"),
     Call(
         "tools/top apart.chip lo.pins s.pins none",
         status=2,
@@ -105,7 +105,7 @@ CALLS: List[Call] = [
     Call(
         "tools/top logic.chip s.pins none",
         status=2,
-        says="top: logic.chip: the name 'logic' is a word of SystemVerilog",
+        says="top: logic.chip: the name 'logic' is a reserved word of SystemVerilog",
     ),
     Call("tools/top case.list lo.pins none", status=2, says="top: case.list: two memories have the name lo, but"),
     Call("tools/top head.list s.pins none", status=2, says="top: head.list:1: a list begins with 'list 1'"),
@@ -117,10 +117,10 @@ CALLS: List[Call] = [
         says="top: crowds.list: there are at most 1024 units, and these are 1025",
     ),
     Call("tools/top none.list1 s.pins none", status=2, says="top: none.list1:4: instances is a number of at least 1"),
-    Call("tools/top again.list s.pins none", status=2, says="top: again.list:5: the memory s stands in line 4 too"),
+    Call("tools/top again.list s.pins none", status=2, says="top: again.list:5: line 4 has the memory s, too"),
     Call("tools/top heavy.list s.pins none", status=2, says="top: heavy.list: s weighs more than the budget"),
-    Call("tools/top path.list s.pins none", status=2, says="top: path.list: the name '../all' is none for a module"),
-    Call("tools/top two.list1 s.pins none", status=2, says="top: two.list1:4: the line name NAME stands once"),
+    Call("tools/top path.list s.pins none", status=2, says="top: path.list: no module can have the name '../all'"),
+    Call("tools/top two.list1 s.pins none", status=2, says="top: two.list1:4: write the line name NAME once"),
     Call(f"{COLLAR} mine", status=2, says="collar: mine/s_collar.v is there and was not written by vidlakost"),
     Call(
         f"{COLLAR} listed",
@@ -187,21 +187,27 @@ CALLS: List[Call] = [
     Call(
         "tools/flow examples/chip/soc.chip flow",
         status=2,
-        says="flow: beside the description of buffer is no file buffer.pins",
+        says="flow: the folder of the description of buffer has no file buffer.pins",
     ),
-    Call("tools/flow two.chip s.pins t.pins 'a b'", status=2, says="flow: 'a b': a makefile takes names"),
+    Call(
+        "tools/flow two.chip s.pins t.pins 'a b'",
+        status=2,
+        says="flow: 'a b': a file name in the makefile has only letters",
+    ),
     Call(
         "tools/flow two.chip s.pins t.pins '$(touch harm)'",
         status=2,
-        says="flow: '$(touch harm)': a makefile takes names",
+        says="flow: '$(touch harm)': a file name in the makefile has only letters",
     ),
     Call(
-        "tools/flow 'odd;name.chip' s.pins t.pins flow", status=2, says="flow: 'odd;name.chip': a makefile takes names"
+        "tools/flow 'odd;name.chip' s.pins t.pins flow",
+        status=2,
+        says="flow: 'odd;name.chip': a file name in the makefile has only letters",
     ),
     Call(
         "tools/flow two.chip s.pins t.pins flow --list 'a`b.list'",
         status=2,
-        says="flow: 'a`b.list': a makefile takes names",
+        says="flow: 'a`b.list': a file name in the makefile has only letters",
     ),
     Call("tools/flow chip.chip chip.pins flow", status=2, says="flow: a memory named chip would have the folder"),
     Call(

@@ -38,11 +38,11 @@ TO_WHOLE = f"tools/access {JOINS} {JOINED_PINS} acc5"
 AT_LINE = f"{WHOLE} --line"
 CALLS: List[Call] = [
     Call(f"{TO_WHOLE} --log 4", status=2, says="access: a bus reads the log of a whole chip: write --apb or"),
-    Call(f"{TO_WHOLE} --march access.m", status=2, says="access: --march is of one memory: here the chip file"),
+    Call(f"{TO_WHOLE} --march access.m", status=2, says="access: --march is for one memory: here the chip file"),
     Call(
         f"tools/access {CAMERA} {PLACED_PINS} acc5 --in-place --apb --log 4",
         status=2,
-        says="access: a memory in its place keeps its first failure alone: leave out --log",
+        says="access: with --in-place a memory keeps only its first failure: leave out --log",
     ),
     Call(f"{IN_WHOLE} --unit 1", prints="cell: 1 cell in 1 read\n"),
     Call(f"{IN_WHOLE} --unit 1 --second", prints="pair: 2 cells in 2 reads, and more followed\n"),

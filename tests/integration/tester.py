@@ -48,7 +48,7 @@ LATE_BOARD = f"""late_board board({PINS_OF_TAP},
     .planted(planted), .at_unit(10'd0), .at_address(16'd3), .at_bit(6'd0), .at_value(1'b1));"""
 WAYS: list[list[str]] = [[], ["--log", "3"], ["--sib"], ["--sib", "--log", "3", "--idcode", "2468ACE1"]]
 CALLS: List[Call] = [
-    Call("tools/access late.mem acc --sib", status=2, says="access: --sib is of a TAP, and stands beside --jtag"),
+    Call("tools/access late.mem acc --sib", status=2, says="access: --sib needs --jtag"),
     *(
         Call(f"tools/access pair.chip acc6 --jtag --idcode {word}", status=2, says="access: --idcode has eight")
         for word in ("1", "12345678", "000000ff", "1234567g", "112345679")

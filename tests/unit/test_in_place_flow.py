@@ -126,14 +126,15 @@ class InPlaceFlow(unittest.TestCase):
 
     def test_words(self) -> None:
         common = ("sdc", LIST, *PINS, "none", "--mhz", "50")
-        self.refused("--places is of memories in their places", *common, "--places", PLACES)
-        self.refused("--clock is of memories in their places", *common, "--clock", "low=9")
-        self.refused("--clock is MEMORY=F, where the memories are late, left", *common, "--in-place", "--clock", "x=9")
+        self.refused("--places needs --in-place", *common, "--places", PLACES)
+        self.refused("--clock needs --in-place", *common, "--clock", "low=9")
+        why = "--clock is MEMORY=F, and not 'x=9'; the memories are late, left"
+        self.refused(why, *common, "--in-place", "--clock", "x=9")
         self.refused("the clock of low twice", *common, "--in-place", "--clock", "low=9", "--clock", "low=8")
         self.refused("the clock of low is a number above 0", *common, "--in-place", "--clock", "low=-9")
-        self.refused("--falling is of ports towards the memories", *common, "--in-place", "--falling")
-        self.refused("the files of pins are wanted", "sdc", LIST, "none", "--mhz", "50", "--in-place")
-        self.refused("--places is of memories in their places", "flow", LIST, *PINS, "none", "--places", PLACES)
+        self.refused("--falling is for ports to the memories", *common, "--in-place", "--falling")
+        self.refused("--in-place needs the files of pins", "sdc", LIST, "none", "--mhz", "50", "--in-place")
+        self.refused("--places needs --in-place", "flow", LIST, *PINS, "none", "--places", PLACES)
 
     # ---- the makefile
 

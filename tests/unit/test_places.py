@@ -70,14 +70,14 @@ class InPlace(unittest.TestCase):
             read_places(self.text(said), system_of().system)
 
     def test_texts(self) -> None:
-        self.refused(HEAD + AT, "is started by the lines start, done and fail, or by the line tap")
-        self.refused(HEAD + TAP + AT.replace("at kept f\n", ""), "no line tells where kept stands")
-        self.refused(HEAD + TAP + AT.replace("kept f", "kept a"), "late_0 stands there too")
-        self.refused(HEAD + TAP + AT + "at other g\n", "no memory is named other")
-        self.refused(HEAD + TAP + AT + "at kept g\n", "kept stands in line 12 too")
+        self.refused(HEAD + AT, "write either the lines start, done and fail, or the line tap")
+        self.refused(HEAD + TAP + AT.replace("at kept f\n", ""), "no line 'at' is for kept")
+        self.refused(HEAD + TAP + AT.replace("kept f", "kept a"), "late_0 has that place, too")
+        self.refused(HEAD + TAP + AT + "at other g\n", "there is no memory other")
+        self.refused(HEAD + TAP + AT + "at kept g\n", "line 12 has kept, too")
         self.refused(HEAD + TAP + AT + "clock seen 10\n", "seen is no input of camera")
         self.refused(HEAD + TAP + AT + "set margin 2'b01\n", "margin has 3 bits")
-        self.refused(HEAD + TAP + AT + "set tck 1'b0\n", "tck is told twice")
+        self.refused(HEAD + TAP + AT + "set tck 1'b0\n", "tck is named twice")
         self.refused(HEAD.replace("camera.v", "camera.list") + TAP + AT, "no source has the module camera")
         self.refused(HEAD + TAP + AT.replace("d\n", "d; $finish\n"), "a line is at MEMORY PATH")
         self.refused("chip camera\n", "begins with 'places 1'")
@@ -113,7 +113,7 @@ class InPlace(unittest.TestCase):
         said = said.replace("before examples/in_place/camera_before.v", f"before {self.folder}/before.v")
         target = system_of()
         found = places_proof.differences(target, read_places(self.text(said), target.system))
-        self.assertEqual(found, ["mode of kept is tied to 2'b01 by the pins, and was not before"])
+        self.assertEqual(found, ["mode of kept is tied to 2'b01 by the file of pins, and was not before"])
 
     # ---- the run
 

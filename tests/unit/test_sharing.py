@@ -78,7 +78,7 @@ class Sharing(unittest.TestCase):
         ):
             with self.assertRaisesRegex(ToolError, why):
                 self.system(units)
-        with self.assertRaisesRegex(ToolError, "gray is shared, and in its place each memory has a controller"):
+        with self.assertRaisesRegex(ToolError, "gray is shared, but a memory in its place has a controller"):
             of_places(self.system(GRAY))
 
     def test_comparators(self) -> None:

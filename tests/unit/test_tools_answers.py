@@ -157,10 +157,10 @@ class Files(Tools):
         self.assertEqual(files, ["@/out/tiny_test.sdc", "@/out/tiny_normal.sdc"])
         self.assertIn("at 200 MHz", (self.folder / "out" / "tiny_normal.sdc").read_text())
         wrong: dict[str, list[str]] = {
-            "^--mhz is wanted": [],
+            "^give --mhz": [],
             "^--mhz is a number above 0, and not '0'$": ["--mhz", "0"],
             "^--share is below 1, and not 1$": ["--mhz", "100", "--share", "1"],
-            "one of --apb and --jtag at most": ["--mhz", "100", "--apb", "--jtag"],
+            "at most one of --apb and --jtag": ["--mhz", "100", "--apb", "--jtag"],
         }
         for message, options in wrong.items():
             with self.subTest(options=options), self.assertRaisesRegex(ToolError, message):

@@ -147,15 +147,15 @@ class Refused(Chips):
 
     def test_words_of_access(self) -> None:
         pins = [f"@/{name}.pins" for name in NAMES]
-        self.refused("^--sib is of a TAP, and stands beside --jtag", "access", "@/four.mem", "@/out", "--sib")
+        self.refused("^--sib needs --jtag", "access", "@/four.mem", "@/out", "--sib")
         bus = "^a bus reads the log of a whole chip: write --apb or --jtag"
         self.refused(bus, "access", "@/soc.chip", *pins, "@/out", "--log", "2")
         self.refused(
             "^--in-place keeps the first failure", "access", "@/soc.chip", *pins, "@/out", "--in-place", "--each"
         )
-        self.refused("^--jtag of one memory wants --march MARCH", "access", "@/four.mem", "@/out", "--jtag")
+        self.refused("^for one memory --jtag needs --march MARCH", "access", "@/four.mem", "@/out", "--jtag")
         self.refused(
-            "^--march is of one memory; a chip file has its marches$",
+            "^--march is for one memory: a chip file names its marches$",
             "access",
             "@/soc.chip",
             "@/out",
@@ -171,14 +171,14 @@ class Refused(Chips):
 
     def test_pins_that_are_missing(self) -> None:
         self.refused(
-            "^no file of pins is of other: each is named as its memory, as other.pins$",
+            "^no file lists the pins of other: name each file after its memory, as other.pins$",
             "top",
             "@/soc.chip",
             "@/four.pins",
             "@/out",
         )
         (self.folder / "third.pins").write_text((self.folder / "four.pins").read_text())
-        third = "third.pins: this file is of third, and the memories are four, other$"
+        third = "third.pins: there is no memory third; the memories are four, other$"
         self.refused(third, "top", "@/soc.chip", *(f"@/{name}.pins" for name in (*NAMES, "third")), "@/out")
 
 

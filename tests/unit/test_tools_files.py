@@ -175,7 +175,7 @@ class Flows(Chips):
     def test_pins_that_are_missing(self) -> None:
         (self.folder / "other.pins").unlink()
         with self.assertRaisesRegex(
-            ToolError, "^beside the description of other is no file other.pins: name the files"
+            ToolError, "^the folder of the description of other has no file other.pins: name the files"
         ):
             self.flow()
 

@@ -119,14 +119,14 @@ class Proofs(Placed):
 class Texts(Placed):
     def test_texts_that_are_refused(self) -> None:
         refused = {
-            "no line tells where other stands": PLACES.replace("at other two\n", ""),
-            "four stands there too": PLACES.replace("at other two", "at other one.bank"),
-            "no memory is named third": PLACES + "at third x\n",
-            "four stands in line 5 too": PLACES + "at four two\n",
+            "no line 'at' is for other": PLACES.replace("at other two\n", ""),
+            "four has that place, too": PLACES.replace("at other two", "at other one.bank"),
+            "there is no memory third": PLACES + "at third x\n",
+            "line 5 has four, too": PLACES + "at four two\n",
             "nobody is no input of board": PLACES + "clock nobody 10\n",
             "a has 2 bits": PLACES + "set a 1'b0\n",
             "no source has the module board": PLACES.replace("after.v", "four.pins"),
-            "is started by the lines start, done and fail, or by the line tap": PLACES.replace("done done\n", ""),
+            "write either the lines start, done and fail, or the line tap": PLACES.replace("done done\n", ""),
             "begins with 'places 1'": PLACES.replace("places 1\n", ""),
             "a line is at MEMORY PATH": PLACES.replace("at other two", "at other two;"),
         }

@@ -180,7 +180,7 @@ def entry_in(line: str) -> re.Match[str] | None:
     if count and match is None:
         raise ToolError("an entry is 'cycle C expected X returned W'; the words are hexadecimal")
     if count > 1:
-        raise ToolError(f"the line has the word cycle {count} times, and an entry stands in a line of its own")
+        raise ToolError(f"the line has the word cycle {count} times: write each entry in a line of its own")
     return match
 
 
@@ -189,9 +189,9 @@ def entry_of(match: re.Match[str], line: str, memory: Memory) -> Entry:
     entry = Entry(int(match[1]), int(match[2], 16), int(match[3], 16))
     for word in match.group(2, 3):
         if int(word, 16) >> memory.bits:
-            raise ToolError(f"{word} is no word of {memory.bits} bits")
+            raise ToolError(f"{word} has more than {memory.bits} bits")
     if entry.expected == entry.word:
-        raise ToolError("the word that was read is the one that was expected")
+        raise ToolError("the word that was read equals the expected word")
     if line.endswith(match[3]) and len(match[3]) < len(memory.digits(0)):
         raise ToolError(f"the text ends within the word {match[3]}")
     return entry
@@ -225,16 +225,16 @@ class Heard:
     def take_entry(self, entry: Entry, is_first_failure: bool) -> None:
         entries = self.entries
         if self.is_over:
-            raise ToolError("an entry stands behind 'more': is this the log of two runs?")
+            raise ToolError("an entry comes after 'more': is this the log of two runs?")
         if len(entries) == 1 and entry == self.said_before:
             return
         self.said_before = entry if is_first_failure and not entries else None
         if entries and entry.cycle <= entries[-1].cycle:
-            told = f"cycle {entry.cycle} stands behind cycle {entries[-1].cycle}"
+            told = f"cycle {entry.cycle} comes after cycle {entries[-1].cycle}"
             raise ToolError(f"{told}: is this the log of two runs?")
         entries.append(entry)
         if len(entries) > MOST:
-            raise ToolError(f"these are more than {MOST:,} wrong reads")
+            raise ToolError(f"the log has more than {MOST:,} wrong reads")
 
 
 def read_log(path: str, memory: Memory, unit: int | None = None) -> tuple[list[Entry], bool]:

@@ -65,7 +65,7 @@ class Target:
     @staticmethod
     def of_chip(chip: Chip) -> Target:
         if chip.name in OF_SYSTEM_VERILOG | BUILT_IN:
-            why = "is a word of SystemVerilog, so most simulators refuse the chip's module: give it another name"
+            why = "is a reserved word of SystemVerilog, so most simulators refuse the chip's module: rename it"
             raise ToolError(f"'{chip.name}' {why}")
         units = [Unit(unit.memory, f"_{number}", unit.start) for number, unit in enumerate(chip.units)]
         return Target(chip.name, chip.name, units, True, chip.done)
@@ -85,7 +85,7 @@ class Target:
     def length(self) -> int:
         """The cycle of `done`, where the march is known."""
         if self.done is None:
-            raise ToolError(f"how long the test of {self.name} takes is not known without its march")
+            raise ToolError(f"without its march the length of the test of {self.name} is not known")
         return self.done
 
     @property

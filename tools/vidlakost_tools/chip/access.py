@@ -226,9 +226,8 @@ class SystemTarget(Target):
 def of_system(system: System) -> SystemTarget:
     """The target of a whole chip, whose chips are placed."""
     if system.name in RESERVED:
-        raise ToolError(
-            f"'{system.name}' is a word of SystemVerilog, so it names no module: give the chip another name"
-        )
+        why = "is a reserved word of SystemVerilog, so no module can have this name"
+        raise ToolError(f"'{system.name}' {why}: rename the chip")
     memories = [dataclasses.replace(part.memory, name=part.name) for part in system.parts]
     units = [Unit(memory, f"_{number}") for number, memory in enumerate(memories)]
     return SystemTarget(system.name, f"{system.name}_system", units, True, cycles(system), system=system)
@@ -263,10 +262,10 @@ def files_of(folder: pathlib.Path, target: SystemTarget) -> list[str]:
     listed, module = folder / "files.f", folder / f"{target.top}.v"
     if not listed.is_file() or not module.is_file():
         raise ToolError(
-            f"{folder} has no {target.top}.v and files.f: it is the folder that vidlakost top --access wrote"
+            f"{folder} lacks {target.top}.v or files.f: give the folder that `vidlakost top --access` wrote"
         )
     if " asks" not in read_text(str(module), LARGE_BYTES):
-        raise ToolError(f"{module} tells no tester what its memories answer: write it by vidlakost top --access")
+        raise ToolError(f"{module} has no outputs for what its memories answer: write it by `vidlakost top --access`")
     names = [line for line in lines_of(read_described(str(listed))) if line and not line.startswith("//")]
     return [name for name in names if name != f"{target.top}_tb.sv"]
 

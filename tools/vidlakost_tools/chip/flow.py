@@ -50,7 +50,8 @@ TESTER = """
 def plain(path: str) -> str:
     """A path as a makefile can have it."""
     if not PLAIN.fullmatch(path):
-        raise ToolError(f"{shown(path)}: a makefile takes names of letters, digits and _./+@- alone, and no - first")
+        why = "a file name in the makefile has only letters, digits and _./+@-, and does not begin with -"
+        raise ToolError(f"{shown(path)}: {why}")
     return path
 
 

@@ -31,7 +31,7 @@ def in_system(system: System, cycle: int, part: Part, words: list[str], mux: int
     by = " by the second port" if turn.step.is_second else ""
     if turn.step.kind == "lanes":
         if system.collars[turn.step.numbers[0]] is not placed:
-            raise ToolError(f"in cycle {cycle} the lanes of another memory than {part.name} are tried")
+            raise ToolError(f"cycle {cycle} tries the lanes of another memory, not those of {part.name}")
         command = cycle - turn.first - placed.word.first.latency - 1
         lanes = collar_lanes.counted(placed.macro)[1][turn.step.is_second] + 1
         address = placed.word.first.words - 1 if command >= 6 * lanes else 0
@@ -53,7 +53,7 @@ def register(system: System, text: str, mux: int, has_sib: bool = False) -> list
     if not found["seen"]:
         return lines
     if found["unit"] >= target.count:
-        raise ToolError(f"the unit is {found['unit']}, and there are {target.count}")
+        raise ToolError(f"there is no unit {found['unit']}: the units are 0 to {target.count - 1}")
     part = system.parts[found["unit"]]
     words = [f"{found['expected']:x}", f"{found['returned']:x}"]
     if turn_at(system, found["cycle"]).step.kind != "lanes":

@@ -110,7 +110,7 @@ def read_list(path: str) -> System:
             raise ToolError(f"{path}:{line}: a list begins with 'list 1', and a chip file with 'chip 1'")
         if words[0] in HEADS:
             if len(words) != 2 or words[0] in said:
-                raise ToolError(f"{path}:{line}: the line {HEADS[words[0]]} stands once")
+                raise ToolError(f"{path}:{line}: write the line {HEADS[words[0]]} once, in this form")
             said[words[0]] = words[1]
             continue
         if words[0] != "unit":
@@ -119,7 +119,7 @@ def read_list(path: str) -> System:
         base = unit.memory.name
         if bases.setdefault(base, line) != line:
             raise ToolError(
-                f"{path}:{line}: the memory {base} stands in line {bases[base]} too: make it more instances there"
+                f"{path}:{line}: line {bases[base]} has the memory {base}, too: give it more instances there"
             )
         for number in range(count or 1):
             name = base if count is None else f"{base}_{number}"
@@ -136,7 +136,8 @@ def checked(path: str, said: dict[str, str], parts: list[Part]) -> System:
         raise ToolError(f"{path}: no line for {', '.join(missing)}")
     budget = number_of(said["budget"], f"{path}: budget", 1)
     if not is_name(said["name"]) or said["name"] in RESERVED or len(said["name"]) > 40:
-        raise ToolError(f"{path}: the name {shown(said['name'])} is none for a module")
+        why = "give an identifier of at most 40 characters that is not reserved"
+        raise ToolError(f"{path}: no module can have the name {shown(said['name'])}: {why}")
     if len(parts) > OF_LIST:
         raise ToolError(f"{path}: there are at most {OF_LIST} units, and these are {len(parts)}")
     heavy = next((part.name for part in parts if part.unit.weight > budget), None)
@@ -154,7 +155,7 @@ def refuse_twice(path: str, names: list[str]) -> None:
     counts = collections.Counter(name.lower() for name in names)
     twice = next((name for name in names if counts[name.lower()] > 1), None)
     if twice:
-        raise ToolError(f"{path}: two memories have the name {twice}, but for small and great letters")
+        raise ToolError(f"{path}: two memories would have the name {twice} if case is ignored: rename one")
 
 
 def read_system(path: str) -> System:
@@ -163,8 +164,9 @@ def read_system(path: str) -> System:
         return read_list(path)
     chip = read_chip(path)
     if chip.name in RESERVED or not is_name(chip.name):
-        why = "has a $" if "$" in chip.name else "is a word of SystemVerilog"
-        raise ToolError(f"{path}: the name '{chip.name}' {why}, so it is none for the chip's module in each tool")
+        why = "has a $" if "$" in chip.name else "is a reserved word of SystemVerilog"
+        told = f"the name '{chip.name}' {why}, so some tools refuse the chip's module"
+        raise ToolError(f"{path}: {told}: rename the chip")
     parts = [Part(unit.memory.name, unit.memory, None, unit, 0, number) for number, unit in enumerate(chip.units)]
     refuse_twice(path, [part.name for part in parts])
     return System(chip.name, chip.budget, parts, [chip])
@@ -191,21 +193,21 @@ def give_collars(system: System, files: list[str]) -> None:
         names = halves_in(path) or [stem_of(path)]
         for name in names:
             if name not in bases:
-                told = f"this file is of {name}" if name else "a file of pins is named as its memory, as m.pins"
-                raise ToolError(f"{path}: {told}, and the memories are {', '.join(bases)}")
+                told = f"there is no memory {name}" if name else "name a file of pins after its memory, as m.pins"
+                raise ToolError(f"{path}: {told}; the memories are {', '.join(bases)}")
             if name in taken:
-                raise ToolError(f"{path}: {taken[name]} tells the pins of {name} too")
+                raise ToolError(f"{path}: {taken[name]} lists the pins of {name}, too")
             taken[name] = path
         word = Word([bases[name] for name in dict.fromkeys(names)])
         macro = read_macro(path, word)
         of_each = [[part for part in system.parts if part.memory is memory] for memory in word.memories]
         if len({len(parts) for parts in of_each}) > 1:
-            raise ToolError(f"{path}: there are not as many of {names[0]} as of {names[1]}")
+            raise ToolError(f"{path}: {names[0]} and {names[1]} have different numbers of instances")
         system.collars += [Placed(macro, word, list(parts)) for parts in zip(*of_each)]
     missing = [name for name in bases if name not in taken]
     if missing:
         raise ToolError(
-            f"no file of pins is of {', '.join(missing)}: each is named as its memory, as {missing[0]}.pins"
+            f"no file lists the pins of {', '.join(missing)}: name each file after its memory, as {missing[0]}.pins"
         )
     order = {part.name: number for number, part in enumerate(system.parts)}
     system.collars.sort(key=lambda placed: order[placed.name])
@@ -256,13 +258,13 @@ def place_chip(system: System, path: str) -> None:
     if are_together(system, given):
         return
     pair = next(placed.parts for placed in system.collars if len({part.unit.group for part in placed.parts}) > 1)
-    apart = f"{' and '.join(part.name for part in pair)} are parts of one word, and stand in two groups"
+    apart = f"{' and '.join(part.name for part in pair)} are parts of one word, but are in two groups"
     found = together(system, system.collars)
     if found is None and sum(part.unit.weight for part in pair) > system.budget:
         raise ToolError(f"{path}: {apart}: the budget has no room for both")
     if found is None:
         raise ToolError(
-            f"{path}: {apart}, in each order that was tried: let some units stand in another chip file, or take a list"
+            f"{path}: {apart}, in each order that was tried: move some units to another chip file, or write a list"
         )
     raise ToolError(f"{path}: {apart}: write the units in the order {', '.join(part.name for part in found)}")
 
@@ -302,10 +304,8 @@ def place_list(system: System) -> list[list[Part]]:
                 tried, order = group, together(system, group)
                 chips.append([])
             if order is None:
-                raise ToolError(
-                    f"{' and '.join(part.name for one in group for part in one.parts)} weigh more than the budget"
-                    " together"
-                )
+                names = " and ".join(part.name for one in group for part in one.parts)
+                raise ToolError(f"{names} together weigh more than the budget")
             batch, chips[-1:] = tried, [order]
     for number, parts in enumerate(chips):
         for at, part in enumerate(parts):
@@ -339,5 +339,6 @@ def description_of(part: Part) -> str:
 def plain_path(path: str) -> str:
     """The name of a file as a chip file can have it."""
     if not re.fullmatch(r"[!-\"$-~]{1,255}", path):
-        raise ToolError(f"{shown(path)}: a chip file names files without blanks and #, of at most 255 bytes")
+        why = "a file name in a chip file has at most 255 bytes of printable ASCII, and no blank or #"
+        raise ToolError(f"{shown(path)}: {why}")
     return path

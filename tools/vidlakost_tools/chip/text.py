@@ -66,7 +66,8 @@ def refuse_names(system: System) -> None:
     seen = {port.name for port in own_names(system)} | planted_names() | {f"{system.name}_system"}
     for name in names:
         if name in seen or name in RESERVED:
-            raise ToolError(f"two ports of {system.name}_system would be '{name}', or it is reserved: rename a memory")
+            told = f"two ports of {system.name}_system would have the name '{name}', or it is a reserved word"
+            raise ToolError(f"{told}: rename a memory")
         seen.add(name)
 
 
@@ -82,7 +83,7 @@ def refuse_modules(system: System, given: list[str]) -> None:
     counts = collections.Counter(name.lower() for name in [*modules, *(set(given) - macros)])
     twice = next((name for name in modules if counts[name.lower()] > 1), None)
     if twice:
-        raise ToolError(f"two modules would have the name {twice}, but for small and great letters: rename one")
+        raise ToolError(f"two modules would have the name {twice} if case is ignored: rename one")
 
 
 class Text:

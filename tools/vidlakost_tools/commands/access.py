@@ -78,7 +78,7 @@ from vidlakost_tools.tool import ToolError, number_of, tell, usage_of, words_of
 def target_of(path: str, march: str | None) -> Target:
     if is_chip_file(path):
         if march:
-            raise ToolError("--march is of one memory; a chip file has its marches")
+            raise ToolError("--march is for one memory: a chip file names its marches")
         return Target.of_chip(read_chip(path))
     memory = read_memory(path)
     return Target.of_memory(memory, memory.cycles(march_of(march)[1]) - 1 if march else None)
@@ -96,7 +96,7 @@ def identity_of(options: dict[str, Any]) -> int:
     text = options.get("--idcode", f"{IDENTITY:08x}")
     identity = int(text, 16) if re.fullmatch("(0[xX])?[0-9a-fA-F]{8}", text) else 0
     if not identity & 1 or identity >> 1 & 0x7FF == 0x7F:
-        why = "whose lowest bit is 1, and whose bits 11 to 1 are not 0x7f"
+        why = "with 1 in the lowest bit, and not 0x7f in bits 11 to 1"
         raise ToolError(f"--idcode has eight hexadecimal digits, {why}; it is {shown(text)}")
     return identity
 
@@ -152,8 +152,7 @@ def of_tap(target: Target, options: dict[str, Any]) -> dict[str, str]:
     """The files of the TAP."""
     name = target.name
     if target.done is None:
-        why = "what waits for the test has to know how long it takes"
-        raise ToolError(f"--jtag of one memory wants --march MARCH: {why}")
+        raise ToolError("for one memory --jtag needs --march MARCH, which says how long to wait for the test")
     mhz = megahertz(options["--mhz"]) if "--mhz" in options else None
     made = {
         f"{name}_tap.v": tap.block(target),
@@ -187,13 +186,13 @@ def refuse_of_whole(pins: list[str], options: dict[str, Any]) -> None:
     """Refuses words that don't go together where it is of a whole chip."""
     why = ""
     if not pins:
-        why = "of a list the files of pins are wanted, as for top"
+        why = "a list needs the files of pins, as for `vidlakost top`"
     elif "--march" in options:
-        why = "--march is of one memory: here the chip file or the list names the marches, so leave it out"
+        why = "--march is for one memory: here the chip file or the list names the marches, so leave it out"
     elif {"--in-place", "--each"} <= set(options):
         why = "--in-place keeps the first failure of each memory without --each"
     elif {"--in-place", "--log"} <= set(options):
-        why = "a memory in its place keeps its first failure alone: leave out --log, or join all by `vidlakost top`"
+        why = "with --in-place a memory keeps only its first failure: leave out --log, or join all by `vidlakost top`"
     elif "--log" in options and not {"--apb", "--jtag"} & set(options):
         why = "a bus reads the log of a whole chip: write --apb or --jtag, too"
     if why:
@@ -242,7 +241,7 @@ def main(arguments: list[str]) -> int:
     (path, *pins, folder), options = words_of(__doc__, arguments, allowed, 2, None)
     alone = [name for name in ("--sib", "--idcode") if name in options and "--jtag" not in options]
     if alone:
-        raise ToolError(f"{alone[0]} is of a TAP, and stands beside --jtag\n{usage_of(__doc__)}")
+        raise ToolError(f"{alone[0]} needs --jtag\n{usage_of(__doc__)}")
     if pins or is_list(path) or {"--in-place", "--each"} & set(options):
         of_whole(path, pins, pathlib.Path(folder), options)
         return 0

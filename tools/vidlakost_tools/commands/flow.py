@@ -65,7 +65,8 @@ def pins_beside(system: System) -> list[str]:
     found.update({name: path for name, path in alone.items() if path.is_file()})
     missing = [name for name in names if name not in found]
     if missing:
-        raise ToolError(f"beside the description of {missing[0]} is no file {missing[0]}.pins: name the files of pins")
+        told = f"the folder of the description of {missing[0]} has no file {missing[0]}.pins"
+        raise ToolError(f"{told}: name the files of pins")
     return list(dict.fromkeys(map(str, found.values())))
 
 
@@ -86,7 +87,7 @@ def main(arguments: list[str]) -> int:
     (path, *pins, folder), options = words_of(__doc__, arguments, allowed, 2)
     is_placed = "--in-place" in options
     if "--places" in options and not is_placed:
-        raise ToolError(f"--places is of memories in their places, and stands beside --in-place\n{usage_of(__doc__)}")
+        raise ToolError(f"--places needs --in-place\n{usage_of(__doc__)}")
     system = soc.read_system(path)
     pins = pins or pins_beside(system)
     soc.give_collars(system, pins)

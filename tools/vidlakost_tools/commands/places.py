@@ -23,9 +23,9 @@ The lines source, before, at, clock and set may come many times. places writes t
                         turn, and then a bit of all at once. The test has to find each there and nowhere else, with its
                         first failure. +planted=MEMORY plants at that memory alone
     NAME_places.f       what a simulator has to read
-If there are lines before, Yosys proves that in use each pin of each memory, each flip-flop and each output of the chip
-has what it had before. places prints each one that differs; the status is then 1. Without Yosys it says that nothing
-was proved.
+If PLACES has lines `before`, Yosys proves that in use each pin of each memory, each flip-flop and each output of the
+chip has what it had before. places prints each one that differs; the status is then 1. Without Yosys it says that
+nothing was proved.
     cd FOLDER && iverilog -g2012 -o tb -c NAME_places.f && vvp -n tb && vvp -n tb +planted"""
 from __future__ import annotations
 
@@ -49,11 +49,11 @@ def listed(folder: pathlib.Path, target: PlaceTarget, places: Places) -> list[st
     files = folder / "files.f"
     if not files.is_file() or f"{target.name}_access.v" not in lines_of(read_described(files)):
         told = f"{folder} has no {target.name}_access.v in its files.f"
-        raise ToolError(f"{told}: it is the folder of vidlakost top --in-place")
+        raise ToolError(f"{told}: give the folder that `vidlakost top --in-place` wrote")
     own = [line for line in lines_of(read_described(files)) if line and not line.startswith("//")]
     reach = [f"{target.name}_{what}.v" for what in ("tap", "apb", "cross")]
     if places.has_tap and not (folder / reach[0]).is_file():
-        raise ToolError(f"{folder} has no {reach[0]}: vidlakost access --in-place --jtag writes it")
+        raise ToolError(f"{folder} has no {reach[0]}: `vidlakost access --in-place --jtag` writes it")
     found = [name for name in reach if (folder / name).is_file()]
     sources = [os.path.relpath(os.path.realpath(file), os.path.realpath(folder)) for file in places.sources]
     odd = next((name for name in sources if any(letter in name for letter in " \t\"#")), None)
@@ -72,10 +72,10 @@ def main(arguments: list[str]) -> int:
     texts[f"{target.name}_places.f"] = "\n".join([f"{MARK} places", *listed(folder, target, places), ""])
     write_own(folder, texts, read)
     if not places.before:
-        tell("places: no line before tells what the chip was, so nothing is proved of its use")
+        tell("places: there is no line 'before', so nothing is proved about the use of the chip")
         return 0
     if shutil.which("yosys") is None:
-        tell("places: yosys is not on the PATH, so nothing is proved of the use of the chip")
+        tell("places: yosys is not on the PATH, so nothing is proved about the use of the chip")
         return 0
     found = places_proof.differences(target, places)
     told = [f"{target.name}: in use {line}" for line in found]

@@ -63,7 +63,7 @@ def positive(options: dict[str, Any], name: str, usual: float) -> float:
 def target_of(path: str, pins: list[str]) -> Target:
     if pins or is_list(path):
         if not pins:
-            raise ToolError(f"of a list the files of pins are wanted, as for top\n{usage_of(__doc__)}")
+            raise ToolError(f"a list needs the files of pins, as for `vidlakost top`\n{usage_of(__doc__)}")
         system = soc.read_system(path)
         soc.give_collars(system, pins)
         soc.planned(system, path)
@@ -79,9 +79,9 @@ def clocks_of(options: dict[str, Any], names: list[str]) -> dict[str, float]:
     for text in options.get("--clock", []):
         name, _, mhz = text.partition("=")
         if name not in names:
-            raise ToolError(f"--clock is MEMORY=F, where the memories are {', '.join(names)}, and not {shown(text)}")
+            raise ToolError(f"--clock is MEMORY=F, and not {shown(text)}; the memories are {', '.join(names)}")
         if name in found:
-            raise ToolError(f"--clock tells the clock of {name} twice")
+            raise ToolError(f"--clock sets the clock of {name} twice")
         found[name] = number(f"the clock of {name}", mhz)
     return found
 
@@ -91,9 +91,9 @@ def texts_in_place(
 ) -> tuple[dict[str, str], list[str]]:
     """The files of memories in their places, and what was read for them."""
     if not pins:
-        raise ToolError(f"of memories in their places the files of pins are wanted\n{usage_of(__doc__)}")
+        raise ToolError(f"--in-place needs the files of pins\n{usage_of(__doc__)}")
     if timing.is_falling:
-        raise ToolError("--falling is of ports towards the memories, and in their places these stand inside")
+        raise ToolError("--falling is for ports to the memories, and with --in-place these are inside the modules")
     system = soc.read_system(path)
     soc.give_collars(system, pins)
     target = of_places(system)
@@ -110,10 +110,10 @@ def main(arguments: list[str]) -> int:
     allowed.update({"--apb": 0, "--jtag": 0, "--falling": 0, "--in-place": 0, "--clock": []})
     (path, *pins, folder), options = words_of(__doc__, arguments, allowed, 2, None)
     if "--mhz" not in options or {"--apb", "--jtag"} <= set(options):
-        raise ToolError(f"--mhz is wanted, and one of --apb and --jtag at most\n{usage_of(__doc__)}")
+        raise ToolError(f"give --mhz, and at most one of --apb and --jtag\n{usage_of(__doc__)}")
     alone = next((name for name in PLACED if name in options and "--in-place" not in options), None)
     if alone:
-        raise ToolError(f"{alone} is of memories in their places, and stands beside --in-place\n{usage_of(__doc__)}")
+        raise ToolError(f"{alone} needs --in-place\n{usage_of(__doc__)}")
     test, share = positive(options, "--mhz", 0), positive(options, "--share", 0.4)
     if share >= 1:
         raise ToolError(f"--share is below 1, and not {share:g}")

@@ -93,7 +93,7 @@ def models(system: System, given: Mapping[str, str], folder: pathlib.Path) -> di
             look_at_ports(macro, str(theirs))
         text = model(macro, placed.word)
         if macro.name in found and found[macro.name][0] != text:
-            told = f"{macro.path} and {found[macro.name][1]} tell the macro {macro.name} otherwise"
+            told = f"{macro.path} and {found[macro.name][1]} describe the macro {macro.name} differently"
             raise ToolError(f"{told}: name its model by --model")
         found[macro.name] = text, macro.path
     kept = [name for name in found if (folder / f"{name}.v").exists() and not is_own(folder / f"{name}.v")]
@@ -206,11 +206,8 @@ def tell_untested(system: System) -> None:
         tell(f"top: not tested: {told_pins(left)}")
     same = [name for name, placed in words.items() if alike(placed.word)]
     if same:
-        told = (
-            "two bits of a word hold the same in every background, and the test does not see where one hangs on the"
-            " other"
-        )
-        tell(f"top: of {', '.join(same)}: {told}")
+        told = "two bits of a word hold the same in every background"
+        tell(f"top: of {', '.join(same)}: {told}, so the test does not see if one depends on the other")
 
 
 def main(arguments: list[str]) -> int:
@@ -218,9 +215,8 @@ def main(arguments: list[str]) -> int:
         __doc__, arguments, {"--model": [], "--access": 0, "--in-place": 0, "--clock-mux": 1, "--plan": 0}, 2
     )
     if {"--access", "--in-place"} <= set(options):
-        raise ToolError(
-            f"--access is of a module that joins the memories, and --in-place writes none\n{usage_of(__doc__)}"
-        )
+        why = "--access needs the module that joins the memories, and --in-place writes none"
+        raise ToolError(f"{why}\n{usage_of(__doc__)}")
     path, *files = words
     system = soc.read_system(path)
     system.has_access = "--access" in options

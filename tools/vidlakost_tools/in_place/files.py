@@ -37,7 +37,7 @@ def refuse_modules(system: System, given: list[str]) -> None:
     counts = collections.Counter(name.lower() for name in [*made, *macros, *(set(given) - macros)])
     twice = next((name for name in [*made, *macros] if counts[name.lower()] > 1), None)
     if twice:
-        raise ToolError(f"two modules would have the name {twice}, but for small and great letters: rename one")
+        raise ToolError(f"two modules would have the name {twice} if case is ignored: rename one")
 
 
 def bases(system: System) -> list[Part]:

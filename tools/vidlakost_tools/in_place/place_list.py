@@ -74,7 +74,7 @@ class Places:
             if not has_form or not all(PATH.fullmatch(path) for path in rest[1::2]):
                 return False
             if rest[0] in self.places:
-                raise self.refuse(line, f"{rest[0]} stands in line {self.places[rest[0]].line} too")
+                raise self.refuse(line, f"line {self.places[rest[0]].line} has {rest[0]}, too")
             self.places[rest[0]] = Place(rest[1], rest[3] if rest[3:] else rest[1], line)
             return True
         if word == "tap":
@@ -119,7 +119,7 @@ def read_places(path: str, system: System) -> Places:
         if words[0] not in FORMS:
             raise found.refuse(line, f"there is no line {shown(words[0])} here")
         if words[0] in seen and words[0] not in MANY:
-            raise found.refuse(line, f"the line {FORMS[words[0]]} stands once, and line {seen[words[0]]} has it")
+            raise found.refuse(line, f"the line {FORMS[words[0]]} comes once, and line {seen[words[0]]} has it")
         seen[words[0]] = line
         if not found.taken(line, words[0], words[1:]):
             raise found.refuse(line, f"a line is {FORMS[words[0]]}")
@@ -136,7 +136,7 @@ def refuse_starts(places: Places, seen: dict[str, int]) -> None:
     """The test is started in one way."""
     signals = [word for word in ("start", "done", "fail") if word in seen]
     if ("tap" in seen) == bool(signals) or signals and len(signals) < 3:
-        raise places.refuse(0, "the test is started by the lines start, done and fail, or by the line tap")
+        raise places.refuse(0, "write either the lines start, done and fail, or the line tap")
 
 
 def refuse_names(places: Places, system: System) -> None:
@@ -144,16 +144,17 @@ def refuse_names(places: Places, system: System) -> None:
     names = [placed.name for placed in system.collars]
     strange = next((name for name in places.places if name not in names), None)
     if strange:
-        raise places.refuse(places.places[strange].line, f"no memory is named {strange}: they are {', '.join(names)}")
+        why = f"there is no memory {strange}: the memories are {', '.join(names)}"
+        raise places.refuse(places.places[strange].line, why)
     missing = [name for name in names if name not in places.places]
     if missing:
-        raise places.refuse(0, f"no line tells where {', '.join(missing)} stand{'s' * (len(missing) == 1)}")
+        raise places.refuse(0, f"no line 'at' is for {', '.join(missing)}")
     for what in ("path", "was"):
         seen: dict[str, str] = {}
         for name, place in places.places.items():
             there = seen.setdefault(getattr(place, what), name)
             if there != name:
-                raise places.refuse(place.line, f"{there} stands there too")
+                raise places.refuse(place.line, f"{there} has that place, too")
 
 
 def ports_of(places: Places) -> list[Found]:
@@ -166,7 +167,7 @@ def ports_of(places: Places) -> list[Found]:
     known = {port.name: port for port in ports}
     unknown = next((port.name for port in ports if not port.width or port.way == "inout"), None)
     if unknown:
-        raise places.refuse(0, f"{unknown} of {places.chip} is an inout, or has a width that no number tells")
+        raise places.refuse(0, f"{unknown} of {places.chip} is an inout, or its width is not a number")
     outputs = [places.start[word] for word in ("done", "fail", "tdo") if word in places.start]
     inputs = [*places.clocks, *places.values, *(name for name in places.start.values() if name not in outputs)]
     for names, way in ((inputs, "input"), (outputs, "output")):
@@ -175,10 +176,10 @@ def ports_of(places: Places) -> list[Found]:
                 raise places.refuse(0, f"{name} is no {way} of {places.chip}")
     twice = next((name for name in inputs if inputs.count(name) > 1), None)
     if twice:
-        raise places.refuse(0, f"{twice} is told twice")
+        raise places.refuse(0, f"{twice} is named twice")
     for name, value in places.values.items():
         if literal(value, known[name].width) is None:
-            raise places.refuse(0, f"{name} has {known[name].width} bits, and '{value}' has not")
+            raise places.refuse(0, f"{name} has {known[name].width} bits, and '{value}' does not fit")
     return ports
 
 

@@ -94,7 +94,8 @@ class Proof:
             for pin in placed.macro.of("tie"):
                 port = f"place_{number}.{pin.name}"
                 if port in gold.ports and not is_tied(gold, pin, placed, number):
-                    found.append(f"{pin.name} of {placed.name} is tied to {pin.value} by the pins, and was not before")
+                    tied = f"{pin.name} of {placed.name} is tied to {pin.value} by the file of pins"
+                    found.append(f"{tied}, and was not before")
         return found
 
     def not_compared(self) -> set[str]:
@@ -127,7 +128,7 @@ class Proof:
         pairs = [UNPROVED.search(line) for line in lines]
         left = [f"{self.named(found[1], found[2])} is not what it was" for found in pairs if found]
         if not left and not any("Equivalence successfully proven!" in line for line in lines):
-            raise ToolError("Yosys says nothing of the proof", 1)
+            raise ToolError("Yosys reports no result of the proof", 1)
         return list(dict.fromkeys(left))
 
 

@@ -77,7 +77,8 @@ def of_places(system: System) -> PlaceTarget:
     """The target of memories in their places."""
     shared = next((part.memory.name for part in system.parts if part.is_shared), None)
     if shared:
-        raise ToolError(f"{shared} is shared, and in its place each memory has a controller of its own: leave it out")
+        told = f"{shared} is shared, but a memory in its place has a controller of its own"
+        raise ToolError(f"{told}: leave out the word shared")
     numbers = {id(placed): number for number, placed in enumerate(system.collars)}
     found = groups_of(system, system.collars, len(system.parts))
     groups = [sorted(numbers[id(placed)] for placed in group) for group in found]

@@ -44,7 +44,7 @@ class InPlace:
         pins = {name for pin in self.macro.pins for name in pin.names()}
         for pin in self.macro.pins:
             if own & set(pin.names()):
-                told = f"'{pin.name}' is a port of the memory in its place, so no pin can have that name"
+                told = f"the module {self.word.name}_in_place has a port '{pin.name}', so no pin can have that name"
                 raise self.macro.refuse(pin.line, told)
         self.names = Names(own | pins | planted_names() | {"probed", "probe"})
         self.names.of("test")
