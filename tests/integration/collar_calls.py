@@ -93,21 +93,21 @@ CALLS: List[Call] = [
     Call(
         "tools/top apart.chip lo.pins s.pins none",
         status=2,
-        says="top: apart.chip: lo and hi are parts of one word, and",
+        says="top: apart.chip: lo and hi are parts of one word, but",
     ),
     Call(
         "tools/top never.chip lo.pins none",
         status=2,
-        says="top: never.chip: lo and hi are parts of one word, and stand in two",
+        says="top: never.chip: lo and hi are parts of one word, but are in two",
     ),
     Call("tools/top twice.list lo.pins twice --plan", prints="  3  hi_1     1     1      0    122   244\n"),
-    Call("tools/top light.list lo.pins none", status=2, says="top: lo and hi weigh more than the budget together"),
+    Call("tools/top light.list lo.pins none", status=2, says="top: lo and hi together weigh more than the budget"),
     Call(
         "tools/top logic.chip s.pins none",
         status=2,
         says="top: logic.chip: the name 'logic' is a reserved word of SystemVerilog",
     ),
-    Call("tools/top case.list lo.pins none", status=2, says="top: case.list: two memories have the name lo, but"),
+    Call("tools/top case.list lo.pins none", status=2, says="top: case.list: two memories would have the name lo if"),
     Call("tools/top head.list s.pins none", status=2, says="top: head.list:1: a list begins with 'list 1'"),
     Call("tools/top line.list s.pins none", status=2, says="top: line.list:4: there is no line 'units' here"),
     Call("tools/top crowd.list s.pins none", status=2, says="top: crowd.list:4: there are at most 1024 units"),
@@ -183,7 +183,7 @@ CALLS: List[Call] = [
         "tools/flow two.chip s.pins t.pins mine", status=2, says="flow: mine/Makefile is there and was not written by"
     ),
     Call("tools/flow apart.chip flow", status=2, says="flow: apart.chip: lo and hi are parts of one word"),
-    Call("tools/flow case.list flow", status=2, says="flow: case.list: two memories have the name lo"),
+    Call("tools/flow case.list flow", status=2, says="flow: case.list: two memories would have the name lo"),
     Call(
         "tools/flow examples/chip/soc.chip flow",
         status=2,
