@@ -1,1 +1,1 @@
-"""What stands round a self-test so that a tester starts it and reads what it found, by a bus or by a TAP."""
+"""Modules round a self-test, by which a tester starts it and reads what it found, over a bus or a TAP."""

@@ -56,8 +56,8 @@ def parts_of(name: str, source: str, width: int, at: int, about: str) -> list[Re
 def in_words(
     name: str, at: int, further: int, source: str, count: int, about: str, writable: bool = False
 ) -> list[Register]:
-    """A bit for each unit in one register, or in several of 32 bits; those behind the first stand at `further` and
-    behind."""
+    """A bit for each unit in one register, or in several of 32 bits; those after the first are at `further` and
+    after."""
     field = source.split("_")[-1].replace("failed", "fail")
     if count <= 32:
         return [Register(name, at, [Field(field, 0, count, source, about)], writable)]

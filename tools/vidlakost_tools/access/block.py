@@ -1,4 +1,4 @@
-"""What stands round a self-test so that a tester starts it and reads what it found: a start that is synchronised, the
+"""The module round a self-test, by which a tester starts it and reads what it found: a start that is synchronised, the
 state, and the cycle and the words of the first failure."""
 from __future__ import annotations
 
@@ -40,9 +40,9 @@ def returned_of(target: Target, number: int) -> str:
 
 
 def of_each(target: Target) -> list[str]:
-    """The registers of the first failure of each memory, and the choice of that which is told: the first one by its
-    number that failed and is not to be ignored. What is chosen stands still, so that ignore may be of any clock and
-    change behind done."""
+    """The registers of the first failure of each memory, and the choice of the one that is shown: the first one by its
+    number that failed and is not to be ignored. What is chosen is stable, so ignore may come from any clock and change
+    after done."""
     words = [(f"cycle_{at}", 32, "count") for at in range(target.count)]
     for at, unit in enumerate(target.units):
         bits, suffix = unit.memory.bits, unit.suffix
@@ -75,7 +75,7 @@ def of_each(target: Target) -> list[str]:
 
 
 def told_of_each(target: Target) -> list[str]:
-    """Which of them is told."""
+    """Which of them is shown."""
     count, bits, last = target.count, target.unit_bits, target.count - 1
     chosen_unit = "".join(f"open[{at}] ? {bits}'d{at} : " for at in range(last)) if count > 1 else ""
     found = [
@@ -198,7 +198,7 @@ def cross(target: Target) -> str:
 
 
 def inside(target: Target, clock: str, reset_n: str) -> str:
-    """The declarations and the two modules that each bus has behind it."""
+    """The declarations and the two modules that each bus contains."""
     wires = [
         ("done", 1),
         ("fail", target.count),

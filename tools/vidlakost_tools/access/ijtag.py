@@ -1,5 +1,5 @@
-"""The registers behind a TAP in ICL (IEEE 1687), the segment insertion bits in front of them where there are some,
-and the procedures on them in PDL."""
+"""The registers behind a TAP in ICL (IEEE 1687), the segment insertion bits in front of them if there are some, and the
+procedures on them in PDL."""
 from __future__ import annotations
 
 import dataclasses
@@ -19,8 +19,8 @@ SIB = beside(__file__, "ijtag_sib.sv")
 
 @dataclasses.dataclass(frozen=True)
 class Field:
-    """A part of a register, from its lowest bit on. Where it is written it holds what it was given; what is captured
-    comes from outside, but for a part that only holds. What ICL can't say of it stands in a comment."""
+    """A part of a register, from its lowest bit on. If it is written it holds what it was given; what is captured comes
+    from outside, except in a part that only holds. What ICL can't say of it goes into a comment."""
 
     name: str
     low: int

@@ -199,7 +199,7 @@ def entry_of(match: re.Match[str], line: str, memory: Memory) -> Entry:
 
 @dataclasses.dataclass
 class Heard:
-    """What the lines of a log have said until now of a memory, or of a unit of a chip."""
+    """What the lines of a log have said so far of a memory, or of a unit of a chip."""
 
     memory: Memory
     unit: int | None
@@ -238,9 +238,9 @@ class Heard:
 
 
 def read_log(path: str, memory: Memory, unit: int | None = None) -> tuple[list[Entry], bool]:
-    """The entries of a log, of a chip those of a unit, and whether more came, which a line `more` says of all units and
-    `unit U more` of one. A line has `cycle C expected X returned W`; other lines are left. They come in the order of
-    their cycles, and the last one may be cut off where a run was ended."""
+    """The entries of a log (for a chip, those of a unit), and whether more came: a line `more` says so for all units
+    and `unit U more` for one. A line has `cycle C expected X returned W`; other lines are skipped. Entries come in the
+    order of their cycles, and the last one may be cut off if a run was ended."""
     heard = Heard(memory, unit)
     for count, line in enumerate(stream(path, LOG_BYTES), 1):
         try:

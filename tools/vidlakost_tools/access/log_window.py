@@ -1,4 +1,4 @@
-"""The way of a log to a tester: the window of an APB3 bus, and the register of a TAP that tells one entry in each
+"""The way of a log to a tester: the window of an APB3 bus, and the register of a TAP that gives one entry in each
 scan."""
 from __future__ import annotations
 
@@ -49,7 +49,7 @@ def cells(target: Target) -> list[Cell]:
 
 
 def window(target: Target, before: list[str]) -> list[str]:
-    """The answer of a read in the window, and of any other behind it."""
+    """The answer of a read in the window, and of any other read after it."""
     if target.depth is None:
         return before
     lines = ["      if (paddr[11]) begin"]
@@ -120,8 +120,8 @@ APB_DECLARED = "  integer entry;\n  integer entries;\n  integer of_unit;\n  reg 
 
 
 def taken(target: Target, unit: str, words: str) -> dict[str, str]:
-    """What a testbench does with the entry of a unit that it has read, and where it reads that more came: it prints
-    them in its first run. Logs inside NAME_access it looks at in each."""
+    """What a testbench does with an entry of a unit that it has read, and when it reads that more came: it prints them
+    in its first run. It checks logs inside NAME_access in each run."""
     if target.has_inner_log:
         return {
             "when": "",
@@ -162,7 +162,7 @@ def length(target: Target) -> int:
 
 
 def tap_parts(target: Target) -> dict[str, str]:
-    """What a TAP has for the log; nothing where there is none."""
+    """What a TAP has for the log; nothing if there is no log."""
     names = ("log_held", "log_name", "log_capture", "log_shift", "log_reset", "log_step", "log_update", "log_out")
     if target.depth is None:
         return dict.fromkeys(names, "")
@@ -204,8 +204,8 @@ TAP_TURN = template(__file__, "log_window_turn.sv")
 
 
 def scan_length(target: Target) -> int:
-    """How many bits a scan of the log has: behind its segment insertion bit also this bit and that of the self-test,
-    the lowest."""
+    """How many bits a scan of the log has. With --sib these include its segment insertion bit and that of the
+    self-test, the lowest."""
     return length(target) + (2 if target.has_sib else 0)
 
 
@@ -219,7 +219,7 @@ def places(target: Target) -> dict[str, str]:
 
 
 def tap_reads(target: Target, size: int, width: int) -> str:
-    """What the testbench of a TAP reads of the log, where a scan of its register has so many bits, and a word has
+    """What the testbench of a TAP reads of the log, if a scan of its register has so many bits, and a word has
     `width`."""
     if target.depth is None:
         return ""

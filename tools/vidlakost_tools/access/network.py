@@ -1,5 +1,5 @@
 """The scan network of IEEE 1687 behind the instruction BIST: a segment insertion bit in front of the register of the
-self-test, and one in front of that of its log. From TDI to TDO stand the bit of the log, the log, the bit of the
+self-test, and one in front of that of its log. From TDI to TDO are the bit of the log, the log, the bit of the
 self-test, and its register: so the register has the lowest bits of a scan, as without the network."""
 from __future__ import annotations
 
@@ -32,7 +32,7 @@ def segments(target: Target) -> list[str]:
 
 
 def opened(target: Target, size: int, word: int, is_log_open: bool = False) -> int:
-    """The word of a scan while the register alone is in the path, which leaves it there, with the log where that is
+    """The word of a scan while the register alone is in the path. The scan leaves it there, with the log if that is
     said."""
     if not target.has_sib:
         return word
@@ -138,7 +138,7 @@ CLOSED = """      // while its segment insertion bit is 0 the test runs on
 
 
 def bench_open(target: Target, width: int) -> str:
-    """Opens the register where all bits are 0, and nothing else is in the path."""
+    """Opens the register when all bits are 0, and nothing else is in the path."""
     bits = len(segments(target))
     word = constant(width, 1 << 4 | 0xA)
     return THROUGH.format(name=target.name, bits=bits, count=bits + 4, top=bits + 3, word=word) if bits else ""

@@ -1,4 +1,4 @@
-"""What tells a tester of the TAP, in the forms of the standards: a run in SVF, the TAP in BSDL."""
+"""What describes the TAP to a tester, in the forms of the standards: a run in SVF, the TAP in BSDL."""
 from __future__ import annotations
 
 import math

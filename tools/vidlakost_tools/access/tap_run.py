@@ -17,8 +17,8 @@ COMPARED = ("start", "done", "fail", "seen", "failing")
 
 @dataclasses.dataclass(frozen=True)
 class Scan:
-    """So many bits through the instruction register or that of the instruction, the lowest first; what comes out is
-    compared where the mask has a 1."""
+    """Shifts so many bits through the instruction register or that of the instruction, the lowest first; what comes out
+    is compared where the mask has a 1."""
 
     count: int
     word: int
@@ -43,7 +43,7 @@ def instruct(code: int) -> Scan:
 
 
 def steps(target: Target) -> Iterator[Step]:
-    """The run, from Run-Test/Idle behind a reset."""
+    """The run, from Run-Test/Idle after a reset."""
     size = length(target)
     count, bits = network.whole(target, size), len(network.segments(target))
     stop, start = (network.opened(target, size, word) for word in (0, 1))
@@ -67,7 +67,7 @@ def steps(target: Target) -> Iterator[Step]:
 
 @dataclasses.dataclass(frozen=True)
 class Vector:
-    """A cycle of TCK, and how often it comes one after another. What stands on TDO is compared where it is L or H."""
+    """A cycle of TCK, and how often it comes in a row. What is on TDO is compared where this is L or H."""
 
     tms: int
     tdi: int
@@ -86,12 +86,12 @@ def of_scan(scan: Scan) -> Iterator[Vector]:
 
 
 def vectors(target: Target) -> Iterator[Vector]:
-    """The run behind a reset."""
+    """The run after a reset."""
     yield from of_steps(steps(target))
 
 
 def of_steps(given: Iterator[Step]) -> Iterator[Vector]:
-    """Steps behind a reset, a vector for each cycle of TCK."""
+    """Steps after a reset, a vector for each cycle of TCK."""
     yield Vector(1, 0, 0)
     yield Vector(1, 0, 1, "X", 5)
     yield Vector(0, 0)

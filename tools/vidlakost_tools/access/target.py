@@ -30,7 +30,7 @@ class Port:
 
 @dataclasses.dataclass
 class Unit:
-    """A memory, and what stands behind the names of its ports."""
+    """A memory, and the suffix of the names of its ports."""
 
     memory: Memory
     suffix: str
@@ -45,9 +45,9 @@ class Unit:
 
 @dataclasses.dataclass
 class Target:
-    """What is tested: one memory, or the memories of a chip, the module of the self-test, the cycle of `done` where the
-    march is known, and how many wrong reads a log keeps that a bus reads, where one does. Of a TAP the identity, and
-    whether its registers stand behind segment insertion bits."""
+    """What is tested: one memory, or the memories of a chip; the module of the self-test; the cycle of `done` if the
+    march is known; and how many wrong reads a log keeps, if a bus reads it. For a TAP the identity, and whether its
+    registers are behind segment insertion bits."""
 
     name: str
     top: str
@@ -83,7 +83,7 @@ class Target:
 
     @property
     def length(self) -> int:
-        """The cycle of `done`, where the march is known."""
+        """The cycle of `done`, if the march is known."""
         if self.done is None:
             raise ToolError(f"without its march the length of the test of {self.name} is not known")
         return self.done
@@ -106,7 +106,7 @@ class Target:
 
     @property
     def has_inner_log(self) -> bool:
-        """Whether the logs stand in NAME_access, since the memories are inside it."""
+        """Whether the logs are in NAME_access, because the memories are inside it."""
         return False
 
     def log_name(self, number: int) -> str:
@@ -120,7 +120,7 @@ class Target:
     # ---- what a whole chip has in another way
 
     def conditional(self) -> list[str]:
-        """The lines of ports that stand under a define."""
+        """The lines of ports under a define."""
         return []
 
     def handed_on(self) -> list[str]:
@@ -128,7 +128,7 @@ class Target:
         return []
 
     def nets(self) -> list[str]:
-        """What is declared beside the ports, for what the self-test writes and reads."""
+        """What is declared besides the ports, for what the self-test writes and reads."""
         return []
 
     def self_test(self) -> list[str]:
@@ -139,7 +139,7 @@ class Target:
         ]
 
     def bench_head(self) -> str:
-        """What stands before the module of a testbench."""
+        """The lines before the module of a testbench."""
         return ""
 
     def bench_nets(self) -> str:
@@ -151,11 +151,11 @@ class Target:
         return ""
 
     def beside_nets(self) -> str:
-        """What is declared for what stands beside the module under test."""
+        """What is declared for what is beside the module under test."""
         return ""
 
     def beside(self) -> str:
-        """What stands beside the module under test, and has faults planted in it."""
+        """What is beside the module under test, with faults planted in it."""
         return model_links(self)
 
     @property
@@ -173,7 +173,7 @@ class Target:
 
     def read_each(self, kind: str, read: str) -> str:
         """What a testbench does to read the first failure of each memory; `read` are the statements that read what is
-        told."""
+        shown."""
         return ""
 
     def how_planted(self) -> str:
@@ -204,7 +204,7 @@ def is_list(path: str) -> bool:
 def header(
     about: str, name: str, ports: list[Port], registers: tuple[str, ...] = (), before: Sequence[str] = ()
 ) -> str:
-    """The comment, the name and the ports of a module; `before` are lines of ports that stand under a define."""
+    """The comment, the name and the ports of a module; `before` are lines of ports under a define."""
     lines = []
     for port in ports:
         kept = port.name in registers

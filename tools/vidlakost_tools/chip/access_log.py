@@ -31,7 +31,7 @@ def words_to(target: SystemTarget, tested: str) -> list[tuple[Port, str]]:
 
 
 def wrong_reads(target: SystemTarget, number: int) -> int:
-    """How many reads of a memory are wrong where a bit is planted; the answers of a second port are right."""
+    """How many reads of a memory are wrong if a bit is planted; the answers of a second port are right."""
     part = target.system.parts[number]
     has_second = next(placed.macro.has_second for placed in target.system.collars if part in placed.parts)
     steps = [step for step in steps_of(target.system) if step.kind == "chips" and part.chip in step.numbers]
@@ -64,7 +64,7 @@ def judge(target: SystemTarget, tested: str) -> str:
 
 
 def asks(target: SystemTarget, tested: str) -> str:
-    """What looks at the enable and the way of each test, which say where a read is commanded."""
+    """Checks the enable and the direction of each test, which show when it commands a read."""
     text = Text(dataclasses.replace(target.system, has_access=True))
     text.text()
     inside, count = f"{tested}.self_test", target.count

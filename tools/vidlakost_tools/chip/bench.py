@@ -35,8 +35,8 @@ def chip_side(placed: Placed, one: Bench) -> list[str]:
 
 @dataclasses.dataclass
 class Fault:
-    """What is planted: its number, the collar, the bits or lanes, how it is called, and the memories that have to tell
-    of it, each of them."""
+    """A planted fault: its number, the collar, the bits or lanes, its name, and the memories that must each report
+    it."""
 
     kind: int
     collar: int

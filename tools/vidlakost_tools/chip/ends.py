@@ -11,7 +11,7 @@ def width_of(ports: list[Port]) -> int:
 
 
 def in_vector(ports: list[Port]) -> Iterator[tuple[Port, int, int]]:
-    """Each port with its highest and its lowest place where all of them stand in one vector, the first one lowest."""
+    """Each port with its highest and its lowest bit in one vector of all ports, the first port lowest."""
     low = 0
     for port in ports:
         yield port, low + port.width - 1, low

@@ -1,4 +1,4 @@
-"""The makefile of a chip: each step from descriptions to reports as a target, with what it stands on."""
+"""The makefile of a chip: each step from descriptions to reports is a target, with what it depends on."""
 from __future__ import annotations
 
 import dataclasses
@@ -78,7 +78,7 @@ class Flow:
         self.root, self.out = plain(os.path.relpath(here, there)), plain(os.path.relpath(there, here))
 
     def given(self, path: str) -> str:
-        """A file that is read, as a target of the makefile stands on it."""
+        """A file that is read, as the makefile names it where a target depends on it."""
         plain(path)
         return path if os.path.isabs(path) else f"$(ROOT)/{path}"
 
@@ -97,7 +97,7 @@ class Flow:
         return list(found.values())
 
     def folder_of(self, memory: str) -> str:
-        """The folder of a memory: a wide word's high part stands with its low one."""
+        """The folder of a memory; the high part of a wide word is in the folder of its low one."""
         return next(
             placed.word.name for placed in self.collars() if memory in [one.name for one in placed.word.memories]
         )
@@ -158,7 +158,7 @@ class Flow:
         return f" --clock-mux {self.clock_mux}" if self.clock_mux else ""
 
     def cell_of(self, placed: Placed, folder: str) -> list[str]:
-        """The model of that cell, where a collar has one."""
+        """The model of that cell, if a collar has one."""
         return [f"{folder}{self.clock_mux.split(':')[0]}.v"] if self.clock_mux and chosen_clocks(placed.macro) else []
 
     def gated(self, placed: Placed, files: list[str]) -> str:
@@ -218,8 +218,8 @@ class Flow:
         )
 
     def known(self) -> str:
-        """The pins of macros of which OpenSTA tells and has to: no path goes to one that is tied, and two clocks to one
-        that the test chooses."""
+        """The pins of macros of which OpenSTA has to warn: no path goes to a tied one, and two clocks go to one that
+        the test chooses."""
         made, found = system_text.Text(self.system), []
         made.text()
         for number, placed in enumerate(self.system.collars):
@@ -267,7 +267,7 @@ class Flow:
         return [f"{part.memory.name}.report" for part in self.bases()]
 
     def described_by(self) -> list[str]:
-        """What the makefile is made from, beside descriptions: it is of these files as they are now."""
+        """The files that make the makefile, besides descriptions: it belongs to them as they are now."""
         return [self.chip_file]
 
     def text(self) -> str:

@@ -25,7 +25,7 @@ def turn_at(system: System, cycle: int) -> Turn:
 
 
 def in_system(system: System, cycle: int, part: Part, words: list[str], mux: int) -> Iterator[str]:
-    """The read of a memory whose answer stands in a cycle, in words; the lanes have no words that are kept."""
+    """The read of a memory whose answer comes in a cycle, in words; the lanes keep no words."""
     turn = turn_at(system, cycle)
     placed = next(placed for placed in system.collars if part in placed.parts)
     by = " by the second port" if turn.step.is_second else ""

@@ -1,5 +1,5 @@
-"""Equal memories of a list that share a controller: one unit tests the first of them, whose commands go to all, and of
-each other a comparator beside it looks at what comes back."""
+"""Equal memories of a list that share a controller: one unit tests the first, and its commands go to all. Each other
+memory has a comparator that checks what it answers."""
 from __future__ import annotations
 
 from typing import TYPE_CHECKING, Callable
@@ -32,7 +32,7 @@ def share(system: System) -> None:
 
 
 def follow(system: System) -> None:
-    """Memories that share a controller stand where the first of them does."""
+    """Memories that share a controller have the place of the first of them."""
     for part in system.parts:
         if part.leader is not None:
             part.chip, part.place = part.leader.chip, part.leader.place
@@ -44,8 +44,7 @@ def followers(system: System, part: Part) -> list[Part]:
 
 def comparators(part: Part, others: list[Part], is_on: str, net: Callable[[str], str]) -> list[str]:
     """The comparators beside the controller of a memory, each with a bit that keeps what it found. In the cycle of a
-    read the controller has the word that it expects on wdata, which has to stand on rdata as many cycles later as the
-    latency is."""
+    read the controller has on wdata the word that it expects. That word has to be on rdata one latency later."""
     name, word, last = part.name, ranged(part.memory.bits), part.memory.latency
     reads = [net(f"n_{name}_reads_{stage}") for stage in range(1, last + 1)]
     wants = [net(f"n_{name}_want_{stage}") for stage in range(1, last + 1)]

@@ -1,5 +1,5 @@
-"""The test of a whole chip in steps: chips side by side as far as the budget goes, then the lanes of a collar at a
-time, and both once more where a second port is told; and in which cycle each step begins."""
+"""The test of a whole chip in steps: chips in parallel as far as the budget allows, then the lanes of one collar at a
+time. If there is a second port, both run once more. This also says in which cycle each step begins."""
 from __future__ import annotations
 
 import dataclasses
@@ -22,7 +22,7 @@ class Step:
 
 @dataclasses.dataclass
 class Turn:
-    """A step in time: how many cycles behind the first one it begins, and how many it takes."""
+    """A step in time: how many cycles after the first one it begins, and how many it takes."""
 
     step: Step
     first: int
@@ -52,7 +52,7 @@ def rounds(system: System, numbers: list[int]) -> list[list[int]]:
 
 
 def steps_of(system: System) -> list[Step]:
-    """The steps, one behind the other."""
+    """The steps, one after the other."""
     found: list[Step] = []
     for second in (False, True):
         placed = [number for number, one in enumerate(system.collars) if one.macro.has_second or not second]
@@ -87,13 +87,13 @@ def turns_of(system: System) -> list[Turn]:
 
 
 def cycles(system: System) -> int:
-    """The cycle in which the whole is done, where that of the reset is 0."""
+    """The cycle in which the whole is done, counted from the cycle of the reset, which is 0."""
     last = turns_of(system)[-1]
     return last.first + last.length + 1
 
 
 def begin_of(system: System, chip: int) -> int:
-    """How many cycles behind the first step a chip begins, in the first session."""
+    """How many cycles after the first step a chip begins, in the first session."""
     return next(turn.first for turn in turns_of(system) if turn.step.kind == "chips" and chip in turn.step.numbers)
 
 

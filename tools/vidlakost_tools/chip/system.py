@@ -1,5 +1,5 @@
-"""The memories of a whole chip: those of a chip file, or of a list above chip files, whose lines may stand for many
-equal memories; the chip files that test them, and the collars that they stand in."""
+"""The memories of a whole chip: those of a chip file, or of a list that replaces chip files, whose lines may mean many
+equal memories; the chip files that test them, and their collars."""
 from __future__ import annotations
 
 import collections
@@ -29,8 +29,8 @@ HEADS = {"list": "list 1", "name": "name NAME", "budget": "budget N"}
 @dataclasses.dataclass
 class Part:
     """A memory of the whole: its name, the description that it is an instance of, its number among equal ones, and its
-    unit; then the number of its chip file, and its place there. Where its line says so, equal memories share a
-    controller: how many of them, and whose the unit is."""
+    unit; then the number of its chip file, and its place there. If its line says so, equal memories share a controller:
+    how many of them, and whose the unit is."""
 
     name: str
     memory: Memory
@@ -130,7 +130,7 @@ def read_list(path: str) -> System:
 
 
 def checked(path: str, said: dict[str, str], parts: list[Part]) -> System:
-    """The system of a list's lines, where they are all there and fit together."""
+    """The system of a list's lines, if they are all there and fit together."""
     missing = [name for name in HEADS if name not in said] + ([] if parts else ["unit"])
     if missing:
         raise ToolError(f"{path}: no line for {', '.join(missing)}")
@@ -180,7 +180,7 @@ def stem_of(path: str) -> str:
 
 
 def halves_in(path: str) -> list[str]:
-    """The names of the parts that a file of pins tells, the low one first."""
+    """The names of the parts in a file of pins, the low one first."""
     said = {word: rest for _, word, rest in statements(read_described(path)) if word in ("low", "high")}
     return [said[word] for word in ("low", "high") if word in said]
 
@@ -222,7 +222,7 @@ def give_collars(system: System, files: list[str]) -> None:
 
 
 def are_together(system: System, units: Iterable[Part]) -> bool:
-    """Whether the two parts of each word are in one group, where the units stand in this order."""
+    """Whether the two parts of each word are in one group, if the units are in this order."""
     listed = list(units)
     chip = Chip("", system.budget, [part.unit for part in listed])
     place(chip)
@@ -291,8 +291,8 @@ def groups_of(system: System, collars: list[Placed], most: int = OF_CHIP) -> lis
 
 
 def place_list(system: System) -> list[list[Part]]:
-    """The memories in chips of at most sixteen, the parts of a word in one group: a chip ends where the next group has
-    no room in it. Those with a second port have chips of their own, since these run twice."""
+    """The memories in chips of at most sixteen, the parts of a word in one group: a chip ends when the next group has
+    no room in it. Those with a second port have chips of their own, because these run twice."""
     chips: list[list[Part]] = []
     led = [placed for placed in system.collars if placed.parts[0].leader is None]
     for second in (False, True):

@@ -54,7 +54,7 @@ def own_names(system: System) -> list[Port]:
 
 
 def seen_by_tester(system: System) -> list[tuple[str, Part]]:
-    """The outputs that tell what the test of each memory writes and reads."""
+    """The outputs for what the test of each memory writes and reads."""
     if not system.has_access:
         return []
     return [(f"{what}_{number}", part) for number, part in enumerate(system.parts) for what in ("given", "taken")]
@@ -177,7 +177,7 @@ class Text:
             self.lines += [*head, "    " + ",\n    ".join(links), "  );"]
 
     def own(self, number: int, placed: Placed, port: Port) -> str:
-        """What a port of a collar that is no pin hangs on."""
+        """The net at a port of a collar that is no pin."""
         if port.name in ("clk", "test", "scan_mode"):
             return port.name
         if port.name == "second":
@@ -206,7 +206,7 @@ class Text:
         return bits
 
     def sequence(self) -> None:
-        """One step behind the other, and what was found until now."""
+        """Runs one step after the other, and keeps what was found until now."""
         step, kept, now, next_on = (self.names.of(name) for name in ("step", "kept", "now", "is_over"))
         count, last = len(self.system.parts), len(self.steps)
         overs = {"chips": "chip_{}_done", "lanes": "lanes_over_{}"}

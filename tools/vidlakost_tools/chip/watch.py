@@ -1,6 +1,6 @@
 """What the testbench of a chip watches between its collars, its tests and its pins: both ends of each connection have
-the same, a collar's clocks are its own, and the memories that are on never weigh more than the budget. Where the chip
-is a netlist, which has no such places inside, nothing is watched."""
+the same, a collar's clocks are its own, and the memories that are on never weigh more than the budget. If the chip is a
+netlist, which has no such places inside, nothing is watched."""
 from __future__ import annotations
 
 from typing import TYPE_CHECKING, List
@@ -72,7 +72,7 @@ class Watch:
         return found
 
     def told(self, part: Part) -> List[str]:
-        """A tester is told what the test of a memory commands, writes and reads."""
+        """The outputs for a tester have what the test of a memory commands, writes and reads."""
         number = self.system.parts.index(part)
         asks = f"dut.asks[{number}]" if len(self.system.parts) > 1 else "dut.asks"
         command = f"({self.at_test(part, 'en')} & ~{self.at_test(part, 'we')})"
@@ -123,7 +123,7 @@ class Watch:
         ]
 
     def is_on(self, number: int, placed: Placed) -> str:
-        """Whether a memory is on: its enables, or where it has none the command of its test."""
+        """Whether a memory is on: its enables, or if it has none the command of its test."""
         there, found = self.collar(number), []
         memory = f"{there}.{self.text.memory_names[number]}"
         for second in (False, True):

@@ -110,7 +110,7 @@ def inputs_of(path: str, options: dict[str, Any]) -> list[str]:
 
 
 def depth_of(options: dict[str, Any]) -> int | None:
-    """How many wrong reads a log keeps, where there is to be one."""
+    """How many wrong reads a log keeps, if there is one."""
     if "--log" not in options:
         return None
     depth = number_of(options["--log"], "--log", 1)
@@ -183,7 +183,7 @@ def planned(system: soc.System, path: str, options: dict[str, Any]) -> system_ac
 
 
 def refuse_of_whole(pins: list[str], options: dict[str, Any]) -> None:
-    """Refuses words that don't go together where it is of a whole chip."""
+    """Refuses words that don't go together for a whole chip."""
     why = ""
     if not pins:
         why = "a list needs the files of pins, as for `vidlakost top`"
@@ -200,7 +200,7 @@ def refuse_of_whole(pins: list[str], options: dict[str, Any]) -> None:
 
 
 def of_whole(path: str, pins: list[str], out: pathlib.Path, options: dict[str, Any]) -> None:
-    """Writes what stands round the whole chip of a folder."""
+    """Writes the modules round the whole chip of a folder."""
     refuse_of_whole(pins, options)
     system = soc.read_system(path)
     soc.give_collars(system, pins)

@@ -53,7 +53,7 @@ from vidlakost_tools.tool import ToolError, usage_of, words_of
 
 
 def pins_beside(system: System) -> list[str]:
-    """The files of pins beside the descriptions."""
+    """The files of pins in the folders of the descriptions."""
     names = {part.memory.name: pathlib.Path(part.unit.memory_file).parent for part in system.parts}
     found: dict[str, pathlib.Path] = {}
     for folder in dict.fromkeys(names.values()):
@@ -71,7 +71,7 @@ def pins_beside(system: System) -> list[str]:
 
 
 def vendors_of(system: System, options: dict[str, Any], is_placed: bool) -> dict[str, list[str]]:
-    """The files of --model and their modules, where these fit."""
+    """The files of --model and their modules; refuses those that don't fit."""
     vendors = {file: modules_of(file) for file in map(named, options.get("--model", []))}
     modules = [name for names in vendors.values() for name in names]
     refuse = in_place_files.refuse_modules if is_placed else system_text.refuse_modules

@@ -56,7 +56,7 @@ def number(name: str, text: str) -> float:
 
 
 def positive(options: dict[str, Any], name: str, usual: float) -> float:
-    """A number above 0 behind an option."""
+    """A number above 0 after an option."""
     return number(name, options[name]) if name in options else usual
 
 
@@ -74,7 +74,7 @@ def target_of(path: str, pins: list[str]) -> Target:
 
 
 def clocks_of(options: dict[str, Any], names: list[str]) -> dict[str, float]:
-    """The clocks of memories in megahertz, as --clock tells them."""
+    """The clocks of memories in megahertz, as --clock gives them."""
     found: dict[str, float] = {}
     for text in options.get("--clock", []):
         name, _, mhz = text.partition("=")

@@ -75,7 +75,7 @@ from vidlakost_tools.tool import ToolError, tell, usage_of, words_of
 
 
 def look_at_ports(macro: Macro, file: str) -> None:
-    """Refuses a model with other ports than the pins, and tells of inputs that nothing drives."""
+    """Refuses a model with other ports than the pins, and reports inputs that nothing drives."""
     refuse_other_ports(macro, file)
     for told in undriven(macro, file):
         tell(f"top: {told}")

@@ -1,5 +1,5 @@
-"""The makefile of memories that stay where they are: of each its module, of all the sequencer, and where a text tells
-their places, the chip in which they stand."""
+"""The makefile of memories that stay where they are: the module of each, the sequencer of all, and if a text lists
+their places, the chip that contains them."""
 from __future__ import annotations
 
 import dataclasses
@@ -26,7 +26,7 @@ PLACES = template(__file__, "flow_places.mk")
 
 @dataclasses.dataclass
 class PlaceFlow(Flow):
-    """The memories, and where a text tells it, the chip in which they stand."""
+    """The memories, and if a text lists their places, the chip that contains them."""
 
     FOLDERS: ClassVar[tuple[str, ...]] = ("chip", "places")
 
@@ -38,7 +38,7 @@ class PlaceFlow(Flow):
         return [self.chip_file, *([self.places.path] if self.places else [])]
 
     def models(self, placed: Placed) -> list[str]:
-        """What stands for the macro of a collar in a simulation, from the makefile on."""
+        """The files that model the macro of a collar in a simulation, from the makefile on."""
         given = {name: self.given(self.beside(file)) for file, names in self.vendors.items() for name in names}
         return [name if "/" in name else f"chip/{name}" for name in models_beside(placed, given)]
 
@@ -52,7 +52,7 @@ class PlaceFlow(Flow):
         return f"{self.system.name}_boxes.v"
 
     def written(self) -> list[str]:
-        """What `top` writes, but for the sequencer, which `access` writes again."""
+        """What `top` writes, except the sequencer, which `access` writes again."""
         found = [f"chip/{self.boxes}", "chip/files.f"]
         for placed in self.collars():
             module = f"{placed.word.name}_in_place"
@@ -75,7 +75,7 @@ class PlaceFlow(Flow):
     # ---- the steps
 
     def looks(self, folder: str, module: str, after: str, sources: list[str]) -> str:
-        """Lint, synthesis and timing of a module of these sources, which stand in the folder chip."""
+        """Lint, synthesis and timing of a module of these sources, which are in the folder chip."""
         up = "" if folder == "chip" else "../chip/"
         values = {
             "folder": folder,
@@ -160,7 +160,7 @@ class PlaceFlow(Flow):
     # ---- what OpenSTA may tell
 
     def known(self) -> str:
-        """The pins of macros of which it tells, by the folder of the step."""
+        """The pins of macros of which it warns, by the folder of the step."""
         lines = []
         for placed in self.collars():
             lines += [f"{placed.word.name}:  {pin}" for pin in told_pins(placed)]

@@ -1,5 +1,5 @@
-"""Where in a chip its memories stand: a text that names the chip's sources as they are now and as they were before, the
-instance of each memory, and by which ports the test is started."""
+"""The places of memories in a chip: a text that names the chip's sources as they are now and as they were before, the
+instance of each memory, and the ports that start the test."""
 from __future__ import annotations
 
 import dataclasses
@@ -36,7 +36,7 @@ TAP_PINS = ("tck", "tms", "tdi", "trst_n", "tdo")
 
 @dataclasses.dataclass
 class Place:
-    """Where a memory stands, and where its macro stood."""
+    """Where a memory is in the chip, and where its macro was."""
 
     path: str
     was: str

@@ -1,5 +1,5 @@
 """The testbench of a chip whose memories stay where they are: both ends of each bundle, bit by bit; then the test by
-the chip's own ports, sound and with a wrong bit at each memory, beside what the sequencer has to do."""
+the chip's own ports, sound and with a wrong bit at each memory, compared with what the sequencer has to do."""
 from __future__ import annotations
 
 from typing import Callable

@@ -28,7 +28,7 @@ UNPROVED = re.compile(r"Unproven \$equiv .*?: \\?(\S+)_gold(?: \[(\d+)\])?")
 
 @dataclasses.dataclass
 class Side:
-    """A side of the proof, as Yosys tells it: of each port its direction and its bits."""
+    """A side of the proof, as Yosys reports it: of each port its direction and its bits."""
 
     ports: Mapping[str, tuple[str, list[Any]]]
 
@@ -88,7 +88,7 @@ class Proof:
         return f"{found[2]}{of} of {list(self.collars)[int(found[1])]}" if found else f"{port}{of}"
 
     def tied(self, gold: Side) -> list[str]:
-        """What inputs of the macros were tied to, where that is something else than the collar ties them to."""
+        """The inputs of macros that were tied to something else than the collar ties them to."""
         found = []
         for number, placed in enumerate(self.collars.values()):
             for pin in placed.macro.of("tie"):
@@ -107,7 +107,7 @@ class Proof:
         }
 
     def differences(self) -> list[str]:
-        """What is another in use than it was; none where all is proved."""
+        """What differs in use from what it was; nothing if all is proved."""
         yosys.run(self.script("gold", []), self.folder)
         yosys.run(self.script("gate", []), self.folder)
         gold, gate = side_of(self.folder / "gold.json", "gold"), side_of(self.folder / "gate.json", "gate")
@@ -133,7 +133,7 @@ class Proof:
 
 
 def is_tied(gold: Side, pin: Pin, placed: Placed, number: int) -> bool:
-    """Whether an input had what the pins tell."""
+    """Whether an input had what the file of pins says."""
     bits = gold.ports[f"place_{number}.{pin.name}"][1]
     known = literal(pin.value)
     if known:

@@ -1,4 +1,4 @@
-"""The text of the testbench of a chip whose memories stay where they are, with what is put into it in braces."""
+"""The text of the testbench of a chip whose memories stay where they are; values replace what is in braces."""
 from __future__ import annotations
 
 from vidlakost_tools.text import beside

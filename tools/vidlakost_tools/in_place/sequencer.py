@@ -1,5 +1,6 @@
-"""What starts the tests of memories that stay where they are, group behind group within a budget, and reads of the
-first failure what each of them has kept: the module NAME_access, which APB and JTAG stand round as of any chip."""
+"""The sequencer of memories that stay where they are: it starts their tests, group after group within a budget, and
+reads from each what it has kept of its first failure. It is the module NAME_access; APB and JTAG wrap it like that of
+any chip."""
 from __future__ import annotations
 
 import dataclasses
@@ -45,14 +46,14 @@ class PlaceTarget(Target):
         return "//   +planted +unit=U +bit=B   each word that memory U answers has bit B wrong"
 
     def beside_nets(self) -> str:
-        """Memories in their places, as far as their bundles tell of them, each with a clock of its own."""
+        """Memories in their places, as far as their bundles show them, each with a clock of its own."""
         return "".join(f"  reg clock_{number} = 1'b0;\n" for number in range(self.count))
 
     def beside(self) -> str:
         return "".join(self.stand_in(number) for number in range(self.count))
 
     def stand_in(self, number: int) -> str:
-        """A memory that is over after some cycles, and has failed where it is planted so."""
+        """A memory whose test is over after some cycles, and which has failed if a fault is planted in it."""
         bits = self.units[number].memory.bits
         total = CYCLE + 2 * bits
         ones = f"{{{bits}'d1 << at_bit, {bits}'d0, 32'd{number + 7}}}"
@@ -131,7 +132,7 @@ class Sequencer:
         ]
 
     def bundles(self) -> list[str]:
-        """The bundles; a testbench can say something else to the memories, to see where it arrives."""
+        """The bundles; a testbench can drive other values to the memories, to see where they arrive."""
         wide = 2 * self.count
         lines = [f"`ifdef {PLANTED}", "  reg probed = 1'b0;", f"  reg [{wide - 1}:0] probe = {wide}'d0;", "`endif"]
         for number in range(self.count):
@@ -169,7 +170,7 @@ class Sequencer:
         return [*lines, f"  wire {ranged(self.count)}begins = {self.vector(begins)};"]
 
     def choice(self) -> list[str]:
-        """Of which memory is told, and how many bits its words have."""
+        """The memory that is shown, and how many bits its words have."""
         bits, count = self.target.unit_bits, self.count
         chosen = "".join(f"{self.bit('open', number)} ? {bits}'d{number} : " for number in range(count - 1))
         lasts = [unit.memory.bits - 1 for unit in self.target.units]
