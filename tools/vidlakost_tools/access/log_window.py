@@ -49,7 +49,7 @@ def cells(target: Target) -> list[Cell]:
 
 
 def window(target: Target, before: list[str]) -> list[str]:
-    """The answer of a read in the window, and of any other read after it."""
+    """The answer of a read in the window; the lines `before` answer reads below it."""
     if target.depth is None:
         return before
     lines = ["      if (paddr[11]) begin"]

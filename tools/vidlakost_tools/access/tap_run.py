@@ -67,7 +67,7 @@ def steps(target: Target) -> Iterator[Step]:
 
 @dataclasses.dataclass(frozen=True)
 class Vector:
-    """A cycle of TCK, and how often it comes in a row. What is on TDO is compared where this is L or H."""
+    """A cycle of TCK, and how often it comes in a row. What comes on TDO is compared if `tdo` is L or H."""
 
     tms: int
     tdi: int

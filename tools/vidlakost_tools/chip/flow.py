@@ -267,7 +267,7 @@ class Flow:
         return [f"{part.memory.name}.report" for part in self.bases()]
 
     def described_by(self) -> list[str]:
-        """The files that make the makefile, besides descriptions: it belongs to them as they are now."""
+        """The files from which the makefile is made, besides descriptions; it belongs to them as they are now."""
         return [self.chip_file]
 
     def text(self) -> str:
