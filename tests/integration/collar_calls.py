@@ -81,7 +81,7 @@ CALLS: List[Call] = [
     Call(f"{TOP} whole", prints="whole/both_system.v\n", says="top: not tested: s.ce, t.ce: whether it is ever off\n"),
     Call(f"{TOP} whole --plan", prints="  1  t     0     1      1     41   123\n"),
     Call(f"{TOP} mine", status=2, says="top: mine/both_system.v is there and was not written by vidlakost"),
-    Call(f"{TOP} whole t.pins", status=2, says="top: whole: Is a directory"),
+    Call(f"{TOP} examples t.pins", status=2, says="top: examples: Is a directory"),
     Call("tools/top two.chip none", status=2, says="top: no file lists the pins of s, t"),
     Call("tools/top two.chip s.pins s.pins none", status=2, says="top: s.pins: s.pins lists the pins of s, too"),
     Call(
