@@ -67,31 +67,7 @@ READ = """      when_read = cycle;
       wanted = expected;
       got = returned;
       whose = {whose};"""
-ACCESS_BODY = """
-  initial begin
-    repeat (4) @(posedge clk);
-    for (round = 0; round < {rounds}; round = round + 1) begin
-      #1 start = 1'b1;
-      waited = 0;
-      while (done !== 1'b1) begin
-        @(posedge clk);
-        waited = waited + 1;
-        if (waited > {most}) $fatal(1, "{name}: done did not come");
-      end
-      @(negedge clk);
-      state = {{seen, {any}, done, test}};
-      failing = fail;
-{read}
-      told(round);
-{each}      if (round < 2) begin
-{log}      end
-      #3 start = 1'b0;
-      repeat (8) @(posedge clk);
-      if (done !== 1'b0 || seen !== 1'b0 || fail !== {none}) $fatal(1, "{name}: the state stays when start falls");
-    end
-    """ + FINISH + """
-  end
-"""
+ACCESS_BODY = template(__file__, "bench_access.sv")
 
 
 def access_bench(target: Target) -> str:
@@ -107,7 +83,8 @@ def access_bench(target: Target) -> str:
         f"  {target.name}_access dut({target.bench_links()}.clk(clk), .start(start){choice}, {links(target.ports())},\n"
     )
     link += f"    .test(test), {links([*state, *logs.ports(target)])});\n"
-    body = ACCESS_BODY.format(
+    body = ACCESS_BODY.substitute(
+        finish=FINISH,
         name=target.name,
         most=most(target) + 100,
         rounds="(planted ? 12 : 2)" if target.counts_cycles else "2",

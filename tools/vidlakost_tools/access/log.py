@@ -8,7 +8,7 @@ import re
 from vidlakost_tools.access.bench import most
 from vidlakost_tools.access.target import model_links
 from vidlakost_tools.access.target import Port, Target, header, links
-from vidlakost_tools.text import stream
+from vidlakost_tools.text import stream, template
 from vidlakost_tools.texts.memory import Memory
 from vidlakost_tools.tool import ToolError
 from vidlakost_tools.verilog.bench_end import FINISH, over, planted
@@ -88,54 +88,15 @@ def blocks(target: Target, depth: int) -> dict[str, str]:
     }
 
 
-BENCH = """// Runs the self-test of {name} and prints its log, as `vidlakost bitmap` reads it.
-//   +planted +address=A +bit=B +value=V   a bit of a word is stuck at V (0 where nothing is said of a number)
-module {name}_log_tb;
-{over}  reg clk = 1'b0;
-  initial forever #5 clk = ~clk;
-  reg test = 1'b0;
-  wire done;
-  wire fail;
-{wires}{planted}  reg {size}pick = {size_bits}'d0;
-  wire {counts}count;
-  wire more;
-  wire [31:0] cycle;
-  wire {word}expected;
-  wire {word}word;
-  integer waited;
-  {name}_bist dut(.clk(clk), .reset(!test), {ports}, .done(done), .fail(fail));
-  {name}_log log(.clk(clk), .test(test), .en(en), .we(we), .wdata(wdata), .rdata(rdata), .pick(pick), .count(count),
-    .more(more), .cycle(cycle), .expected(expected), .word(word));
-{model}
-  initial begin
-    repeat (4) @(negedge clk);
-    test = 1'b1;
-    waited = 0;
-    while (done !== 1'b1) begin
-      @(negedge clk);
-      waited = waited + 1;
-      if (waited > {most}) $fatal(1, "{name}: done did not come");
-    end
-    @(negedge clk);
-    if (fail !== (count != {counts_bits}'d0)) $fatal(1, "{name}: fail is %b, and the log has %0d entries", fail, count);
-    if (fail !== planted) $fatal(1, "{name}: fail is %b, and %0d bits are stuck", fail, planted);
-    for (waited = 0; waited < {{{pad}'d0, count}}; waited = waited + 1) begin
-      pick = waited[{size_top}:0];
-      #1 $display("cycle %0d expected %h returned %h", cycle, expected, word);
-    end
-    if (more) $display("more");
-    $display("fail %b", fail);
-    """ + FINISH + """
-  end
-endmodule
-"""
+BENCH = template(__file__, "log_bench.sv")
 
 
 def bench(target: Target, depth: int) -> str:
     """The testbench of NAME_log."""
     memory = target.units[0].memory
     size, counts = max(1, (depth - 1).bit_length()), depth.bit_length()
-    return BENCH.format(
+    return BENCH.substitute(
+        finish=FINISH,
         name=memory.name,
         over=over(f"{memory.name}_log_tb"),
         planted=planted(f"{memory.name}_log_tb", [(memory.words, memory.bits)]),

@@ -6,6 +6,7 @@ from vidlakost_tools.access.block import model
 from vidlakost_tools.access.target import model_links
 from vidlakost_tools.access.target import Port, Target, Unit, header
 from vidlakost_tools.texts.memory import Memory
+from vidlakost_tools.text import template
 from vidlakost_tools.verilog.bench_end import FINISH, over, planted
 from vidlakost_tools.verilog.syntax import ranged
 
@@ -59,37 +60,7 @@ def block(memory: Memory, count: int) -> str:
     return header(about, f"{memory.name}_share", ports) + "\n".join(lines) + "\n"
 
 
-BENCH = """// Runs one self-test of {count} memories.
-//   +planted +unit=U +address=A +bit=B +value=V   a bit of a word of memory U is stuck at V
-module {name}_share_tb;
-{over}  reg clk = 1'b0;
-  initial forever #5 clk = ~clk;
-  reg reset = 1'b1;
-  wire done;
-  wire {fails}fail;
-  wire en;
-  wire we;
-  wire {address}addr;
-  wire {word}wdata;
-{wires}{planted}  integer waited;
-  {name}_share dut(.clk(clk), .reset(reset), {answers},
-    .en(en), .we(we), .addr(addr), .wdata(wdata), .done(done), .fail(fail));
-{model}
-  initial begin
-    repeat (4) @(negedge clk);
-    reset = 1'b0;
-    waited = 0;
-    while (done !== 1'b1) begin
-      @(negedge clk);
-      waited = waited + 1;
-      if (waited > {most}) $fatal(1, "{name}: done did not come");
-    end
-    if (fail !== (planted ? {one} << at_unit : {zero})) $fatal(1, "{name}: fail is %b", fail);
-    $display("fail %b", fail);
-    """ + FINISH + """
-  end
-endmodule
-"""
+BENCH = template(__file__, "one_controller_bench.sv")
 
 
 def bench(memory: Memory, count: int) -> str:
@@ -99,7 +70,8 @@ def bench(memory: Memory, count: int) -> str:
     for number in range(count):
         for name in ("en", "we", "addr", "wdata"):
             text = text.replace(f".{name}_{number}({name}_{number})", f".{name}_{number}({name})")
-    return BENCH.format(
+    return BENCH.substitute(
+        finish=FINISH,
         name=memory.name,
         over=over(f"{memory.name}_share_tb"),
         planted=planted(f"{memory.name}_share_tb", [(memory.words, memory.bits)] * count),

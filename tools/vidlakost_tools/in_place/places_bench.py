@@ -13,7 +13,7 @@ from vidlakost_tools.in_place.place_list import Places
 from vidlakost_tools.in_place.places_text import BENCH, EACH, FIRST, SIGNALS, TAP, WATCHED
 from vidlakost_tools.in_place.sequencer import PlaceTarget, length
 from vidlakost_tools.in_place.text import CYCLE, InPlace, length_of
-from vidlakost_tools.verilog.bench_end import over
+from vidlakost_tools.verilog.bench_end import FINISH, over
 from vidlakost_tools.verilog.syntax import ranged
 
 
@@ -158,7 +158,8 @@ class ChipBench:
 
     def text(self) -> str:
         places, count = self.places, self.count
-        return BENCH.format(
+        return BENCH.substitute(
+            finish=FINISH,
             mark=MARK,
             chip=places.chip,
             name=self.system.name,
