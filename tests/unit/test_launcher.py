@@ -29,9 +29,6 @@ class Launcher(unittest.TestCase):
         self.root = pathlib.Path(self.place.name) / "a [b]* $c"
         self.root.mkdir()
         shutil.copy(ROOT / "vidlakost", self.root / "vidlakost")
-        (self.root / "dev").mkdir()
-        shutil.copy(ROOT / "dev" / "prove", self.root / "dev" / "prove")
-        (self.root / "tools").symlink_to(ROOT / "tools")
         (self.root / "crates.txt").write_text("bist_cli:\n")
         for part, name in (("src", "lib.rt"), ("src", "more.rt"), ("specs", "Lib.antt"), ("proofs", "Lemma.antt")):
             path = self.root / "crates" / "bist_cli" / part / name
