@@ -39,6 +39,14 @@ module board(input clk, {USE}, output [1:0] q, output reg [1:0] sum,
     .unit(unit));
 endmodule
 """
+SUM = "  always @(posedge clk) sum <= sum ^ p;\n"
+# a flip-flop with a reset, one that is reset to what is no constant, and a latch
+KEPT = """  reg [1:0] kept, open;
+  reg turned;
+  always @(posedge clk or negedge ce) if (!ce) kept <= 2'd2; else kept <= kept + d;
+  always @(posedge clk or negedge ce) if (!ce) turned <= wen[0]; else turned <= d[0];
+  always @* if (a[0]) open = d ^ {2{turned}} ^ kept;
+"""
 PLACES = """# where the memories of the board stand
 places 1
 chip board
@@ -137,3 +145,42 @@ class Texts(Placed):
 
 if __name__ == "__main__":
     unittest.main()
+    def compared(self, old: str, new: str) -> list[str]:
+        """What the proof tells of a board with more flip-flops, a text of which is another than before."""
+        self.assertIn(old, KEPT)
+        (self.folder / "before.v").write_text(BEFORE.replace(SUM, KEPT + SUM.replace("p;", "p ^ open;")))
+        after = AFTER.replace(SUM, KEPT.replace(old, new) + SUM.replace("p;", "p ^ open;"))
+        return self.places(self.PROVED, after)[1][2:]
+
+    def test_asynchronous_resets(self) -> None:
+        """A flip-flop that is reset to what is no constant is compared over several cycles."""
+        same = ["soc: in use each memory, each flip-flop and each output has what it had"]
+        self.assertEqual(self.compared("", ""), same)
+        for old, new in {
+            "kept <= 2'd2": "kept <= 2'd3",
+            "posedge clk or negedge ce) if (!ce) kept": "negedge clk or negedge ce) if (!ce) kept",
+            "kept + d": "kept - d",
+            "turned <= wen[0]": "turned <= wen[1]",
+            "posedge clk or negedge ce) if (!ce) turned": "negedge clk or negedge ce) if (!ce) turned",
+            "if (a[0]) open = d": "if (a[1]) open = d",
+        }.items():
+            with self.subTest(new=new):
+                told = self.compared(old, new)
+                name = next(name for name in ("kept", "turned", "open") if name in new)
+                self.assertTrue(any(f"in use {name}" in line for line in told), told)
+
+    def test_gate_of_a_clock_that_the_test_opens(self) -> None:
+        """In use the test is 0, so what it opens is what it was."""
+        gate = "  reg open;\n  always @* if (!clk) open = {};\n  core one(.clk(clk & open)"
+        (self.folder / "before.v").write_text(BEFORE.replace("  core one(.clk(clk)", gate.format("ce")))
+        opened = AFTER.replace("[1:0] p,", "test;\n  wire [1:0] p,").replace("  wire test, seen", "  wire seen")
+        opened = opened.replace("  core one(.clk(clk)", gate.format("ce | test"))
+        self.assertEqual(self.places(self.PROVED, opened)[0], 0)
+        self.assertEqual(self.places(self.PROVED, opened.replace("ce | test", "ce | ~test"))[0], 1)
+
+    def test_before_that_has_the_test(self) -> None:
+        """The chip as it is now is no chip as it was."""
+        with self.assertRaisesRegex(ToolError, "Module `.four_in_place' referenced in module `.core'"):
+            self.places(PLACES + "before @/after.v\n")
+
+
