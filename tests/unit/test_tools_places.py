@@ -94,12 +94,33 @@ class Runs(Placed):
         bundles = ".to_0(to_{0}), .of_0(of_{0}), .to_1(to_{1}), .of_1(of_{1})"
         crossed = AFTER.replace(bundles.format(0, 1), bundles.format(1, 0))
         self.assertNotEqual(crossed, AFTER)
-        self.places(after=crossed)
+        self.assertNotIn("soc_places_tb: passed", self.heard(after=crossed))
+
+    def heard(self, text: str = PLACES, after: str = AFTER) -> str:
+        """All that the testbench of a chip says, however it ends."""
+        self.places(text, after)
         made = ["iverilog", "-g2012", "-s", "soc_places_tb", "-o", "run", "-c", "soc_places.f"]
         subprocess.run(made, cwd=self.folder / "out", check=True, capture_output=True)
         call = ["vvp", "-n", "run"]
-        done = subprocess.run(call, cwd=self.folder / "out", stdout=subprocess.PIPE, text=True, check=False)
-        self.assertNotIn("soc_places_tb: passed", done.stdout)
+        return subprocess.run(call, cwd=self.folder / "out", stdout=subprocess.PIPE, text=True, check=False).stdout
+
+    def test_clock_that_hangs_on_the_use(self) -> None:
+        """An edge from 0 to an unknown bit ticks in a simulator; `a` is unknown in test, unless it keeps a value."""
+        gated = AFTER.replace("four_in_place bank(.ck(clk)", "four_in_place bank(.ck(clk & ~a[0])")
+        self.assertIn("soc: in test the clock of memory 0 is unknown", self.heard(after=gated))
+        self.assertIn("soc_places_tb: passed", self.heard(PLACES + "set a 2'd0\n", gated))
+        gated = AFTER.replace("soc_access tested(.clk(clk)", "soc_access tested(.clk(clk & ~a[0])")
+        self.assertIn("soc: in test the clock of the sequencer is unknown", self.heard(after=gated))
+
+    def test_done_of_something_else(self) -> None:
+        early = AFTER.replace(".done(done)", ".done()").replace("  soc_access", "  assign done = start;\n  soc_access")
+        self.assertIn("soc: done is told, and the sequencer has not ended", self.heard(after=early))
+
+    def test_clock_that_is_much_faster(self) -> None:
+        """Such a memory is at rest again before done of the sequencer falls."""
+        fast = AFTER.replace("module board(input clk,", "module board(input fast, input clk,")
+        fast = fast.replace("core one(.clk(clk)", "core one(.clk(fast)")
+        self.assertIn("soc_places_tb: passed", self.heard(PLACES.replace("clk 10", "clk 40\nclock fast 2"), fast))
 
 
 @needs("yosys")

@@ -37,6 +37,10 @@ class ChipBench:
         """What there is of each memory, that of memory 0 lowest."""
         return "{" + ", ".join(one(number) for number in reversed(range(self.count))) + "}"
 
+    def clock(self, number: int) -> str:
+        """The clock of a memory, as it comes to its module."""
+        return f"dut.{self.paths[number]}.{self.system.collars[number].macro.clk}"
+
     # ---- the chip
 
     def declared(self, port: Found) -> str:
@@ -95,6 +99,7 @@ class ChipBench:
             loads="\n".join(loads),
             budget=self.system.budget,
             order="\n".join(order),
+            clocks=f"{{dut.{access}.clk, {self.joined(self.clock)}}}",
         )
 
     # ---- the ways to start
