@@ -39,6 +39,10 @@ FILES.update(
         "sized.report": SIZED,
         "again.report": SIZED.replace("backgrounds 1 commands 8", "backgrounds 4 commands 32"),
         "slow.mem": "memory 2\nname s\nwords 4\nbits 1\nlatency 4\n",
+        "placed.places": (
+            "places 1\nchip camera\nsource examples/in_place/camera.v\naccess tap.tested\nclock place 7\n"
+            "tap tck tms tdi trst_n tdo\nat late_0 a\nat late_1 b\nat left c\nat low d\nat masked e\nat kept f\n"
+        ),
         "judged.report": (
             "march {any(w0);up(r0)}\ncovered <0/1/-> SF\nclass SF 1 covered 1\ntotal 1 covered 1 escapes 0\n"
         ),

@@ -101,6 +101,11 @@ CALLS: List[Call] = [
     ),
     Call(f"tools/places {PLACES} {CAMERA}", status=2, says="places: "),
     Call(
+        f"tools/places placed.places {CAMERA} {PLACED_PINS} placed3",
+        status=2,
+        says="places: placed.places: place of camera has 5 bits, and it has to have 1",
+    ),
+    Call(
         "tools/sdc examples/joins/many.list acc5 --mhz 50", status=2, says="sdc: a list needs the files of pins"
     ),
     Call(f"tools/sdc {JOINS} {JOINED_PINS} acc5 --mhz 50 --jtag", prints="acc5/joins_test.sdc"),

@@ -145,27 +145,6 @@ class Proofs(Placed):
         self.assertTrue(all("sum" in line for line in lines), lines)
 
 
-class Texts(Placed):
-    def test_texts_that_are_refused(self) -> None:
-        refused = {
-            "no line 'at' is for other": PLACES.replace("at other two\n", ""),
-            "four has that place, too": PLACES.replace("at other two", "at other one.bank"),
-            "there is no memory third": PLACES + "at third x\n",
-            "line 5 has four, too": PLACES + "at four two\n",
-            "nobody is no input of board": PLACES + "clock nobody 10\n",
-            "a has 2 bits": PLACES + "set a 1'b0\n",
-            "no source has the module board": PLACES.replace("after.v", "four.pins"),
-            "write either the lines start, done and fail, or the line tap": PLACES.replace("done done\n", ""),
-            "begins with 'places 1'": PLACES.replace("places 1\n", ""),
-            "a line is at MEMORY PATH": PLACES.replace("at other two", "at other two;"),
-        }
-        for message, text in refused.items():
-            with self.subTest(message=message), self.assertRaisesRegex(ToolError, message):
-                self.places(text)
-
-
-if __name__ == "__main__":
-    unittest.main()
     def compared(self, old: str, new: str) -> list[str]:
         """What the proof tells of a board with more flip-flops, a text of which is another than before."""
         self.assertIn(old, KEPT)
@@ -205,3 +184,29 @@ if __name__ == "__main__":
             self.places(PLACES + "before @/after.v\n")
 
 
+class Texts(Placed):
+    def test_texts_that_are_refused(self) -> None:
+        refused = {
+            "no line 'at' is for other": PLACES.replace("at other two\n", ""),
+            "four has that place, too": PLACES.replace("at other two", "at other one.bank"),
+            "there is no memory third": PLACES + "at third x\n",
+            "line 5 has four, too": PLACES + "at four two\n",
+            "nobody is no input of board": PLACES + "clock nobody 10\n",
+            "clk is told twice": PLACES + "clock clk 7\n",
+            "d is told twice": PLACES + "set d 2'b00\nset d 2'b11\n",
+            "fail is told twice": PLACES.replace("done done", "done fail"),
+            "a of board has 2 bits, and it has to have 1": PLACES + "clock a 7\n",
+            "fail of board has 2 bits, and it has": PLACES.replace("done done\nfail", "done fail\nfail done #"),
+            "a has 2 bits": PLACES + "set a 1'b0\n",
+            "no source has the module board": PLACES.replace("after.v", "four.pins"),
+            "write either the lines start, done and fail, or the line tap": PLACES.replace("done done\n", ""),
+            "begins with 'places 1'": PLACES.replace("places 1\n", ""),
+            "a line is at MEMORY PATH": PLACES.replace("at other two", "at other two;"),
+        }
+        for message, text in refused.items():
+            with self.subTest(message=message), self.assertRaisesRegex(ToolError, message):
+                self.places(text)
+
+
+if __name__ == "__main__":
+    unittest.main()

@@ -5,6 +5,7 @@ from __future__ import annotations
 import dataclasses
 import pathlib
 import re
+from typing import Mapping
 
 from vidlakost_tools.chip.system import System
 from vidlakost_tools.collar.liberty import Found
@@ -83,14 +84,23 @@ class Places:
         if word == "clock":
             if len(rest) != 2 or not re.fullmatch("[1-9][0-9]{0,5}", rest[1]):
                 return False
+            self.refuse_twice(line, rest[0], self.clocks)
             self.clocks[rest[0]] = int(rest[1])
             return is_name(rest[0])
         if word == "set":
-            self.values[rest[0] if rest else ""] = rest[1] if rest[1:] else ""
-            return len(rest) == 2 and is_name(rest[0]) and literal(rest[1]) is not None
+            if len(rest) != 2 or literal(rest[1]) is None:
+                return False
+            self.refuse_twice(line, rest[0], self.values)
+            self.values[rest[0]] = rest[1]
+            return is_name(rest[0])
         if len(rest) != 1:
             return False
         return self.named(word, rest[0])
+
+    def refuse_twice(self, line: int, port: str, told: Mapping[str, object]) -> None:
+        """A port has one clock, or one value."""
+        if port in told:
+            raise self.refuse(line, f"{port} is told twice")
 
     def named(self, word: str, name: str) -> bool:
         if word in ("source", "before"):
@@ -129,6 +139,7 @@ def read_places(path: str, system: System) -> Places:
     refuse_starts(found, seen)
     refuse_names(found, system)
     found.ports = ports_of(found)
+    refuse_widths(found, len(system.collars))
     return found
 
 
@@ -157,6 +168,15 @@ def refuse_names(places: Places, system: System) -> None:
                 raise places.refuse(place.line, f"{there} has that place, too")
 
 
+def refuse_widths(places: Places, count: int) -> None:
+    """A clock has one bit, and so has each port by which the test is started, but for a bit of fail of each memory."""
+    widths = {port.name: port.width for port in places.ports}
+    for name in (*places.clocks, *places.start.values()):
+        wanted = count if name == places.start.get("fail") else 1
+        if widths[name] != wanted:
+            raise places.refuse(0, f"{name} of {places.chip} has {widths[name]} bits, and it has to have {wanted}")
+
+
 def ports_of(places: Places) -> list[Found]:
     """The ports of the chip, each of a width that is known; the text speaks of these alone."""
     named = [file for file in places.sources if places.chip in modules_of(file)]
@@ -174,7 +194,7 @@ def ports_of(places: Places) -> list[Found]:
         for name in names:
             if name not in known or known[name].way != way:
                 raise places.refuse(0, f"{name} is no {way} of {places.chip}")
-    twice = next((name for name in inputs if inputs.count(name) > 1), None)
+    twice = next((name for ports in (inputs, outputs) for name in ports if ports.count(name) > 1), None)
     if twice:
         raise places.refuse(0, f"{twice} is named twice")
     for name, value in places.values.items():
