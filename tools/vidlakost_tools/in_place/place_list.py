@@ -100,7 +100,7 @@ class Places:
     def refuse_twice(self, line: int, port: str, told: Mapping[str, object]) -> None:
         """A port has one clock, or one value."""
         if port in told:
-            raise self.refuse(line, f"{port} is told twice")
+            raise self.refuse(line, f"{port} is named twice")
 
     def named(self, word: str, name: str) -> bool:
         if word in ("source", "before"):
