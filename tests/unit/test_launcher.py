@@ -4,6 +4,7 @@ from __future__ import annotations
 import os
 import pathlib
 import resource
+import shlex
 import shutil
 import subprocess
 import tempfile
@@ -12,12 +13,14 @@ import unittest
 from vidlakost_tools.program import ROOT
 
 PROGRAM = "#!/bin/sh\necho total 1\n"
-# a kit whose `run` leaves a program, and does something more
+# a kit whose `ci` leaves a program, and does something more
 KIT = """#!/bin/sh
 if [ "$1" = version ]; then echo kit 1; exit; fi
-mkdir -p out
-printf '#!/bin/sh\\necho proved\\n' >out/bist_cli
-chmod +x out/bist_cli
+[ "$1" = ci ] || exit 2
+mkdir -p crates/bist_cli/out
+printf '#!/bin/sh\\necho proved\\n' >crates/bist_cli/out/bist_cli
+chmod +x crates/bist_cli/out/bist_cli
+echo 'rt: bist_cli proved'
 {}
 """
 
@@ -30,6 +33,7 @@ class Launcher(unittest.TestCase):
         self.root.mkdir()
         shutil.copy(ROOT / "vidlakost", self.root / "vidlakost")
         (self.root / "crates.txt").write_text("bist_cli:\n")
+        (self.root / "HANDLES").write_text("Handles allowed: none.\n")
         for part, name in (("src", "lib.rt"), ("src", "more.rt"), ("specs", "Lib.antt"), ("proofs", "Lemma.antt")):
             path = self.root / "crates" / "bist_cli" / part / name
             path.parent.mkdir(parents=True, exist_ok=True)
@@ -159,11 +163,42 @@ class Launcher(unittest.TestCase):
         self.assertTrue(self.is_taken())
 
     def test_a_source_that_changes_meanwhile_is_told(self) -> None:
-        self.kit("echo more >>src/lib.rt")
+        self.kit(f"echo more >>{shlex.quote(str(self.source))}")
         done = self.call("--prove")
         self.assertEqual(done.returncode, 125)
         self.assertIn("a source was changed meanwhile", done.stderr)
         self.assertFalse(self.program.exists())
+
+    def test_what_fails_is_not_taken(self) -> None:
+        self.kit("exit 1")
+        done = self.call("--prove")
+        self.assertEqual(done.returncode, 125)
+        self.assertIn("the build failed", done.stderr)
+        self.assertFalse(self.program.exists())
+
+    def test_it_is_proved_again_where_that_is_asked(self) -> None:
+        self.prove()
+        self.kit(f'echo "$@" >{shlex.quote(str(self.root / "words"))}')
+        self.assertEqual(self.call("--prove", "--anew").returncode, 0)
+        self.assertEqual((self.root / "words").read_text(), "ci --anew\n")
+        for words in (["now"], [""], ["--anew", "--anew"]):
+            self.assertEqual(self.call("--prove", *words).returncode, 2, words)
+
+    def test_only_what_the_program_stands_on_is_proved(self) -> None:
+        (self.root / "crates.txt").write_text("bist_cli: low\nlow: arrayvec\ntests: low\n")
+        for name in ("low/src", "low/out", "tests/src", "bist_cli/must-fail"):
+            path = self.root / "crates" / name / "file"
+            path.parent.mkdir(parents=True, exist_ok=True)
+            path.write_text("text\n")
+        seen = self.root / "seen"
+        self.kit(f"cat crates.txt >{shlex.quote(str(seen))}; find . -type f >>{shlex.quote(str(seen))}")
+        done = self.call("--prove")
+        self.assertEqual(done.returncode, 0, done.stderr)
+        self.assertIn("1 of 2 crates proved, after 0 minutes; now", done.stderr)
+        parts = ("bist_cli/src/lib.rt", "bist_cli/src/more.rt", "bist_cli/specs/Lib.antt", "bist_cli/proofs/Lemma.antt")
+        wanted = ["bist_cli: low", "low: arrayvec", "./HANDLES", "./crates.txt", "./crates/bist_cli/out/bist_cli"]
+        wanted += [f"./crates/{part}" for part in (*parts, "low/src/file")]
+        self.assertEqual(sorted(seen.read_text().splitlines()), sorted(wanted))
 
     def test_a_named_program_is_a_file(self) -> None:
         self.assertEqual(self.call("bench", VIDLAKOST_PROGRAM="printf").returncode, 125)
