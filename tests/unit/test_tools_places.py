@@ -169,6 +169,40 @@ class Proofs(Placed):
                 name = next(name for name in ("kept", "turned", "open") if name in new)
                 self.assertTrue(any(f"in use {name}" in line for line in told), told)
 
+    def added(self, before: str, after: str) -> list[str]:
+        """What the proof tells of a board that got an output `more`, by one text before and by another after."""
+        board, more = "module board(input clk,", "module board(output more, input clk,"
+        (self.folder / "before.v").write_text(BEFORE.replace(board, more).replace(SUM, SUM + before))
+        return self.places(self.PROVED, AFTER.replace(board, more).replace(SUM, SUM + after))[1][2:]
+
+    def test_drivers_that_can_be_off(self) -> None:
+        """Such a driver that holds 0 is no 0, and of two on one net each counts."""
+        same = ["soc: in use each memory, each flip-flop and each output has what it had"]
+        low = "  assign more = ce ? 1'b0 : 1'bz;\n"
+        both = low + "  assign more = wen[0] ? a[0] : 1'bz;\n"
+        self.assertEqual(self.added(low, low), same)
+        self.assertEqual(self.added(both, both), same)
+        for before, after, what in (
+            (low, "  assign more = 1'b0;\n", "when it is driven of more[0] is not there any more"),
+            (both, both.replace("a[0]", "a[1]"), "the driver of more[0] is not what it was"),
+            (both, both.replace("wen[0]", "wen[1]"), "when it is driven of more[0] is not what it was"),
+        ):
+            self.assertIn(f"soc: in use {what}", self.added(before, after))
+        never = ["soc: in use more is not what it was"]
+        self.assertEqual(self.added("  assign more = 1'bz;\n", "  assign more = 1'b0;\n"), never)
+        chosen = "  reg it;\n  always @* case (a) 0: it = ce; 1: it = d[0]; 2: it = d[1]; default: it = 1'bz; endcase\n"
+        with self.assertRaisesRegex(ToolError, "board has a `z`"):
+            self.added(chosen + "  assign more = it;\n", chosen + "  assign more = it;\n")
+
+    def test_nets_with_two_drivers(self) -> None:
+        """What two drivers make of a net is proved of nothing."""
+        plain = "  assign more = ce;\n"
+        for wrong in ("  assign q[0] = d[0];\n", "  assign sum[0] = clk;\n", "  assign p = to_0;\n"):
+            told = self.added(plain, plain + wrong)
+            self.assertTrue(told and all(line.endswith("has more than one driver") for line in told), told)
+        told = self.added(plain + "  assign q[0] = d[0];\n", plain)
+        self.assertTrue(told and all(line.endswith("had more than one driver") for line in told), told)
+
     def test_gate_of_a_clock_that_the_test_opens(self) -> None:
         """In use the test is 0, so what it opens is what it was."""
         gate = "  reg open;\n  always @* if (!clk) open = {};\n  core one(.clk(clk & open)"

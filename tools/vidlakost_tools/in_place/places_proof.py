@@ -24,21 +24,30 @@ from vidlakost_tools.verilog import yosys
 # of one side: its boxes, its sources, its top, what its memories are called, and the name that the module gets
 SIDE = template(__file__, "places_proof_side.sv")
 PROOF = beside(__file__, "places_proof_proof.sv")
+# what a driver that can be off becomes: an instance of this box for each bit, whose pins are compared as a memory's are
+OFF = beside(__file__, "places_proof_off.v")
+OFF_BOX = "module places_off(input value, input on, output net); endmodule\n"
+OFF_PIN = re.compile(r"(.*)\$tribuf\.bits\[(\d+)\]\.off\.(value|on|net)")
+TWO_DRIVERS = re.compile(r"Warning: multiple conflicting drivers for \S+?\.\\?(\S+)(?: \[(\d+)\])?:")
 UNPROVED = re.compile(r"Unproven \$equiv .*?: \\?(\S+)_gold(?: \[(\d+)\])?")
 
 
 @dataclasses.dataclass
 class Side:
-    """A side of the proof, as Yosys reports it: of each port its direction and its bits, and whether it has a state."""
+    """A side of the proof, as Yosys reports it: of each port its direction and its bits, whether it has a state, and
+    whether a value is off that no driver of a net of its own has."""
 
     ports: Mapping[str, tuple[str, list[Any]]]
     has_inner_state: bool
+    is_off_inside: bool
 
 
 def side_of(path: pathlib.Path, name: str) -> Side:
     told = json.loads(path.read_text(encoding="utf-8"))["modules"][name]
     ports = {port: (one["direction"], one["bits"]) for port, one in told["ports"].items()}
-    return Side(ports, any(cell["type"] == "$ff" for cell in told["cells"].values()))
+    cells = told["cells"].values()
+    is_off = any("z" in bits for cell in cells for bits in cell["connections"].values())
+    return Side(ports, any(cell["type"] == "$ff" for cell in cells), is_off)
 
 
 class Proof:
@@ -51,27 +60,44 @@ class Proof:
         macros = boxes([placed.macro for placed in target.system.collars])
         reached: dict[str, list[str]] = {"access": ["start"], "tap": ["tck", "tms", "tdi", "trst_n"], "apb": []}
         starts = "".join(self.reach(kind, inputs) for kind, inputs in reached.items())
+        unknown = "".join(self.unknown(kind) for kind in reached)
         places_of = "".join(box(placed.macro, placed.word) for placed in words.values())
         # the chip as it was has macros alone, and nothing that starts a test
-        for side, outside, inside in (("gold", macros, ""), ("gate", macros + places_of, starts)):
-            (folder / f"{side}_boxes.v").write_text(outside, encoding="utf-8")
+        for side, outside, inside in (("gold", macros, ""), ("gate", macros + places_of + unknown, starts)):
+            (folder / f"{side}_boxes.v").write_text(outside + OFF_BOX, encoding="utf-8")
             (folder / f"{side}_starts.v").write_text(inside, encoding="utf-8")
+        (folder / "off.v").write_text(OFF, encoding="utf-8")
+
+    def others(self, kind: str) -> list[Port]:
+        """The ports of what starts the test, beside its clock, `test` and the bundles."""
+        if kind == "tap":
+            return [Port("output", "tdo"), Port("output", "tdo_en")]
+        if kind == "access":
+            state = [Port("output", "done"), Port("output", "fail", self.target.count), Port("output", "seen")]
+            return [*self.target.choice(), *state, *self.target.result()]
+        return [Port("output", "prdata", 32), Port("output", "pready"), Port("output", "pslverr")]
+
+    def outputs(self, kind: str) -> list[Port]:
+        return [port for port in (*self.target.ports(), *self.others(kind)) if port.direction == "output"]
+
+    def unknown(self, kind: str) -> str:
+        """A box of the outputs of which nothing is known in use: each is a driver."""
+        told = ", ".join(port.declared() for port in self.outputs(kind))
+        return f"module {self.target.name}_{kind}_unknown({told}); endmodule\n"
 
     def reach(self, kind: str, inputs: list[str]) -> str:
         """What starts the test, in use: its test is 0 there, and nothing is known of its other outputs."""
         ports = [Port("input", "clk"), *(Port("input", name) for name in inputs), *self.target.ports()]
-        ports.append(Port("output", "test"))
-        if kind == "tap":
-            ports += [Port("output", "tdo"), Port("output", "tdo_en")]
-        if kind == "access":
-            state = [Port("output", "done"), Port("output", "fail", self.target.count), Port("output", "seen")]
-            ports += [*self.target.choice(), *state, *self.target.result()]
+        ports += [Port("output", "test"), *self.others(kind)]
         if kind == "apb":
             inward = {"pclk": 1, "presetn": 1, "psel": 1, "penable": 1, "pwrite": 1, "paddr": 12, "pwdata": 32}
             ports += [Port("input", name, width) for name, width in inward.items()]
-            ports += [Port("output", "prdata", 32), Port("output", "pready"), Port("output", "pslverr")]
         told = ",\n  ".join(port.declared() for port in ports)
-        return f"module {self.target.name}_{kind}(\n  {told}\n);\n  assign test = 1'b0;\nendmodule\n"
+        name = f"{self.target.name}_{kind}"
+        joined = ", ".join(f".{port.name}({port.name})" for port in self.outputs(kind))
+        return (
+            f"module {name}(\n  {told}\n);\n  assign test = 1'b0;\n  {name}_unknown unknown({joined});\nendmodule\n"
+        )
 
     def script(self, side: str, left_out: list[str]) -> str:
         places = self.places
@@ -83,6 +109,7 @@ class Proof:
             starts=yosys.quoted(self.folder / f"{side}_starts.v"),
             sources=yosys.sources_of(sources),
             top=places.chip,
+            off=yosys.quoted(self.folder / "off.v"),
             renamed="\n".join(f"rename {path} place_{numbers[name]}" for name, path in paths.items()),
             side=side,
             json=yosys.quoted(self.folder / f"{side}.json"),
@@ -91,8 +118,16 @@ class Proof:
 
     def named(self, port: str, bit: str | None = None) -> str:
         """A port of a side, as somebody who reads the sources calls it."""
+        off = OFF_PIN.fullmatch(port)
+        if off:
+            return f"{'when it is driven' if off[3] == 'on' else 'the driver'} of {off[1]}[{off[2]}]"
         found, of = re.fullmatch(r"place_(\d+)\.(.*)", port), f"[{bit}]" if bit else ""
         return f"{found[2]}{of} of {list(self.collars)[int(found[1])]}" if found else f"{port}{of}"
+
+    def driven_twice(self, side: str, when: str) -> list[str]:
+        """The bits of a side that have more than one driver: no value of theirs could be compared."""
+        pairs = [TWO_DRIVERS.search(line) for line in yosys.run(self.script(side, []), self.folder)]
+        return [f"{self.named(found[1], found[2])} {when} more than one driver" for found in pairs if found]
 
     def tied(self, gold: Side) -> list[str]:
         """The inputs of macros that were tied to something else than the collar ties them to."""
@@ -115,9 +150,13 @@ class Proof:
 
     def differences(self) -> list[str]:
         """What differs in use from what it was; nothing if all is proved."""
-        yosys.run(self.script("gold", []), self.folder)
-        yosys.run(self.script("gate", []), self.folder)
+        twice = [*self.driven_twice("gold", "had"), *self.driven_twice("gate", "has")]
+        if twice:
+            return twice
         gold, gate = side_of(self.folder / "gold.json", "gold"), side_of(self.folder / "gate.json", "gate")
+        if gold.is_off_inside or gate.is_off_inside:
+            chip = self.places.chip
+            raise ToolError(f"{chip} has a `z` that is no answer of `ENABLE ? VALUE : 'bz`, and isn't compared", 1)
         beside = self.not_compared()
         found = self.tied(gold)
         for port, (way, bits) in gold.ports.items():
@@ -127,6 +166,8 @@ class Proof:
                 found.append(f"{self.named(port)} is not there any more")
             elif (gate.ports[port][0], len(gate.ports[port][1])) != (way, len(bits)):
                 found.append(f"{self.named(port)} has another direction or width than before")
+            elif [bit == "z" for bit in gate.ports[port][1]] != [bit == "z" for bit in bits]:
+                found.append(f"{self.named(port)} is not what it was")
         if found:
             return found
         sides = self.script("gold", [port for port in gold.ports if port in beside])
