@@ -6,8 +6,10 @@ import pathlib
 import resource
 import shlex
 import shutil
+import signal
 import subprocess
 import tempfile
+import time
 import unittest
 
 from vidlakost_tools.program import ROOT
@@ -183,6 +185,20 @@ class Launcher(unittest.TestCase):
         self.assertEqual((self.root / "words").read_text(), "ci --anew\n")
         for words in (["now"], [""], ["--anew", "--anew"]):
             self.assertEqual(self.call("--prove", *words).returncode, 2, words)
+
+    def test_a_stopped_proof_leaves_nothing(self) -> None:
+        self.kit(f"touch {shlex.quote(str(self.root / 'begun'))}; exec sleep 60")
+        place = self.root / "place"
+        place.mkdir()
+        changed = {"PATH": f"{self.root / 'bin'}:{os.environ['PATH']}", "TMPDIR": str(place)}
+        call = ["bash", str(self.root / "vidlakost"), "--prove"]
+        with subprocess.Popen(call, env={**os.environ, **changed}, stderr=subprocess.DEVNULL) as launcher:
+            while not (self.root / "begun").exists():
+                time.sleep(0.05)
+            launcher.terminate()
+            self.assertEqual(launcher.wait(30), -signal.SIGTERM)
+        self.assertEqual(list(place.iterdir()), [])
+        self.assertFalse(self.program.exists())
 
     def test_only_what_the_program_stands_on_is_proved(self) -> None:
         (self.root / "crates.txt").write_text("bist_cli: low\nlow: arrayvec\ntests: low\n")
