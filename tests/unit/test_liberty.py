@@ -115,8 +115,8 @@ class Libraries(unittest.TestCase):
 
 
 class Lists(unittest.TestCase):
-    def read(self, text: str, module: str = "m") -> list[tuple[str, str, int]]:
-        return [(pin.name, pin.way, pin.width) for pin in Ports("m.v", text, module).ports()]
+    def read(self, text: str, module: str = "m", defined: str = "") -> list[tuple[str, str, int]]:
+        return [(pin.name, pin.way, pin.width) for pin in Ports("m.v", text, module, None, defined.split()).ports()]
 
     def test_the_new_style(self) -> None:
         text = (
@@ -139,10 +139,20 @@ class Lists(unittest.TestCase):
             "module m(a, q\n`ifdef P\n, v\n`endif\n); parameter A = 3, W = A*2; inout v; input [W-1:0] a; output q;"
             " function f; input z; f = z;"
         )
+        found = [("a", "input", 6), ("q", "output", 1)]
+        self.assertEqual(sorted(self.read(text + " endfunction endmodule")), found)
         self.assertEqual(
-            sorted(self.read(text + " endfunction endmodule")),
-            [("a", "input", 6), ("q", "output", 1), ("v", "inout", 1)],
+            sorted(self.read(text + " endfunction endmodule", defined="P")), [*found, ("v", "inout", 1)]
         )
+
+    def test_a_module_in_both_branches(self) -> None:
+        text = (
+            "`ifdef WIDE // `else\nmodule m(input [7:0] a, inout v);\n`else\nmodule m(input [3:0] a);\n`endif\n"
+            " wire w; endmodule\n"
+        )
+        self.assertEqual(self.read(text), [("a", "input", 4)])
+        self.assertEqual(self.read(f"`define WIDE\n{text}"), [("a", "input", 8), ("v", "inout", 1)])
+        self.assertEqual(self.read(f"`define WIDE\n`undef WIDE\n{text}"), [("a", "input", 4)])
 
     def test_what_is_not_known(self) -> None:
         self.assertEqual(

@@ -298,8 +298,8 @@ endmodule
         self.assertIn("assign O = I0;", models["SB_LUT4"])
         self.assertIn("always @(posedge C) Q <= #5 D;", models["SB_DFF"])
         self.assertNotIn("initial", models["SB_DFF"])
-        with self.assertRaisesRegex(ToolError, "^`endif without a begin in the models of Yosys$"):
-            known_cells.taken_lines("`endif\n")
+        with self.assertRaisesRegex(ToolError, "^the models of Yosys:1: `endif without a begin$"):
+            known_cells.models("`endif\n")
 
     def cells_of(self, texts: list[str], models: str = MODELS) -> str:
         self.file("ice40/cells_sim.v", models)

@@ -3,11 +3,12 @@ with."""
 from __future__ import annotations
 
 import re
-from typing import Mapping
+from typing import Collection, Mapping
 
 from vidlakost_tools.collar.liberty import Found
 from vidlakost_tools.collar.pins import WIDEST
 from vidlakost_tools.tool import ToolError
+from vidlakost_tools.verilog.conditions import taken
 from vidlakost_tools.verilog.syntax import COMMENT, LEXEME
 
 KINDS = {"wire", "reg", "logic", "tri", "var", "signed", "supply0", "supply1", "bit"}
@@ -15,19 +16,26 @@ WAYS = ("input", "output", "inout")
 # what the lexer has no token for: attributes, texts in quotes, directives with their word. What is begun and does not
 # end goes to the end of the text, so that no place is looked at twice; (*) is no attribute, but what a process waits
 # for.
-DIRECTIVE = r"`(?:ifdef|ifndef|elsif|define|include|timescale)[^\n]*|`\w+"
+DIRECTIVE = r"`define(?:\\\r?\n|[^\n])*|`(?:include|timescale)[^\n]*|`\w+"
 ATTRIBUTE = r"\(\*(?!\s*\)).*?(?:\*\)|\Z)"
 OTHER = re.compile(rf'{COMMENT}|/\*.*|{ATTRIBUTE}|"(?:\\.|[^"\\\n])*"|{DIRECTIVE}', re.DOTALL)
 
 
 class Ports:
-    """Reads the head of a module, and in the older style the declarations behind it."""
+    """Reads the head of a module, and in the older style the declarations behind it, where these names are defined."""
 
-    def __init__(self, path: str, text: str, module: str, given: Mapping[str, int] | None = None):
+    def __init__(
+        self,
+        path: str,
+        text: str,
+        module: str,
+        given: Mapping[str, int] | None = None,
+        defined: Collection[str] = (),
+    ):
         self.path, self.module = path, module
         # the parameters that whoever uses the module gives it
         self.given = given or {}
-        plain = OTHER.sub(" ", text)
+        plain = OTHER.sub(" ", taken(path, text, defined))
         self.words = [match[0] for match in LEXEME.finditer(plain) if match.lastgroup]
         heads = [at for at, word in enumerate(self.words) if word in ("module", "macromodule")]
         starts = [at for at in heads if self.words[at + 1 : at + 2] == [module]]
@@ -115,7 +123,7 @@ class Ports:
         width, low = self.shape()
         while True:
             name = self.take()
-            # where the preprocessor chooses between two, it is not known which of them stands there
+            # what is told twice, as the input of a function may be, is not known
             is_other = name in self.found and self.found[name].width != width
             self.found[name] = Found(name, way, 0 if is_other else width, low=low)
             self.missing.discard(name)

@@ -10,12 +10,12 @@ from typing import Any, Mapping
 from vidlakost_tools.collar.vendor import modules_in
 from vidlakost_tools.text import LARGE_BYTES, lines_of, read_bytes
 from vidlakost_tools.tool import ToolError
+from vidlakost_tools.verilog.conditions import taken
 
 # of each family the models' file in Yosys' share folder, and the cells of it that are logic and registers alone
 FAMILIES = {"ice40": ("ice40/cells_sim.v", "SB_LUT4|SB_CARRY|SB_GB|SB_DFFN?E?(?:S|R|SS|SR)?")}
 KNOWN = "SB_LUT4, SB_CARRY, SB_GB, and SB_DFF with N, E, S, R, SS and SR behind it"
 MODULE = re.compile(r"^module\s+(\w+)\b.*?^endmodule\b", re.MULTILINE | re.DOTALL)
-DIRECTIVE = re.compile(r"\s*`(ifdef|ifndef|elsif|else|endif)\b\s*(\w*)")
 DEFINE = re.compile(r"\s*`define\s+(\w+)(?:\((\w+)\))?[ \t]*(.*)")
 MACRO = re.compile(r"`(\w+)(?:\(([^()]*)\))?")
 
@@ -30,39 +30,11 @@ def share() -> pathlib.Path:
     raise ToolError("Yosys' share folder was not found beside its program")
 
 
-def taken_lines(text: str) -> list[str]:
-    """The lines that stand where no macro is defined but those of the text itself."""
-    kept: list[str] = []
-    defined: set[str] = set()
-    # of each open condition whether its branch is taken, and whether one was
-    branches: list[tuple[bool, bool]] = []
-    for line in lines_of(text):
-        found = DIRECTIVE.match(line)
-        if found is None:
-            if all(is_taken for is_taken, _ in branches):
-                kept.append(line)
-                defined |= {match[1] for match in [DEFINE.match(line)] if match}
-            continue
-        kind, name = found.groups()
-        if kind in ("ifdef", "ifndef"):
-            is_taken = (name in defined) == (kind == "ifdef")
-            branches.append((is_taken, is_taken))
-        elif not branches:
-            raise ToolError(f"`{kind} without a begin in the models of Yosys")
-        elif kind == "endif":
-            branches.pop()
-        else:
-            _, was = branches.pop()
-            is_taken = not was and (kind == "else" or name in defined)
-            branches.append((is_taken, was or is_taken))
-    return kept
-
-
 def models(text: str) -> dict[str, str]:
     """Of each module of the models its text, with the macros in it written out; initial values are ignored."""
     macros: dict[str, tuple[str, str]] = {}
     lines = []
-    for line in taken_lines(text):
+    for line in lines_of(taken("the models of Yosys", text)):
         define = DEFINE.match(line)
         if define:
             value = re.sub(r"\s*//.*", "", define[3])
