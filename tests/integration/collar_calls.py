@@ -46,6 +46,7 @@ FILES.update(
         "hidden.v": (
             '// module ram4x1\n/* module ram4x1 */ module other; initial $display("module ram4x1 "); endmodule\n'
         ),
+        "part.v": "module ram4x1_part; endmodule\n",
         "shown.v": "module /* a */ ram4x1(input ck, ce, we, input [1:0] a, input d, output q); endmodule\n",
         "mine/s_collar.v": "module mine; endmodule\n",
         "mine/Makefile": "all:\n\techo mine\n",
@@ -130,6 +131,8 @@ CALLS: List[Call] = [
     Call(f"{COLLAR} vendor --model hidden.v", status=2, says="collar: s.pins:1: there is no module ram4x1 in /"),
     Call(f"{COLLAR} vendor --model 'no such.v'", status=2, says="collar: --model: 'no such.v' is not a file"),
     Call(f"{COLLAR} vendor --model shown.v", prints="vendor/files.f", says="collar: not tested: ce: whether"),
+    Call(f"{COLLAR} vendor --model shown.v --model part.v", prints="vendor/files.f", says="collar: not tested: ce"),
+    Call(f"{COLLAR} vendor --model part.v", status=2, says="collar: s.pins:1: there is no module ram4x1 in /"),
     Call(f"{COLLAR} open --open", prints="open/s_collar.v\nopen/ram4x1.v\n", says="collar: not tested: ce: whether"),
     Call(f"{COLLAR} open --open --through apb", status=2, says="collar: use --open or --through, not both"),
     Call(

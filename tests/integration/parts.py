@@ -36,6 +36,7 @@ from tests.integration import (
     tool_calls,
     twins,
     untested as left_out,
+    vendors,
     vhdl as standards,
     wrong,
 )
@@ -336,6 +337,7 @@ ALL: tuple[Callable[[Bench], None], ...] = (
     *joined.PARTS,
     *standards.PARTS,
     *collars.PARTS,
+    *vendors.PARTS,
     *sharing.PARTS,
     *timing.PARTS,
     *wrong.PARTS,

@@ -129,6 +129,17 @@ class Lines(unittest.TestCase):
         self.assertEqual(left([*PINS, *PORT, "masks"]), "")
         self.assertEqual(left([*PINS, *PORT]), f"{off}; wen, v: {alone}")
 
+    def test_a_further_clock_is_not_tested_where_the_model_ignores_it(self) -> None:
+        def of_clock(lines: list[str], is_theirs: bool) -> str:
+            word = Word([memory()])
+            left = untested(read([*lines, "clock2 ck2"], word.first), word, is_theirs)
+            return next((one.why for one in left if one.pin == "ck2"), "")
+
+        split = [line.replace("addr a", "waddr a") for line in PINS] + ["raddr b"]
+        for lines in (PINS, split):
+            self.assertEqual(of_clock(lines, False), "a further clock, which the model ignores")
+        self.assertEqual(of_clock(PINS, True), "a further clock, which the test may not need")
+        self.assertEqual(of_clock(split, True), "")
 
     def test_bits_that_no_background_tells_apart(self) -> None:
         told = "bits {} of a word hold the same in every background{}"

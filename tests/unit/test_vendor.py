@@ -7,7 +7,7 @@ import unittest
 
 from vidlakost_tools.collar.pin_lines import read_macro
 from vidlakost_tools.collar.pins import Word
-from vidlakost_tools.collar.vendor import refuse_other_ports
+from vidlakost_tools.collar.vendor import files_beside, files_of, refuse_other_ports, undriven
 from vidlakost_tools.texts.memory import parse_memory
 from vidlakost_tools.tool import ToolError
 
@@ -71,6 +71,50 @@ class Widths(unittest.TestCase):
         )
         self.assertEqual(self.refusal(head), "")
         self.assertIn("d has 2 bits", self.refusal(head, pins=PINS.replace("parameter TWICE 8\n", "")))
+
+    def test_a_branch_that_is_not_taken(self) -> None:
+        """A model of both sizes is that of the branch that is taken."""
+        wide, right = HEADS["ansi"].format(a=9, d=9, q=9), HEADS["ansi"].format(a=3, d=4, q=4)
+        self.assertEqual(self.refusal(f"`ifdef WIDE\n{wide}\n`else\n{right}\n`endif"), "")
+        self.assertIn("a has 9 bits", self.refusal(f"`ifndef WIDE\n{wide}\n`else\n{right}\n`endif"))
+
+    def test_a_module_that_a_define_brings(self) -> None:
+        with tempfile.TemporaryDirectory() as name:
+            file, pins = pathlib.Path(name) / "ram.v", pathlib.Path(name) / "ram.pins"
+            file.write_text(f"`ifdef WIDE\n{HEADS['ansi'].format(a=9, d=9, q=9)} endmodule\n`endif\n")
+            pins.write_text(PINS)
+            macro = read_macro(str(pins), Word([parse_memory(MEMORY.format(words=8, bits=4))]))
+            refuse_other_ports(macro, str(file))
+            told = f"the ports of ram are not compared with {pins}: a define decides what {file} has"
+            self.assertEqual(undriven(macro, str(file)), [told])
+
+
+class Files(unittest.TestCase):
+    """Which files of --model stand beside a macro."""
+
+    def beside(self, macro: str, **texts: str) -> str:
+        with tempfile.TemporaryDirectory() as name:
+            for file, text in texts.items():
+                (pathlib.Path(name) / file).write_text(text)
+            vendors = files_of([f"{name}/{file}" for file in texts])
+            return " ".join(pathlib.PurePath(file).name for file in files_beside(macro, vendors, ("one", "two")))
+
+    def test_what_a_macro_uses(self) -> None:
+        texts = {
+            "cells": "`define UNIT 1ns\n",
+            "first": "module one; core u(); endmodule\n",
+            "other": "module two; endmodule\n",
+            "core": "module core; endmodule\n",
+        }
+        self.assertEqual(self.beside("one", **texts), "cells first core")
+        self.assertEqual(self.beside("two", **texts), "cells other core")
+        texts["core"] = "module core; two u(); endmodule\n"
+        self.assertEqual(self.beside("one", **texts), "cells first other core")
+        self.assertEqual(self.beside("three", **texts), "")
+
+    def test_a_file_of_several_macros(self) -> None:
+        texts = {"both": "module one; endmodule module two; endmodule\n", "more": "module more; endmodule\n"}
+        self.assertEqual(self.beside("one", **texts), "both more")
 
 
 if __name__ == "__main__":

@@ -12,6 +12,7 @@ from vidlakost_tools.chip import text as system_text
 from vidlakost_tools.chip.system import Part, Placed, System
 from vidlakost_tools.collar.clock_mux import chosen_clocks
 from vidlakost_tools.collar.pins import literal
+from vidlakost_tools.collar.vendor import files_beside
 from vidlakost_tools.collar.watch import GATES as GATES_DEFINE
 from vidlakost_tools.text import beside, shown, template
 from vidlakost_tools.texts.memory import Memory
@@ -102,9 +103,9 @@ class Flow:
             placed.word.name for placed in self.collars() if memory in [one.name for one in placed.word.memories]
         )
 
-    def vendor_of(self, placed: Placed) -> str | None:
-        """The file of --model that has a macro."""
-        return next((file for file, modules in self.vendors.items() if placed.macro.name in modules), None)
+    def vendors_of(self, placed: Placed) -> list[str]:
+        """The files of --model that a simulator reads beside the macro of a collar."""
+        return files_beside(placed.macro.name, self.vendors, {other.macro.name for other in self.system.collars})
 
     def beside(self, path: str) -> str:
         """A file of --model, whose whole name was looked at, as a recipe names it from the folder that the tool runs
@@ -131,14 +132,14 @@ class Flow:
         made = []
         for placed in self.collars():
             memories = [part.unit.memory_file for part in self.bases() if part.memory in placed.word.memories]
-            name, vendor = placed.word.name, self.vendor_of(placed)
-            model = self.given(self.beside(vendor)) if vendor else f"{name}/{placed.macro.name}.v"
+            name, vendors = placed.word.name, list(map(self.beside, self.vendors_of(placed)))
+            models = list(map(self.given, vendors)) or [f"{name}/{placed.macro.name}.v"]
             own = [f"{name}/{file}" for file in (f"{name}_collar.v", f"{name}_collar_tb.sv", "files.f")]
             own += self.cell_of(placed, f"{name}/")
             files = [
                 *map(self.given, [*memories, placed.macro.path]),
                 *own,
-                model,
+                *models,
                 *self.controllers(placed.word.memories),
             ]
             values = {
@@ -147,10 +148,10 @@ class Flow:
                 "pins": placed.macro.path,
                 "needs": " ".join(f"{memory.name}.report" for memory in placed.word.memories),
                 "files": " ".join(files),
-                "model": f" --model {self.beside(vendor)}" if vendor else "",
+                "model": "".join(f" --model {file}" for file in vendors),
             }
             made.append(COLLAR.format(name=name, **values))
-            made.append(self.gated(placed, [*own, model, *self.controllers(placed.word.memories)]))
+            made.append(self.gated(placed, [*own, *models, *self.controllers(placed.word.memories)]))
         return made
 
     def mux(self) -> str:
@@ -158,19 +159,17 @@ class Flow:
         return f" --clock-mux {self.clock_mux}" if self.clock_mux else ""
 
     def cell_of(self, placed: Placed, folder: str) -> list[str]:
-        """The model of that cell, if a collar has one."""
-        return [f"{folder}{self.clock_mux.split(':')[0]}.v"] if self.clock_mux and chosen_clocks(placed.macro) else []
+        """The model of that cell, if a collar has one and the vendor's files beside it have none."""
+        cell = self.clock_mux.split(":")[0]
+        theirs = {name for file in self.vendors_of(placed) for name in self.vendors[file]}
+        return [f"{folder}{cell}.v"] if cell and cell not in theirs and chosen_clocks(placed.macro) else []
 
     def gated(self, placed: Placed, files: list[str]) -> str:
         """The gates of a collar in its testbench."""
-        vendor = self.vendor_of(placed)
-        model = (
-            os.path.relpath(vendor, os.path.realpath(self.folder / placed.word.name))
-            if vendor
-            else f"{placed.macro.name}.v"
-        )
+        here = os.path.realpath(self.folder / placed.word.name)
+        models = [os.path.relpath(file, here) for file in self.vendors_of(placed)] or [f"{placed.macro.name}.v"]
         modules = " ".join(f"{memory.name}_bist.v" for memory in placed.word.memories)
-        model = " ".join([model, *self.cell_of(placed, "")])
+        model = " ".join([*models, *self.cell_of(placed, "")])
         values = {
             "files": " ".join(files),
             "modules": modules,

@@ -37,8 +37,10 @@ def is_beside_lanes(pin: Pin, macro: Macro) -> bool:
     return macro.second_writes and any(lane.is_second != pin.is_second for lane in tried_lanes(macro))
 
 
-def why_untested(pin: Pin, macro: Macro, word: Word) -> str:
-    """What of a pin the test does not see; nothing where it sees all."""
+def why_untested(pin: Pin, macro: Macro, word: Word, is_theirs: bool) -> str:
+    """What of a pin the test does not see; nothing where it sees all. A vendor's model needs the clock of each way."""
+    if pin.kind == "clock2" and is_theirs:
+        return "" if macro.has("raddr") else "a further clock, which the test may not need"
     if pin.kind in FURTHER:
         return "fixed in test" if pin.kind == "pass" and pin.value else FURTHER[pin.kind]
     if pin.has_lanes and pin not in tried_lanes(macro):
@@ -50,9 +52,9 @@ def why_untested(pin: Pin, macro: Macro, word: Word) -> str:
     return ""
 
 
-def untested(macro: Macro, word: Word) -> list[Untested]:
-    """Each such pin, in the order of the lines."""
-    found = [(pin.name, why_untested(pin, macro, word)) for pin in macro.pins]
+def untested(macro: Macro, word: Word, is_theirs: bool = False) -> list[Untested]:
+    """Each such pin, in the order of the lines, beside the written model or one of theirs."""
+    found = [(pin.name, why_untested(pin, macro, word, is_theirs)) for pin in macro.pins]
     return [Untested(name, why) for name, why in found if why]
 
 

@@ -2,14 +2,17 @@
 widths of the pins."""
 from __future__ import annotations
 
+import functools
 import pathlib
 import re
+from typing import Collection, Mapping
 
 from vidlakost_tools.collar.liberty import Found
 from vidlakost_tools.collar.pins import Macro, literal, widths_of
 from vidlakost_tools.collar.port_list import Ports
 from vidlakost_tools.text import SOURCE_BYTES, read_described, shown
 from vidlakost_tools.tool import ToolError
+from vidlakost_tools.verilog.conditions import taken
 from vidlakost_tools.verilog.syntax import COMMENT
 
 # what may stand between the words of a text; a name with a backslash ends at a blank
@@ -44,6 +47,41 @@ def modules_of(path: str) -> list[str]:
     return modules_in(read_described(path, SOURCE_BYTES))
 
 
+def files_of(paths: list[str]) -> dict[str, list[str]]:
+    """The files of --model in their order, each with its modules."""
+    return {file: modules_of(file) for file in map(named, paths)}
+
+
+def files_by_module(vendors: Mapping[str, list[str]]) -> dict[str, str]:
+    """The file of each module."""
+    return {module: file for file, modules in reversed(vendors.items()) for module in modules}
+
+
+def file_with(module: str, vendors: Mapping[str, list[str]]) -> str | None:
+    """The first of these files that has a module."""
+    return files_by_module(vendors).get(module)
+
+
+@functools.lru_cache(maxsize=None)
+def names_in(path: str) -> frozenset[str]:
+    """All names in a file, those of the modules that it uses among them."""
+    return frozenset(re.findall(r"[A-Za-z_][\w$]*", read_described(path, SOURCE_BYTES), re.ASCII))
+
+
+def files_beside(macro: str, vendors: Mapping[str, list[str]], macros: Collection[str]) -> list[str]:
+    """What a simulator reads of these files beside a macro: all that have it or none of the macros, and of the others
+    those with a module that one of these names. Without a model of the macro that is nothing."""
+    if file_with(macro, vendors) is None:
+        return []
+    left = {file for file, modules in vendors.items() if macro not in modules and not set(macros).isdisjoint(modules)}
+    more = left
+    while more:
+        names = {name for file in vendors if file not in left for name in names_in(file)}
+        more = {file for file in left if not names.isdisjoint(vendors[file])}
+        left = left - more
+    return [file for file in vendors if file not in left]
+
+
 # ---- the ports of a model
 
 WAYS = {"rdata": "output", "out": "output", "open": "output", "power": "inout"}
@@ -56,15 +94,20 @@ def number_of(value: str) -> int | None:
 
 
 def ports_of(macro: Macro, file: str) -> list[Found]:
-    """The ports of a model, with the parameters that the pins give it."""
+    """The ports of a model, with the parameters that the pins give it; none where a define decides whether the module
+    is there."""
     given = {name: number for name, value in macro.parameters for number in [number_of(value)] if number is not None}
-    return Ports(file, read_described(file, SOURCE_BYTES), macro.name, given).ports()
+    text = read_described(file, SOURCE_BYTES)
+    return Ports(file, text, macro.name, given).ports() if macro.name in modules_in(taken(file, text)) else []
 
 
 def undriven(macro: Macro, file: str) -> list[str]:
     """What there is to say of inputs of a model that no line of the pins names, as the enable that somebody forgot."""
+    ports = ports_of(macro, file)
+    if not ports:
+        return [f"the ports of {macro.name} are not compared with {macro.path}: a define decides what {file} has"]
     named_pins = {name for pin in macro.pins for name, _ in widths_of(pin)}
-    names = [port.name for port in ports_of(macro, file) if port.way == "input" and port.name not in named_pins]
+    names = [port.name for port in ports if port.way == "input" and port.name not in named_pins]
     return [f"nothing drives {', '.join(names)} of {macro.name}, which no line of {macro.path} names"] if names else []
 
 

@@ -1,6 +1,6 @@
 """A collar: a memory macro with its self-test, and a multiplexer between that and the functional port.
 
-usage: vidlakost collar MEMORY [MEMORY] --macro PINS FOLDER [--model FILE] [--clock-mux CELL:SELECT:CHIP:TEST:OUT]
+usage: vidlakost collar MEMORY [MEMORY] --macro PINS FOLDER [--model FILE].. [--clock-mux CELL:SELECT:CHIP:TEST:OUT]
                         [--open | --through access|apb|jtag]
        vidlakost collar --help
 
@@ -45,7 +45,8 @@ collar writes these files to FOLDER; NAME is the memory's name, or that of the l
                              ends with the line `NAME_collar_tb: passed`; a run that a model ends early has no such line
     files.f                  what a simulator has to read, in this order
     MACRO.v                  a model of the macro by these pins, unless you have one. Put the vendor's model in its
-                             place, where collar leaves it, or name it by --model. Its ports need the widths of the pins
+                             place, where collar leaves it, or name its files by --model. Its ports need the widths of
+                             the pins
 --clock-mux names the cell that chooses each further clock: its module and its pins. SELECT is 1 in test. collar writes
 CELL.v, a model of the cell, unless one is there. Without --clock-mux a `? :` chooses the clock, and collar says so. At
 its end collar says what of the macro it doesn't test, and which bits of a word hold the same in every background. With
@@ -70,8 +71,8 @@ from vidlakost_tools.collar.pin_lines import read_macro
 from vidlakost_tools.collar.pins import Macro, Word, alike
 from vidlakost_tools.collar.text import collar
 from vidlakost_tools.collar.untested import told_pins, untested
-from vidlakost_tools.collar.vendor import modules_of, named, refuse_other_ports, undriven
-from vidlakost_tools.files import is_own, refuse_strangers, refuse_twins, write_own
+from vidlakost_tools.collar.vendor import file_with, files_of, refuse_other_ports, undriven
+from vidlakost_tools.files import is_own, refuse_twins, write_own
 from vidlakost_tools.text import shown
 from vidlakost_tools.texts.memory import read_memory
 from vidlakost_tools.tool import ToolError, tell, usage_of, words_of
@@ -88,63 +89,77 @@ def kind_of(options: dict[str, str]) -> str:
     return KINDS[options["--through"]]
 
 
-def texts_of(macro: Macro, word: Word, kind: str, vendor: str | None) -> dict[str, str]:
-    """The files by name. They include the model of the macro, unless the call names the vendor's."""
-    name = word.name
+def texts_of(macro: Macro, word: Word, kind: str, vendors: dict[str, list[str]]) -> dict[str, str]:
+    """The files by name. They include the models of the macro and of its cell of clocks, unless one of the vendor's
+    files has them."""
+    name, cell = word.name, macro.clock_cell
+    own = [f"{cell.cell}.v"] if cell and file_with(cell.cell, vendors) is None else []
     made = {f"{name}_collar.v": collar(macro, word, kind)}
     if kind == "bist":
         made[f"{name}_collar_tb.sv"] = Bench(macro, word).text()
         modules = [f"{memory.name}_bist.v" for memory in word.memories]
-        files = [f"{name}_collar_tb.sv", f"{name}_collar.v", *modules, vendor or f"{macro.name}.v"]
-        files += [f"{macro.clock_cell.cell}.v"] if macro.clock_cell else []
+        files = [f"{name}_collar_tb.sv", f"{name}_collar.v", *modules, *(vendors or [f"{macro.name}.v"]), *own]
         made["files.f"] = "\n".join([f"{MARK} collar", *files, ""])
-    if macro.clock_cell:
-        made[f"{macro.clock_cell.cell}.v"] = macro.clock_cell.model(MARK)
-    if vendor is None:
+    if cell:
+        made.update({file: cell.model(MARK) for file in own})
+    if not vendors:
         made[f"{macro.name}.v"] = model(macro, word)
     return made
 
 
+def looked_at(macro: Macro, vendors: dict[str, list[str]]) -> str | None:
+    """The file of the vendor's that has the macro, if the call names some. Its ports fit the pins."""
+    theirs = file_with(macro.name, vendors)
+    if vendors and theirs is None:
+        raise macro.refuse(macro.name_line, f"there is no module {macro.name} in {', '.join(vendors)}")
+    if theirs:
+        refuse_other_ports(macro, theirs)
+    return theirs
+
+
+def left_there(macro: Macro, texts: dict[str, str], out: pathlib.Path) -> str | None:
+    """Takes out of the texts the models of somebody else's that are in the folder, and answers that of the macro."""
+    cell = f"{macro.clock_cell.cell}.v" if macro.clock_cell else ""
+    if cell in texts and (out / cell).exists() and not is_own(out / cell):
+        del texts[cell]
+    refuse_twins(texts)
+    path = out / f"{macro.name}.v"
+    if path.name not in texts or not path.exists() or is_own(path):
+        return None
+    refuse_other_ports(macro, str(path))
+    tell(f"collar: {path} exists and this tool did not write it, so it stays")
+    del texts[path.name]
+    return str(path)
+
+
+def tell_left(macro: Macro, word: Word, theirs: str | None) -> None:
+    """Says what of the macro is not driven or not tested."""
+    for told in undriven(macro, theirs) if theirs else []:
+        tell(f"collar: {told}")
+    if chosen_clocks(macro) and macro.clock_cell is None:
+        tell(f"collar: `? :` chooses the clock of {', '.join(chosen_clocks(macro))}: name a cell by --clock-mux")
+    left = told_pins(untested(macro, word, theirs is not None))
+    if left:
+        tell(f"collar: not tested: {left}")
+    if alike(word):
+        tell(f"collar: {alike(word)}: the test does not see if one depends on the other")
+
+
 def main(arguments: list[str]) -> int:
     words, options = words_of(
-        __doc__, arguments, {"--macro": 1, "--through": 1, "--model": 1, "--clock-mux": 1, "--open": 0}, 2, 3
+        __doc__, arguments, {"--macro": 1, "--through": 1, "--model": [], "--clock-mux": 1, "--open": 0}, 2, 3
     )
     *memory_files, folder = words
     if "--macro" not in options:
         raise ToolError(f"name the file of the pins with --macro\n{usage_of(__doc__)}")
     kind, word = kind_of(options), Word([read_memory(path) for path in memory_files])
     macro = read_macro(options["--macro"], word)
-    has_choice = bool(chosen_clocks(macro))
-    if "--clock-mux" in options and has_choice:
+    if "--clock-mux" in options and chosen_clocks(macro):
         macro.clock_cell = clock_mux(options["--clock-mux"])
-    vendor = named(options["--model"]) if "--model" in options else None
-    if vendor and macro.name not in modules_of(vendor):
-        raise macro.refuse(macro.name_line, f"there is no module {macro.name} in {vendor}")
-    if vendor:
-        refuse_other_ports(macro, vendor)
-    texts, out = texts_of(macro, word, kind, vendor), pathlib.Path(folder)
-    if (
-        macro.clock_cell
-        and (out / f"{macro.clock_cell.cell}.v").exists()
-        and not is_own(out / f"{macro.clock_cell.cell}.v")
-    ):
-        del texts[f"{macro.clock_cell.cell}.v"]
-    refuse_twins(texts)
-    path = out / f"{macro.name}.v"
-    if vendor is None and path.exists() and not is_own(path):
-        refuse_other_ports(macro, str(path))
-        tell(f"collar: {path} exists and this tool did not write it, so it stays")
-        refuse_strangers(out, list(texts)[:-1])
-        del texts[path.name]
-    write_own(out, texts, [*memory_files, options["--macro"], *([vendor] if vendor else [])])
-    theirs = vendor or (str(path) if path.exists() and not is_own(path) else None)
-    for told in undriven(macro, theirs) if theirs else []:
-        tell(f"collar: {told}")
-    if has_choice and macro.clock_cell is None:
-        tell(f"collar: `? :` chooses the clock of {', '.join(chosen_clocks(macro))}: name a cell by --clock-mux")
-    left = told_pins(untested(macro, word))
-    if left:
-        tell(f"collar: not tested: {left}")
-    if alike(word):
-        tell(f"collar: {alike(word)}: the test does not see if one depends on the other")
+    vendors = files_of(options.get("--model", []))
+    theirs = looked_at(macro, vendors)
+    texts, out = texts_of(macro, word, kind, vendors), pathlib.Path(folder)
+    left = left_there(macro, texts, out)
+    write_own(out, texts, [*memory_files, options["--macro"], *vendors])
+    tell_left(macro, word, theirs or left)
     return 0

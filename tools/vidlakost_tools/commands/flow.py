@@ -44,7 +44,7 @@ from vidlakost_tools.chip import system as soc, text as system_text
 from vidlakost_tools.chip.flow import MARK, Flow
 from vidlakost_tools.chip.system import System
 from vidlakost_tools.collar.clock_mux import clock_mux
-from vidlakost_tools.collar.vendor import modules_of, named, refuse_other_ports
+from vidlakost_tools.collar.vendor import files_of, refuse_other_ports
 from vidlakost_tools.files import write_own
 from vidlakost_tools.in_place import files as in_place_files
 from vidlakost_tools.in_place.flow import PlaceFlow
@@ -72,7 +72,7 @@ def pins_beside(system: System) -> list[str]:
 
 def vendors_of(system: System, options: dict[str, Any], is_placed: bool) -> dict[str, list[str]]:
     """The files of --model and their modules; refuses those that don't fit."""
-    vendors = {file: modules_of(file) for file in map(named, options.get("--model", []))}
+    vendors = files_of(options.get("--model", []))
     modules = [name for names in vendors.values() for name in names]
     refuse = in_place_files.refuse_modules if is_placed else system_text.refuse_modules
     refuse(system, modules)

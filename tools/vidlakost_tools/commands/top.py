@@ -64,7 +64,7 @@ from vidlakost_tools.collar.names import MARK
 from vidlakost_tools.collar.pins import Macro, alike
 from vidlakost_tools.collar.text import collar
 from vidlakost_tools.collar.untested import Untested, told_pins, untested
-from vidlakost_tools.collar.vendor import modules_of, named, refuse_other_ports, undriven
+from vidlakost_tools.collar.vendor import files_by_module, files_of, refuse_other_ports, undriven
 from vidlakost_tools.files import is_own, refuse_twins, write_own
 from vidlakost_tools.in_place import files as in_place_files
 from vidlakost_tools.in_place.sequencer import of_places
@@ -147,21 +147,21 @@ def made_by_chip(path: str) -> str:
         return read_text(file, LARGE_BYTES)
 
 
-def texts_of(system: System, path: str, folder: pathlib.Path, vendors: list[str]) -> dict[str, str]:
+def texts_of(system: System, path: str, folder: pathlib.Path, vendors: dict[str, list[str]]) -> dict[str, str]:
     """All files by their names."""
-    made, given = chips(system, path, folder), [(name, file) for file in vendors for name in modules_of(file)]
-    system_text.refuse_modules(system, [name for name, _ in given])
+    made, given = chips(system, path, folder), files_by_module(vendors)
+    system_text.refuse_modules(system, list(given))
     words = {placed.word.name: placed for placed in system.collars}
     collars = {f"{name}_collar.v": collar(placed.macro, placed.word, "open") for name, placed in words.items()}
-    modules = models(system, dict(given), folder)
+    modules = models(system, given, folder)
     whole = {f"{system.name}_system_tb.sv": system_bench.bench(system)}
     whole[f"{system.name}_system.v"] = system_text.Text(system).text()
     whole[f"{system.name}_boxes.v"] = boxes([placed.macro for placed in system.collars])
     macros = list(
-        dict.fromkeys(f"{placed.macro.name}.v" for placed in system.collars if placed.macro.name not in dict(given))
+        dict.fromkeys(f"{placed.macro.name}.v" for placed in system.collars if placed.macro.name not in given)
     )
     cells = {f"{placed.macro.clock_cell.cell}.v" for placed in system.collars if placed.macro.clock_cell}
-    macros += sorted(name for name in cells if name[:-2] not in dict(given))
+    macros += sorted(name for name in cells if name[:-2] not in given)
     own = [name for name in macros if name in modules or (folder / name).exists()]
     listed = [
         *(name for name in whole if not name.endswith("_boxes.v")),
@@ -173,12 +173,12 @@ def texts_of(system: System, path: str, folder: pathlib.Path, vendors: list[str]
     return {**whole, **collars, **made, **modules, "files.f": "\n".join([f"{MARK} top", *listed, ""])}
 
 
-def texts_in_place(system: System, folder: pathlib.Path, vendors: list[str]) -> dict[str, str]:
+def texts_in_place(system: System, folder: pathlib.Path, vendors: dict[str, list[str]]) -> dict[str, str]:
     """All files of memories that stay in their places."""
-    given = {name: file for file in vendors for name in modules_of(file)}
+    given = files_by_module(vendors)
     in_place_files.refuse_modules(system, list(given))
     modules = models(system, given, folder)
-    return in_place_files.texts_of(of_places(system), modules, given)
+    return in_place_files.texts_of(of_places(system), modules, vendors)
 
 
 def give_clocks(system: System, options: dict[str, Any]) -> None:
@@ -194,13 +194,13 @@ def give_clocks(system: System, options: dict[str, Any]) -> None:
         tell(f"top: `? :` chooses the clock of {names}: name a cell by --clock-mux")
 
 
-def tell_untested(system: System) -> None:
-    """Says what of the macros is not tested."""
+def tell_untested(system: System, texts: dict[str, str]) -> None:
+    """Says what of the macros is not tested. A model that is not among the texts is somebody else's."""
     words = {placed.word.name: placed for placed in system.collars}
     left = [
         Untested(f"{name}.{one.pin}", one.why)
         for name, placed in words.items()
-        for one in untested(placed.macro, placed.word)
+        for one in untested(placed.macro, placed.word, f"{placed.macro.name}.v" not in texts)
     ]
     if left:
         tell(f"top: not tested: {told_pins(left)}")
@@ -223,7 +223,7 @@ def main(arguments: list[str]) -> int:
     folder = pathlib.Path(files.pop())
     soc.give_collars(system, files)
     give_clocks(system, options)
-    vendors = [named(file) for file in options.get("--model", [])]
+    vendors = files_of(options.get("--model", []))
     is_placed = "--in-place" in options
     texts = texts_in_place(system, folder, vendors) if is_placed else texts_of(system, path, folder, vendors)
     if "--plan" in options:
@@ -233,5 +233,5 @@ def main(arguments: list[str]) -> int:
     inputs += [name for part in system.parts for name in (part.unit.march, part.unit.memory_file)]
     refuse_twins(texts)
     write_own(folder, texts, inputs)
-    tell_untested(system)
+    tell_untested(system, texts)
     return 0

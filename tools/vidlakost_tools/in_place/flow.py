@@ -39,8 +39,8 @@ class PlaceFlow(Flow):
 
     def models(self, placed: Placed) -> list[str]:
         """The files that model the macro of a collar in a simulation, from the makefile on."""
-        given = {name: self.given(self.beside(file)) for file, names in self.vendors.items() for name in names}
-        return [name if "/" in name else f"chip/{name}" for name in models_beside(placed, given)]
+        files = models_beside(self.system, placed, self.vendors)
+        return [self.given(self.beside(file)) if file in self.vendors else f"chip/{file}" for file in files]
 
     def modules(self, placed: Placed) -> list[str]:
         """The sources of a module in its place."""
