@@ -69,6 +69,10 @@ FILES.update(
         "evil.lib": LIBRARY.replace("pin(sleep)", 'pin("x\nmacro evil")'),
         "cut.lib": LIBRARY[:200],
         "down.lib": LIBRARY.replace("clocked_on : CLK", 'clocked_on : "!CLK"').replace("falling_edge", "rising_edge"),
+        "bits.v": (
+            "`ifdef BITS\nmodule bits(input CK, CE, WE, A0, A1, D0, D1, output Q0, Q1);\n`else\nmodule bits;\n`endif\n"
+            "endmodule\n"
+        ),
         "header.v": (
             "// module ram8x4\nmodule ram8x4(input clk, csb, web, input [2:0] addr, input [3:0] din, output [3:0]"
             " dout); endmodule\n"
@@ -162,6 +166,19 @@ CALLS: List[Call] = [
     Call("tools/liberty --verilog latin.mem a header", status=2, says="liberty: latin.mem: there is no module a"),
     Call("tools/liberty few.lib RAM8X4 sure --pin 'CSB=~en' --pin 'WEB=~we'", prints="sure/", says="liberty: Q"),
     Call("tools/liberty few.lib RAM8X4 cells --pin CSB=no", status=2, says="liberty: --pin is PIN=KIND, with"),
+    Call("tools/liberty few.lib RAM8X4 cells --pin A=port", status=2, says="liberty: --pin is PIN=KIND, with"),
+    Call("tools/liberty few.lib RAM8X4 cells --pin 'A=port clk'", status=2, says="liberty: --pin 'A=port clk': the"),
+    Call("tools/liberty few.lib RAM8X4 cells --define X", status=2, says="liberty: --define needs --verilog"),
+    Call(
+        "tools/liberty --verilog bits.v bits bits --define BITS",
+        prints="bits/bits.pins",
+        says="liberty: 6 of 6 pins are guessed",
+    ),
+    Call(
+        "tools/liberty --verilog bits.v bits bits --define BITS --pin CK=clk --pin CE=clk",
+        status=2,
+        says="liberty: --pin CE=clk: CK is clk, too; that of the second port is 'port clk'",
+    ),
     Call("tools/liberty few.lib RAM8X4 cells --pin X=en", status=2, says="liberty: --pin 'X=en': there is no such pin"),
     Call("tools/liberty few.lib RAM8X4 cells --pin Q=en", status=2, says="liberty: --pin 'Q=en': Q is an output"),
     Call(

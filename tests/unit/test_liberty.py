@@ -7,6 +7,7 @@ from vidlakost_tools.collar import pin_names
 from vidlakost_tools.collar.liberty import Found, memory_cell
 from vidlakost_tools.collar.port_list import Ports, Sum
 from vidlakost_tools.collar.vendor import modules_in
+from vidlakost_tools.commands.liberty import ports_in
 from vidlakost_tools.tool import ToolError
 
 CELL = """library(l) { /* cell(ram) { } */
@@ -39,6 +40,17 @@ class Libraries(unittest.TestCase):
         self.assertEqual(lines[:6], [*told, "#? en ~csb  # by its name, active low"])
         self.assertEqual((lines[6], left), ("power vss 0", 2))
         self.assertTrue(all(line.startswith("# ") and "\n" not in line for line in lines[7:]))
+
+    def test_supplies(self) -> None:
+        """What a supply has is its kind's, or else its name's; where neither says it, both stand in a comment."""
+        told = {"pwell": "power vss 0", "nwell": "power vss 1", "internal_power": "power vss 1"}
+        for kind, line in {**told, "other": "#? power vss 0"}.items():
+            text = CELL.replace("primary_ground", kind)
+            lines = pin_names.pins("ram", memory_cell("l.lib", text, "ram")[2])[0]
+            self.assertEqual([one.split("  ")[0] for one in lines if "vss" in one], [line], kind)
+        text = CELL.replace("pg_pin(vss) { pg_type : primary_ground; }", "pg_pin(bias) { }")
+        lines = pin_names.pins("ram", memory_cell("l.lib", text, "ram")[2])[0]
+        self.assertIn("# bias, an inout of 1 bits: power bias 1, or power bias 0", lines)
 
     def test_a_bundle_is_no_pin(self) -> None:
         text = CELL.replace("pin(cen)", "bundle(we) { members(we0, we1); direction : input; } pin(cen)")
@@ -154,6 +166,16 @@ class Lists(unittest.TestCase):
         self.assertEqual(self.read(f"`define WIDE\n{text}"), [("a", "input", 8), ("v", "inout", 1)])
         self.assertEqual(self.read(f"`define WIDE\n`undef WIDE\n{text}"), [("a", "input", 4)])
 
+    def test_ports_of_supplies(self) -> None:
+        """What is there with supplies alone is one; by its name it has a number, or it is asked for."""
+        text = "module m(input a\n`ifdef USE_POWER_PINS\n, inout vccd1, input x\n`endif\n); endmodule"
+        found = ports_in("m.v", text, "m", [])
+        self.assertEqual([(pin.name, pin.is_supply) for pin in found], [("a", False), ("vccd1", True), ("x", True)])
+        lines = pin_names.pins("m", found)[0]
+        self.assertIn("#? power vccd1 1  # by its name", lines)
+        self.assertIn("# x, an input of 1 bits: power x 1, or power x 0", lines)
+        self.assertFalse(ports_in("m.v", text, "m", ["USE_POWER_PINS"])[1].is_supply)
+
     def test_what_is_not_known(self) -> None:
         self.assertEqual(
             self.read("module m(input [W:0] a, input [9999:0] b); endmodule"), [("a", "input", 0), ("b", "input", 0)]
@@ -215,10 +237,66 @@ class Usual(unittest.TestCase):
     def test_an_address_for_each_way(self) -> None:
         lines = self.lines("WADDR", "WDATA", "RADDR", "dout", "WCLK", "RCLK")
         self.assertEqual(lines[0].split("  #")[0], "#? waddr WADDR")
-        self.assertIn("#? clock2 RCLK", lines)
+        self.assertIn("#? clock2 RCLK  # by its name", lines)
 
     def test_names_that_mean_either(self) -> None:
         self.assertIn("en ~CEN where it is active low, or en CEN", self.lines("A", "CEN")[1])
+
+    def told(self, names: str, *given: str) -> list[str]:
+        """The lines of pins, each with its width behind a colon, without comments; outputs begin with Q."""
+        found = [Found(one.split(":")[0], "output" if one[0] == "Q" else "input") for one in names.split()]
+        for pin, one in zip(found, names.split()):
+            pin.width = int((one + ":1").split(":")[1])
+        confirmed = dict(one.split("=") for one in given)
+        lines = pin_names.pins("m", pin_names.joined(found, confirmed), confirmed)[0][1:]
+        return [line.split("  #")[0].replace("#? ", "") for line in lines]
+
+    def test_a_letter_is_a_port(self) -> None:
+        """B is active low, or the letter of a port where the same name has an A; where only others have one, either."""
+        self.assertEqual(self.told("CLK A:3 D:4 Q:4 CEB WEB")[4:], ["en ~CEB", "we ~WEB"])
+        two = "CLKA CLKB AA:3 AB:3 DA:4 DB:4 QA:4 QB:4"
+        lines = self.told(f"{two} CEA CEB WEA WEB WENA WENB")[8:]
+        self.assertEqual(lines[:4], ["en CEA", "port en CEB", "we WEA", "port we WEB"])
+        self.assertIn("port we ~WENB where it is active low, or port we WENB", lines[5])
+        self.assertEqual(self.told(f"{two} CE_A CE_B")[8:], ["en CE_A", "port en CE_B"])
+        asked = "we ~WEB if B means active low; port we ~WEB, or port we WEB if B is a port"
+        self.assertIn(asked, self.told(f"{two} CEA CEB WEB")[-1])
+        self.assertIn("port we WEB", self.told(f"{two} CEA CEB WEB", "WEB=port we"))
+
+    def test_what_is_told_is_never_dropped(self) -> None:
+        pins = "CK CE WE X:3 Y:3 DI:4 Q:4"
+        for kind, kinds in (("addr", "'port addr', or raddr and waddr"), ("clk", "'port clk'")):
+            why = f"--pin Y={kind}: X is {kind}, too; that of the second port is {kinds}"
+            with self.assertRaisesRegex(ToolError, why):
+                self.told(pins, f"X={kind}", f"Y={kind}")
+        self.assertIn("port addr Y 3", self.told(pins, "X=addr", "Y=port addr"))
+        self.assertLess({"waddr X 3", "raddr Y 3", "write WE"}, {*self.told(pins, "X=waddr", "Y=raddr")})
+        # what is told goes before what a name says, in whichever order they stand
+        lines = self.told("CK A:3 X:3 DI:4 Q:4", "X=addr")
+        self.assertIn("addr X 3", lines)
+        self.assertIn("# A, an input of 3 bits: tie A 3'h0, or pass A 3", lines)
+
+    def test_buses_bit_by_bit(self) -> None:
+        bits = " ".join(f"{front}{bit}" for front, count in (("A", 3), ("D", 8), ("Q", 8)) for bit in range(count))
+        told = ["clk CK", "pins A 0 2", "addr A 3", "pins D 0 7", "wdata D 8", "pins Q 0 7", "rdata Q 8"]
+        self.assertEqual(self.told(f"CK {bits}"), told)
+        self.assertEqual(self.told(f"CK {bits} BM1 BM2")[7:], ["pins BM 1 2", "mask BM 2"])
+        self.assertEqual(self.told("CLK0 CLK1 CLK2")[0], "clk CLK0")
+        # two numbers are two ports, unless addresses or longer buses come bit by bit
+        self.assertEqual(self.told("ADDR0:3 ADDR1:3 D0 D1 Q0 Q1")[2:4], ["wdata D0", "port wdata D1"])
+        two = " ".join(f"{front}_{bit}" for front in ("AA", "AB", "DA", "DB") for bit in (0, 1))
+        self.assertEqual(self.told(two)[-2:], ["pins DB_ 0 1", "port wdata DB_ 2"])
+
+    def test_numbers_of_no_bus(self) -> None:
+        for names in ("X0 X1 X2", "A0 A1 A3", "A00 A01 A02", "A A0 A1", "A0:2 A1:2 A2:2"):
+            self.assertFalse([line for line in self.told(f"CK {names}") if line.startswith("pins")], names)
+        self.assertIn("addr X 3", self.told("CK X0 X1 X2", "X=addr"))
+        self.assertIn("write A1", self.told("CK A0 A1 A2", "A1=we"))
+
+    def test_an_unknown_bus_is_asked_for(self) -> None:
+        line = self.told("A0 A1 WEN0 WEN1 WEN2 WEN3")[-1]
+        told = "# WEN0 to WEN3: pins WEN 0 3, and we ~WEN 4 where it is active low, or we WEN 4"
+        self.assertEqual(line, told)
 
 
 if __name__ == "__main__":

@@ -171,7 +171,11 @@ class Found:
     # whether it is taken at the falling edge, as no collar has it
     is_taken_falling: bool = False
     power: str = ""
+    # whether it is there only with the macro's supplies
+    is_supply: bool = False
     low: int | None = None
+    # the lowest and the highest number behind its name, where each of its bits is a pin
+    ends: tuple[int, int] | None = None
 
 
 def width_of(group: Group, types: dict[str, int]) -> int:
@@ -200,10 +204,16 @@ def types_in(path: str, *groups: Group) -> dict[str, int]:
     return {name: width for name, (width, _) in found.items()}
 
 
+def number_of_supply(kind: str) -> str:
+    """What a supply of this kind has; an empty text of a kind that is not known."""
+    found = re.search("(?P<low>ground|pwell)|power|nwell", kind)
+    return "" if found is None else "0" if found["low"] else "1"
+
+
 def pin_of(group: Group, types: dict[str, int]) -> Found:
     """A pin or a bus of a cell."""
     if group.kind == "pg_pin":
-        return Found(group.name, "inout", power="0" if "ground" in group.said.get("pg_type", "") else "1")
+        return Found(group.name, "inout", power=number_of_supply(group.said.get("pg_type", "")), is_supply=True)
     inner = [group, *group.of("pin")]
     # the pins of a bundle have names of their own, and none has the bundle's
     width = {"bus": width_of(group, types), "bundle": 0}.get(group.kind, 1)
