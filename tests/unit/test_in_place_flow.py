@@ -153,6 +153,14 @@ class InPlaceFlow(unittest.TestCase):
         for step in (step for made in steps.values() for step in made):
             self.assertEqual(len(re.findall(rf"^{re.escape(step)}: .*FORCE$", text, re.MULTILINE)), 1, step)
 
+    def test_models_of_vendors(self) -> None:
+        """Verilator takes an array that two blocks write where the model is a vendor's, and only there."""
+        flow = self.flow(None)
+        self.assertNotIn("MULTIDRIVEN", flow.text())
+        file = os.path.realpath("examples/six/march.m")
+        flow.vendors = {file: ["ram8x4r"]}
+        self.assertIn("build = verilator --binary -Wno-MULTIDRIVEN $(MORE) --top-module", flow.text())
+
     def test_known(self) -> None:
         """By the pins mode and stby of kept are tied, and clkb and clkc of left have another clock in test."""
         lines = self.flow(self.places).known().splitlines()[1:]

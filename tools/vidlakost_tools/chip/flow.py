@@ -23,6 +23,8 @@ MARK = "# made by vidlakost flow"
 PLAIN = re.compile(r"[A-Za-z0-9_./+@][A-Za-z0-9_./+@-]*")
 
 HEAD = template(__file__, "flow_head.mk")
+# what Verilator is told of vendors' models: both ports of a memory write the same array
+THEIRS = "-Wno-MULTIDRIVEN "
 # a report and the controller; that primitives escape is no failure of the step
 COMPILE = template(__file__, "flow_compile.mk")
 COLLAR = """
@@ -283,5 +285,6 @@ class Flow:
             kinds=" ".join(steps),
             targets="\n".join(f"{word}: {' '.join(made)}" for word, made in steps.items()),
             steps=" ".join(["chip/made", *(step for made in steps.values() for step in made)]),
+            theirs=THEIRS if self.vendors else "",
         )
         return "".join([head, *self.compiled(), *self.collared(), self.whole(), self.pages()])

@@ -43,7 +43,7 @@ FORCE:
 
 # in a folder with files.f: the testbench, sound and with what it plants; each passes where its last line says so, and only there
 ifeq ($(SIM),verilator)
-build = verilator --binary $(MORE) --top-module $(1) --Mdir built -f files.f >built.log && \
+build = verilator --binary @@{theirs}$(MORE) --top-module $(1) --Mdir built -f files.f >built.log && \
   sed 's/^.* : *//' built/V$(1)__ver.d | xargs -n 1 | grep -v verilator_bin >$(2).read
 run = built/V$(1)
 else
