@@ -15,7 +15,7 @@ from vidlakost_tools.collar.pins import bit_of
 from vidlakost_tools.collar.text import FOOT, HEAD, PLANTED
 from vidlakost_tools.collar.watch import GATES
 from vidlakost_tools.text import template
-from vidlakost_tools.verilog.bench_end import FINISH, over
+from vidlakost_tools.verilog.bench_end import FINISH, over, progress
 from vidlakost_tools.verilog.syntax import ranged
 
 BENCH = template(__file__, "bench_whole.sv")
@@ -70,14 +70,14 @@ def runs(system: System) -> list[str]:
         there = " || ".join(f'asked == "{name}"' for name in ["", *(part.name for part in fault.parts)])
         lines = [f"      take({number}, {there}, turn_taken);", "      if (turn_taken) begin"]
         lines += [f"        run({what}, 7'd{place}, 3'd0, {count}'h{where:x});" for place in fault.places]
-        lines += [f'        $display("{system.name}: {fault.what} at {fault.parts[0].name} is found");', "      end"]
+        lines += ["        " + progress(f"{system.name}: {fault.what} at {fault.parts[0].name} is found"), "      end"]
         found.append("\n".join(lines))
     numbers = max(collar_planted.count(placed.word.bits) for placed in system.collars)
     for number in range(1, numbers + 1):
         lines = [f'      take({len(found)}, asked == "", turn_taken);', "      if (turn_taken) begin"]
         lines.append(f"        run(1'b0, {width}'d0, 7'd0, 3'd{number}, {count}'d0);")
         told = f"of the words in which every two bits differ number {number} passes"
-        found.append("\n".join([*lines, f'        $display("{system.name}: {told}");', "      end"]))
+        found.append("\n".join([*lines, "        " + progress(f"{system.name}: {told}"), "      end"]))
     return found
 
 

@@ -9,7 +9,7 @@ from vidlakost_tools.collar.planted import count, inputs, some_of
 from vidlakost_tools.collar.text import FOOT, HEAD, PLANTED, has_other_lanes
 from vidlakost_tools.collar.watch import GATES, POWER
 from vidlakost_tools.text import template
-from vidlakost_tools.verilog.bench_end import FINISH, over
+from vidlakost_tools.verilog.bench_end import FINISH, over, progress
 from vidlakost_tools.verilog.syntax import ranged
 
 BENCH = template(__file__, "bench_whole.sv")
@@ -340,11 +340,11 @@ class Bench:
         lines = []
         for kind, places, what in self.kinds():
             lines += [f"      run(3'd{kind}, 7'd{place}, 3'd0, 1'b1);" for place in places]
-            lines.append(f'      $display("{self.word.name}: {what} is found");')
+            lines.append("      " + progress(f"{self.word.name}: {what} is found"))
         numbers = count(self.bits)
         if numbers:
             lines += [f"      run(3'd0, 7'd0, 3'd{number}, 1'b0);" for number in range(1, numbers + 1)]
-            lines.append(f'      $display("{self.word.name}: words in which every two bits differ pass");')
+            lines.append("      " + progress(f"{self.word.name}: words in which every two bits differ pass"))
         return "\n".join(lines)
 
     @property

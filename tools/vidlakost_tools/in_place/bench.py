@@ -7,6 +7,7 @@ from vidlakost_tools.collar.planted import INPUTS, some_of
 from vidlakost_tools.collar.watch import GATES
 from vidlakost_tools.in_place.text import CYCLE, InPlace, length_of
 from vidlakost_tools.text import template
+from vidlakost_tools.verilog.bench_end import progress
 from vidlakost_tools.verilog.syntax import ranged
 
 DUT = template(__file__, "bench_dut.sv")
@@ -67,5 +68,5 @@ class PlaceBench(Bench):
             word = sum((bit >> count & 1) << bit for bit in range(CYCLE))
             for begin, later in ((word, 0), ((1 << CYCLE) - 1 - word, 1)):
                 lines.append(f"  first_failure(7'd{places[count % len(places)]}, 32'h{begin:x}, {later});")
-        lines.append(f'  $display("{self.word.name}: the first failure is read");')
+        lines.append("  " + progress(f"{self.word.name}: the first failure is read"))
         return "\n".join([super().faults(), f"`ifndef {GATES}", *map(indented, map(indented, lines)), "`endif"])

@@ -13,7 +13,7 @@ from vidlakost_tools.in_place.place_list import Places
 from vidlakost_tools.in_place.places_text import BENCH, EACH, FIRST, SIGNALS, TAP, WATCHED
 from vidlakost_tools.in_place.sequencer import PlaceTarget, length
 from vidlakost_tools.in_place.text import CYCLE, InPlace, length_of
-from vidlakost_tools.verilog.bench_end import FINISH, over
+from vidlakost_tools.verilog.bench_end import FINISH, over, progress
 from vidlakost_tools.verilog.syntax import ranged
 
 
@@ -152,7 +152,7 @@ class ChipBench:
             some = sorted({0, bits // 2, bits - 1})
             lines += [f"        run({self.count}'d1 << {number}, 7'd{bit});" for bit in some]
             told = f"{self.system.name}: a wrong bit at {placed.name} is found, first in cycle %0d"
-            lines += [f'        $display("{told}", when_read);', "      end"]
+            lines += ["        " + progress(told, "when_read"), "      end"]
         return "\n".join(lines)
 
     def begins(self) -> str:

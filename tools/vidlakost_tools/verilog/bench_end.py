@@ -17,6 +17,11 @@ FINISH = "is_over = 1'b1;\n    $finish;"
 PLANTED = template(__file__, "bench_end_planted.sv")
 
 
+def progress(told: str, value: str = "") -> str:
+    """What says how far a run is. A simulator would keep the line back where a file or a pipe takes it."""
+    return f'$display("{told}"{value and ", "}{value}); $fflush;'
+
+
 def over(module: str) -> str:
     """The lines at the head of a testbench that end its run; `FINISH` is what it ends with."""
     return OVER.format(module=module)
