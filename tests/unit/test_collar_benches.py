@@ -43,10 +43,10 @@ def ports_of(memory: Memory) -> str:
 
 @needs("iverilog", "vvp")
 class Benches(unittest.TestCase):
-    def said(self, lines: list[str], *words: str, test: str = TEST) -> list[str]:
-        """The lines of a run of a collar's testbench."""
+    def said(self, lines: list[str], *words: str, test: str = TEST, theirs: list[str] | None = None) -> list[str]:
+        """The lines of a run of a collar's testbench, beside the model of other lines if these are given."""
         macro, word = read(lines)
-        texts = [Bench(macro, word).text(), collar(macro, word, "bist"), model(macro, word), test]
+        texts = [Bench(macro, word).text(), collar(macro, word, "bist"), model(*read(theirs or lines)), test]
         with tempfile.TemporaryDirectory() as name:
             folder = pathlib.Path(name)
             files = []
@@ -76,6 +76,18 @@ class Benches(unittest.TestCase):
         said = self.said([*PLAIN, *OTHER], "+planted")
         self.assertIn("four: a dead port is found", said)
         self.assertEqual(said[-1], "four_collar_tb: passed")
+
+    def test_macro_that_never_answers(self) -> None:
+        """The enable of the model has the other polarity: what may be wrong with the pins is told."""
+        more = ["tie t 1'b1", "pass s 2 1", "pass u 1", "power vdd 1"]
+        theirs = [line.replace("~ce", "ce") for line in PLAIN]
+        said = "\n".join(self.said([*PLAIN, *more], theirs=[*theirs, *more]))
+        told = "in no cycle from 1 to 7 behind them: look at the polarity of ce, wen; what stands at t, s; the supplies, "
+        told += "there with USE_POWER_PINS: vdd; inputs and supplies of the model that no line of the pins names"
+        self.assertIn(f"four: reads that follow one another bring their words to q {told}", said)
+        self.assertNotIn("four_collar_tb: passed", said)
+        said = "\n".join(self.said(PLAIN, theirs=theirs))
+        self.assertIn("look at the polarity of ce, wen; inputs and supplies of the model", said)
 
     def test_controller_that_finds_nothing(self) -> None:
         never = TEST.replace("assign fail = !reset && failed;", "assign fail = 1'b0;")
