@@ -8,6 +8,7 @@ from tests.integration.call import Call
 
 READ_AT = "tools/locate c.m s.mem 6"
 JOINED_PINS, PLACED_PINS = " ".join(PINS), " ".join(PLACED)
+OF_PLACES = f"tools/locate {CAMERA} {PLACED_PINS} --in-place"
 WHOLE = f"tools/locate {JOINS} {JOINED_PINS} --whole"
 CALLS: List[Call] = [
     Call(f"{READ_AT} 0 1", prints="bits 0\n"),
@@ -135,6 +136,17 @@ CALLS: List[Call] = [
         f"{WHOLE} --tdr 00105020000000058f",
         prints="cycle 88 expected 00 returned 02\nmemory high, cycle 7 of its test\n",
     ),
+    Call(f"{OF_PLACES} --tdr 7c0810000000000bf", prints="memory late_0, cycle 11 of its test\n"),
+    Call(f"{OF_PLACES} --tdr 6e43800000000007f", prints="memory high, cycle 7 of its test\n"),
+    Call(f"{OF_PLACES} --tdr 6e43800000000007f", prints="bits 4\ncolumns 4\n"),
+    Call(f"{OF_PLACES} --tdr 5e8480000000008cf", prints="behind its march: a lane, or a read by the second port\n"),
+    Call(f"{OF_PLACES} --tdr 00000000000000003", prints="no wrong read was seen\n"),
+    Call(f"{OF_PLACES} --tdr 6e43ff000000007f", status=2, says="locate: the register has 17 hexadecimal digits"),
+    Call(f"{OF_PLACES} --tdr 7c0810010000000bf", status=2, says="locate: the expected word is 01, but this march"),
+    Call(f"{OF_PLACES} --tdr 7c0800000000000bf", status=2, says="locate: 00 and 00 are no two words of 5 bits"),
+    Call(f"{OF_PLACES} --tdr 7c7f10000000000bf", status=2, says="locate: there is no unit 7: the units are 0 to 5"),
+    Call(f"{OF_PLACES} 88 000001", status=2, says="locate: --in-place needs --tdr, and takes only --sib and --mux"),
+    Call(f"{OF_PLACES} --whole --tdr 7c0810000000000bf", status=2, says="locate: --in-place needs --tdr, and takes"),
     Call(f"{WHOLE} --tdr 0105020000000058f", status=2, says="locate: the register has 18 hexadecimal digits"),
     Call("tools/access late.mem acc --log 65", status=2, says="access: --log is 1 to 64, and not 65"),
     Call("tools/access late.mem acc --log 0", status=2, says="access: --log is a number of at least 1"),

@@ -9,6 +9,7 @@ usage: vidlakost locate MARCH MEMORY CYCLE [EXPECTED RETURNED]
        vidlakost locate LIST|CHIPFILE PINS.. --whole CYCLE FAILBITS [EXPECTED RETURNED]
        vidlakost locate LIST|CHIPFILE PINS.. --whole --line LINE     from the line of a log, or of a testbench
        vidlakost locate LIST|CHIPFILE PINS.. --whole --tdr HEX [--sib]
+       vidlakost locate LIST|CHIPFILE PINS.. --in-place --tdr HEX [--sib]
        vidlakost locate --help
 
 CYCLE is the cycle in which the answer is on `rdata`. The cycle of the reset is 0, and `fail` is 1 from the cycle after
@@ -20,7 +21,8 @@ is due.
 
 HEX is what a scan of the register gave. With --sib the register was after segment insertion bits, which are above it
 in the scan. With --whole the cycles are those of the whole that `vidlakost top` joins, PINS end in .pins, and a bit of
-FAILBITS is a memory. With --chip the cycles are the chip's own, and FAILBITS are the bits of `fail`, that of unit 0
+FAILBITS is a memory. With --in-place the register is that of memories in their places, and the cycle one of the
+memory's own test. With --chip the cycles are the chip's own, and FAILBITS are the bits of `fail`, that of unit 0
 last. With `--mux M` a row of the array has M words: bit B of an index is in column B * M + index modulo M."""
 from __future__ import annotations
 
@@ -30,6 +32,7 @@ from typing import Any, Iterator
 from vidlakost_tools.access.log import OF_UNIT, entry_in
 from vidlakost_tools.chip import locate as system_locate, system as soc
 from vidlakost_tools.diagnosis import tester
+from vidlakost_tools.in_place import locate as place_locate
 from vidlakost_tools.text import shown
 from vidlakost_tools.texts.chip import read_chip
 from vidlakost_tools.texts.march import Element, march_of
@@ -126,6 +129,15 @@ def of_whole(words: list[str], options: dict[str, Any], mux: int) -> list[str]:
     return list(system_locate.in_system(system, answered(rest[0], options), parts[0], rest[2:], mux))
 
 
+def of_places(words: list[str], options: dict[str, Any], mux: int) -> list[str]:
+    """What is said of memories in their places."""
+    if "--tdr" not in options or set(options) - {"--in-place", "--tdr", "--sib"}:
+        raise ToolError(f"--in-place needs --tdr, and takes only --sib and --mux besides\n{usage_of(__doc__)}")
+    system = soc.read_system(words[0])
+    soc.give_collars(system, words[1:])
+    return place_locate.register(system, options["--tdr"], mux, "--sib" in options)
+
+
 def of_line(system: soc.System, rest: list[str], line: str, mux: int) -> list[str]:
     """What is said of a line of a log of a whole chip."""
     match, whose = entry_in(line), OF_UNIT.search(line)
@@ -145,14 +157,15 @@ def answered(text: str, options: dict[str, Any]) -> int:
 
 
 def main(arguments: list[str]) -> int:
-    allowed = {"--line": 1, "--elements": 0, "--chip": 0, "--tdr": 1, "--at": 1, "--mux": 1, "--whole": 0, "--sib": 0}
-    words, options = words_of(__doc__, arguments, allowed, 1, None)
+    allowed = {"--line": 1, "--elements": 0, "--chip": 0, "--tdr": 1, "--at": 1, "--mux": 1, "--sib": 0}
+    words, options = words_of(__doc__, arguments, {**allowed, "--whole": 0, "--in-place": 0}, 1, None)
     if "--sib" in options and "--tdr" not in options:
         raise ToolError(f"--sib needs --tdr\n{usage_of(__doc__)}")
     has_rows, mux = "--mux" in options, number_of(options.pop("--mux", "1"), "--mux", 1)
-    if "--whole" in options:
-        print("\n".join(of_whole(words, options, mux)))
-        return 0
+    for option, told in (("--in-place", of_places), ("--whole", of_whole)):
+        if option in options:
+            print("\n".join(told(words, options, mux)))
+            return 0
     if len(words) > 5:
         raise ToolError(f"too many words\n{usage_of(__doc__)}")
     if "--chip" in options:
