@@ -37,6 +37,7 @@ FILES.update(
         "right.log": "cycle 13 expected 0a returned 15\n",
         "two.log": "module a(input clk);\nendmodule\nmodule b(input clk);\nendmodule\n",
         "sized.report": SIZED,
+        "equal.list": "list 1\nname equal\nbudget 3\nunit 1 c.m s.mem instances 5 shared\n",
         "again.report": SIZED.replace("backgrounds 1 commands 8", "backgrounds 4 commands 32"),
         "slow.mem": "memory 2\nname s\nwords 4\nbits 1\nlatency 4\n",
         "placed.places": (

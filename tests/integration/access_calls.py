@@ -222,6 +222,12 @@ CALLS: List[Call] = [
         status=2,
         says="report: slow.mem: the call has another description of s",
     ),
+    Call(
+        "tools/report --all sized.report s.pins --csv --memory s.mem --of equal.list",
+        prints="memory,instances,words,bits,backgrounds,march,length,SF,total,commands,cycles,ms\ns,5,4,1,1,",
+    ),
+    Call("tools/report --all sized.report --csv --of two.chip", status=2, says="report: there is no report of t"),
+    Call("tools/report --all sized.report s.pins --csv", status=2, says="report: s.pins: PINS need --of"),
     Call("tools/report --all judged.report --csv", status=2, says="report: judged.report: this is a report of `judge`"),
     Call("tools/report --all judged.report", status=2, says="report: --all needs --csv or --html FILE"),
     Call("tools/report --tester pair.chip --html pair.html"),

@@ -10,6 +10,7 @@ import unittest
 import xml.dom.minidom
 from unittest import mock
 
+from vidlakost_tools.chip import system as soc
 from vidlakost_tools.pages import chip_picture, claims, cycles_picture, drawing, signoff
 from vidlakost_tools.texts import chip as chip_texts
 from vidlakost_tools.texts.chip import Chip, Unit
@@ -72,6 +73,29 @@ class SignOff(unittest.TestCase):
         without = signoff.sign_off(self.rows({"a": REPORT, "b": other}, SMALL), 100)
         self.assertIn("A memory has cycles here if the call has its description", without)
         self.assertIn(f"<td>{CYCLES}</td>", without)
+
+    def test_instances_of_a_list(self) -> None:
+        """Forty memories are tested forty times, and six of which each two share a controller three times."""
+        other = REPORT.replace("memory small", "memory other")
+        rows = self.rows({"a": REPORT, "b": other}, SMALL, SMALL.replace("name small", "name other"))
+        unit = Unit(1, "a.m", "a.mem", elements_of(MARCH), memory())
+        parts = [soc.Part(f"small_{at}", memory(), at, unit) for at in range(40)]
+        led = [soc.Part(f"other_{at}", memory(name="other"), at, unit) for at in range(6)]
+        for at in (1, 3, 5):
+            led[at].leader = led[at - 1]
+        with mock.patch.object(soc, "read_system", return_value=soc.System("x", 5, [*parts, *led])):
+            signoff.counted(rows, "x.list", [])
+        page = signoff.sign_off(rows, 100)
+        self.assertIn("<title>Self-test of 46 memories</title>", page)
+        self.assertIn(f"One after another {43 * CYCLES} cycles", page)
+        self.assertIn(f"all at once {CYCLES} cycles", page)
+        self.assertIn("<th>memory</th><th>instances</th><th>words</th>", page)
+        self.assertIn("<td>other</td><td>6</td>", page)
+        with mock.patch.object(soc, "read_system", return_value=soc.System("x", 5, parts)):
+            with self.assertRaisesRegex(ToolError, "^x.list has no memory other$"):
+                signoff.counted(rows, "x.list", [])
+            with self.assertRaisesRegex(ToolError, "^there is no report of small$"):
+                signoff.counted([], "x.list", [])
 
     def test_what_does_not_belong_together(self) -> None:
         of_judge = re.sub("memory .*\n", "", REPORT)

@@ -41,7 +41,7 @@ ACCESS = beside(__file__, "flow_access.mk")
 PAGES = """
 reports.html: {reports} FORCE
 	@$(call kept,$@,{files} $@) || {{ $(call again,$@); \\
-	  (cd $(ROOT) && $(LAUNCHER) report --all {all} --html $(OUT)/$@{memories}) && $(call done,$@,{files} $@); }}
+	  (cd $(ROOT) && $(LAUNCHER) report --all {all} --html $(OUT)/$@{memories}{whole}) && $(call done,$@,{files} $@); }}
 """
 TESTER = """
 {page}: {needs}FORCE
@@ -241,9 +241,11 @@ class Flow:
     def pages(self) -> str:
         reports, memories = self.reports(), [part.unit.memory_file for part in self.bases()]
         every = " ".join(f"$(OUT)/{report}" for report in reports)
-        files = " ".join([*reports, *map(self.given, memories)])
+        of_list = [self.chip_file, *self.pins] if self.system.is_list else []
+        files = " ".join([*reports, *map(self.given, [*memories, *of_list])])
         options = "".join(f" --memory {file}" for file in memories)
-        text = PAGES.format(reports=" ".join(reports), all=every, memories=options, files=files)
+        whole = f" --of {' '.join(of_list)}" if of_list else ""
+        text = PAGES.format(reports=" ".join(reports), all=every, memories=options, whole=whole, files=files)
         for page, chip in self.chips():
             read = [*self.inputs(), *([f"chip/{pathlib.PurePath(chip).name}"] if self.system.is_list else [])]
             needs = "chip/made " if self.system.is_list else ""

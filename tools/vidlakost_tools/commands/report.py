@@ -5,11 +5,12 @@ usage: vidlakost report REPORT --json             one object on standard output
        vidlakost report REPORT --inword INWORD --json | --html FILE       also the verdicts inside a word
        vidlakost report --all REPORT.. --csv [--memory MEMORY ..] [--mhz F]          a row for each memory, for sign-off
        vidlakost report --all REPORT.. --html FILE [--memory MEMORY ..] [--mhz F]    the same as a page
+                        [--of LIST|CHIPFILE [PINS..]]                                of a chip: sums count each instance
        vidlakost report --tester MARCH MEMORY | CHIPFILE --html FILE [--mhz F]       what a tester has to know
        vidlakost report --help
 
 For reports of `compile`, each --memory adds the cycles and milliseconds of the memory of that name, at F MHz (100 by
-default).
+default). PINS end in .pins; of those that share a controller with --of, one test counts.
 
 The object:
     schema      vidlakost-report-1
@@ -200,9 +201,14 @@ def all_reports(words: list[str], options: dict[str, Any]) -> int:
     """The table over many reports."""
     if ("--csv" in options) == ("--html" in options) or "--json" in options:
         raise ToolError(f"--all needs --csv or --html FILE\n{usage_of(__doc__)}")
-    memories = options.get("--memory", [])
-    refuse_inputs(options.get("--html"), [("what is read", name) for name in (*words, *memories)])
-    rows, mhz = signoff.rows_of(words, memories), megahertz(options)
+    memories, pins = options.get("--memory", []), [word for word in words if word.endswith(".pins")]
+    whole = [options["--of"]] if "--of" in options else []
+    if pins and not whole:
+        raise ToolError(f"{pins[0]}: PINS need --of\n{usage_of(__doc__)}")
+    refuse_inputs(options.get("--html"), [("what is read", name) for name in (*words, *memories, *whole)])
+    rows, mhz = signoff.rows_of([word for word in words if word not in pins], memories), megahertz(options)
+    for path in whole:
+        signoff.counted(rows, path, pins)
     if "--csv" in options:
         print(signoff.as_csv(rows, mhz), end="")
     else:
@@ -230,6 +236,7 @@ def main(arguments: list[str]) -> int:
         "--mhz": 1,
         "--tester": 0,
         "--inword": 1,
+        "--of": 1,
     }
     words, options = words_of(__doc__, arguments, allowed, 1)
     if "--all" in options or "--tester" in options:

@@ -1,6 +1,7 @@
 """Pages over many reports: a table for sign-off, and a page on a test for the tester."""
 from __future__ import annotations
 
+import collections
 import csv
 import dataclasses
 import html
@@ -34,10 +35,13 @@ STYLE = (
 
 @dataclasses.dataclass
 class Row:
-    """A memory and its report, with the cycles if the call has its description."""
+    """A memory and its report, with the cycles if the call has its description; how many instances of it a chip has,
+    and how many controllers test these."""
 
     report: Report
     memory: Memory | None
+    instances: int = 1
+    tests: int = 1
 
     @property
     def cycles(self) -> int | None:
@@ -47,6 +51,24 @@ class Row:
 def told_of(memory: Memory, report: Report) -> tuple[int, int, int, int]:
     """What the report of a memory says about it: words, bits, backgrounds and commands."""
     return memory.words, memory.bits, len(memory.backgrounds), number_of_commands(memory, report.elements)
+
+
+def counted(rows: list[Row], path: str, pins: list[str]) -> None:
+    """Gives each row the number of its instances in a chip file or a list."""
+    from vidlakost_tools.chip import system as soc
+
+    system = soc.read_system(path)
+    if pins:
+        soc.give_collars(system, pins)
+    instances = collections.Counter(part.memory.name for part in system.parts)
+    tests = collections.Counter(part.memory.name for part in system.parts if part.leader is None)
+    named = {str(row.report.memory["name"]): row for row in rows if row.report.memory}
+    odd = sorted(set(named) ^ set(instances))
+    if odd:
+        told = f"{path} has no memory" if odd[0] in named else "there is no report of"
+        raise ToolError(f"{told} {odd[0]}")
+    for name, row in named.items():
+        row.instances, row.tests = instances[name], tests[name]
 
 
 def rows_of(reports: list[str], memories: list[str]) -> list[Row]:
@@ -80,7 +102,8 @@ def columns(rows: list[Row]) -> list[str]:
     kinds: dict[str, None] = {}
     for row in rows:
         kinds.update(dict.fromkeys(row.report.classes))
-    return ["memory", "words", "bits", "backgrounds", "march", "length", *kinds, "total", "commands", "cycles", "ms"]
+    memory = ["memory", *(["instances"] if any(row.instances > 1 for row in rows) else [])]
+    return [*memory, "words", "bits", "backgrounds", "march", "length", *kinds, "total", "commands", "cycles", "ms"]
 
 
 def cells_of(row: Row, heads: list[str], mhz: float) -> list[str]:
@@ -88,7 +111,7 @@ def cells_of(row: Row, heads: list[str], mhz: float) -> list[str]:
     shape, (count, covered, _) = row.report.memory or {}, row.report.total
     told = {key: str(shape[key]) for key in ("words", "bits", "backgrounds", "commands")}
     told.update({kind: f"{good}/{of}" for kind, (of, good) in row.report.classes.items()})
-    told.update(memory=str(shape["name"]), march=row.report.march)
+    told.update(memory=str(shape["name"]), instances=str(row.instances), march=row.report.march)
     told.update(length=length_of(row.report.elements), total=f"{covered}/{count}")
     if row.cycles is not None:
         told.update(cycles=str(row.cycles), ms=f"{row.cycles / mhz / 1000:.3f}")
@@ -121,15 +144,15 @@ def sign_off(rows: list[Row], mhz: float) -> str:
     heads = columns(rows)
     body = [table(heads, [cells_of(row, heads, mhz) for row in rows])]
     if all(row.cycles is not None for row in rows):
-        cycles = [row.cycles or 0 for row in rows]
+        whole = sum(row.tests * (row.cycles or 0) for row in rows)
         body.append(
-            f"<p>One after another {sum(cycles):,} cycles, {sum(cycles) / mhz / 1000:.3f} ms at {mhz:g} MHz; "
-            f"all at once {max(cycles):,} cycles.</p>"
+            f"<p>One after another {whole:,} cycles, {whole / mhz / 1000:.3f} ms at {mhz:g} MHz; "
+            f"all at once {max(row.cycles or 0 for row in rows):,} cycles.</p>"
         )
     else:
         why = "which has its latency and its pauses"
         body.append(f"<p>A memory has cycles here if the call has its description, {why}.</p>")
-    return document(f"Self-test of {len(rows)} memories", [*body, f"<p>{FOOT}</p>"])
+    return document(f"Self-test of {sum(row.instances for row in rows)} memories", [*body, f"<p>{FOOT}</p>"])
 
 
 # ---- the page for a tester
