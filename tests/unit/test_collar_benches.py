@@ -82,8 +82,8 @@ class Benches(unittest.TestCase):
         more = ["tie t 1'b1", "pass s 2 1", "pass u 1", "power vdd 1"]
         theirs = [line.replace("~ce", "ce") for line in PLAIN]
         said = "\n".join(self.said([*PLAIN, *more], theirs=[*theirs, *more]))
-        told = "in no cycle from 1 to 7 behind them: look at the polarity of ce, wen; what stands at t, s; the supplies,"
-        told += " there with USE_POWER_PINS: vdd; inputs and supplies of the model that no line of the pins names"
+        told = "in no cycle from 1 to 7 behind them: look at the polarity of ce, wen; what stands at t, s; the supplies"
+        told += ", there with USE_POWER_PINS: vdd; inputs and supplies of the model that no line of the pins names"
         self.assertIn(f"four: reads that follow one another bring their words to q {told}", said)
         self.assertNotIn("four_collar_tb: passed", said)
         said = "\n".join(self.said(PLAIN, theirs=theirs))
