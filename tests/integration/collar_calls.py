@@ -70,8 +70,8 @@ FILES.update(
         "cut.lib": LIBRARY[:200],
         "down.lib": LIBRARY.replace("clocked_on : CLK", 'clocked_on : "!CLK"').replace("falling_edge", "rising_edge"),
         "bits.v": (
-            "`ifdef BITS\nmodule bits(input CK, CE, WE, A0, A1, D0, D1, output Q0, Q1);\n`else\nmodule bits;\n`endif\n"
-            "endmodule\n"
+            "`ifdef BITS\nmodule bits(input CK, CE, WE, A0, A1, D0, D1, output Q0, Q1); endmodule\n"
+            "`elsif NONE\nmodule bits; endmodule\n`endif\n"
         ),
         "header.v": (
             "// module ram8x4\nmodule ram8x4(input clk, csb, web, input [2:0] addr, input [3:0] din, output [3:0]"
@@ -169,6 +169,7 @@ CALLS: List[Call] = [
     Call("tools/liberty few.lib RAM8X4 cells --pin A=port", status=2, says="liberty: --pin is PIN=KIND, with"),
     Call("tools/liberty few.lib RAM8X4 cells --pin 'A=port clk'", status=2, says="liberty: --pin 'A=port clk': the"),
     Call("tools/liberty few.lib RAM8X4 cells --define X", status=2, says="liberty: --define needs --verilog"),
+    Call("tools/liberty --verilog bits.v bits bits", status=2, says="liberty: bits.v: a define brings the module bits"),
     Call(
         "tools/liberty --verilog bits.v bits bits --define BITS",
         prints="bits/bits.pins",

@@ -85,7 +85,7 @@ class Widths(unittest.TestCase):
             pins.write_text(PINS)
             macro = read_macro(str(pins), Word([parse_memory(MEMORY.format(words=8, bits=4))]))
             refuse_other_ports(macro, str(file))
-            told = f"the ports of ram are not compared with {pins}: a define decides what {file} has"
+            told = f"the ports of ram are not compared with {pins}: a define brings them into {file}"
             self.assertEqual(undriven(macro, str(file)), [told])
 
 

@@ -93,19 +93,19 @@ def number_of(value: str) -> int | None:
     return found[1] if found else int(value) if re.fullmatch("[0-9]{1,9}", value) else None
 
 
-def ports_of(macro: Macro, file: str) -> list[Found]:
-    """The ports of a model, with the parameters that the pins give it; none where a define decides whether the module
-    is there."""
+def ports_of(macro: Macro, file: str) -> list[Found] | None:
+    """The ports of a model, with the parameters that the pins give it; None if the module is there only with a
+    define."""
     given = {name: number for name, value in macro.parameters for number in [number_of(value)] if number is not None}
     text = read_described(file, SOURCE_BYTES)
-    return Ports(file, text, macro.name, given).ports() if macro.name in modules_in(taken(file, text)) else []
+    return Ports(file, text, macro.name, given).ports() if macro.name in modules_in(taken(file, text)) else None
 
 
 def undriven(macro: Macro, file: str) -> list[str]:
     """What there is to say of inputs of a model that no line of the pins names, as the enable that somebody forgot."""
     ports = ports_of(macro, file)
-    if not ports:
-        return [f"the ports of {macro.name} are not compared with {macro.path}: a define decides what {file} has"]
+    if ports is None:
+        return [f"the ports of {macro.name} are not compared with {macro.path}: a define brings them into {file}"]
     named_pins = {name for pin in macro.pins for name, _ in widths_of(pin)}
     names = [port.name for port in ports if port.way == "input" and port.name not in named_pins]
     return [f"nothing drives {', '.join(names)} of {macro.name}, which no line of {macro.path} names"] if names else []
@@ -114,7 +114,7 @@ def undriven(macro: Macro, file: str) -> list[str]:
 def refuse_other_ports(macro: Macro, file: str) -> None:
     """Refuses a model in which a pin is a port of another width or another direction. A width that no number tells is
     looked at by the collar itself, in its testbench."""
-    ports = {port.name: port for port in ports_of(macro, file)}
+    ports = {port.name: port for port in ports_of(macro, file) or []}
     for pin in macro.pins:
         for name, width in widths_of(pin):
             port = ports.get(name)

@@ -28,10 +28,12 @@ from vidlakost_tools.collar import pin_names
 from vidlakost_tools.collar.liberty import Found, memory_cell
 from vidlakost_tools.collar.pin_lines import is_name
 from vidlakost_tools.collar.port_list import Ports
+from vidlakost_tools.collar.vendor import modules_in
 from vidlakost_tools.collar.watch import POWER
 from vidlakost_tools.files import write_own
 from vidlakost_tools.text import SOURCE_BYTES, read_described, shown
 from vidlakost_tools.tool import ToolError, tell, usage_of, words_of
+from vidlakost_tools.verilog.conditions import taken
 from vidlakost_tools.verilog.reserved_words import RESERVED
 
 WIDEST_WORD = 64
@@ -136,6 +138,8 @@ def tell_left(found: list[Found], lines: list[str], left: int) -> None:
 
 def ports_in(path: str, text: str, module: str, defined: list[str]) -> list[Found]:
     """The ports of a model; what is there only with its supplies is one of these."""
+    if module in modules_in(text) and module not in modules_in(taken(path, text, defined)):
+        raise ToolError(f"{path}: a define brings the module {module}: name it with --define")
     found = Ports(path, text, module, None, defined).ports()
     names = {pin.name for pin in found}
     more = Ports(path, text, module, None, [*defined, POWER]).ports()
