@@ -91,6 +91,7 @@ class Lines(unittest.TestCase):
     def test_what_is_twice(self) -> None:
         once = ":8: 'addr' may stand in one line only, and line 5 has it; a macro"
         self.assertIn(once, self.refusal([*PINS, "addr b"]))
+        self.assertIn("an address in two pins, as a bank and a word", self.refusal([*PINS, "addr b"]))
         self.assertIn(":8: two lines name the pin 'a': line 5 has it", self.refusal([*PINS, "open a"]))
         self.assertIn(":8: 'raddr' replaces 'addr'", self.refusal([*PINS, "raddr r", "waddr w"]))
 

@@ -30,6 +30,10 @@ FORMS = {
 }
 # of the other port of a macro
 OF_PORT = ("clk", "en", "we", "read", "write", "addr", "wdata", "rdata", "mask")
+TWO_ADDRESSES = (
+    "; a macro with an address for reads and one for writes has raddr and waddr, and one with an address in two pins, "
+    "as a bank and a word, needs a module round it that joins them"
+)
 ONCE = ("macro", "clk", "rdata", "wdata", *ADDRESSES, "masks", "bypass", "low", "high")
 
 
@@ -88,8 +92,7 @@ class Lines:
             raise self.macro.refuse(line, f"a line of the other port begins with one of {', '.join(OF_PORT)}")
         told = f"{'port ' if second else ''}{kind}"
         if (kind in ONCE or kind == "registers") and self.once(told, rest) in self.seen:
-            both = "; a macro with an address for reads and one for writes has raddr and waddr"
-            more = both if kind == "addr" else ""
+            more = TWO_ADDRESSES if kind == "addr" else ""
             raise self.macro.refuse(
                 line, f"'{told}' may stand in one line only, and line {self.seen[self.once(told, rest)]} has it{more}"
             )
