@@ -39,7 +39,7 @@ def models(text: str) -> dict[str, str]:
         if define:
             value = re.sub(r"\s*//.*", "", define[3])
             macros[define[1]] = (define[2] or "", "" if value.startswith("initial") else value)
-        elif not line.strip().startswith(("`timescale", "//", "(*")):
+        elif line and not line.strip().startswith(("`timescale", "//", "(*")):
             lines.append(line)
 
     def written(match: re.Match[str]) -> str:
