@@ -9,7 +9,7 @@ import unittest
 
 from tests.unit.controllers import needs
 from vidlakost_tools.tool import ToolError
-from vidlakost_tools.verilog.conditions import taken
+from vidlakost_tools.verilog.conditions import asked_in, taken
 
 NAMES = ("A", "B", "C")
 
@@ -64,6 +64,10 @@ class Conditions(unittest.TestCase):
             with self.assertRaises(ToolError) as refused:
                 taken("a.v", text)
             self.assertEqual(str(refused.exception), told)
+
+    def test_names_that_are_asked_for(self) -> None:
+        text = "`ifdef P `ifndef Q // `ifdef R\n`elsif S `endif `else `define T `ifdef U\n`endif `ifdef P `endif"
+        self.assertEqual(asked_in(text), ["P", "Q", "S"])
 
     def test_long_texts_are_read_once(self) -> None:
         for text in ("/* x ", '" ', "`define A \\\n", "`ifdef A ", "`ifdef A\n`else\n`endif\n"):

@@ -73,20 +73,27 @@ class Widths(unittest.TestCase):
         self.assertIn("d has 2 bits", self.refusal(head, pins=PINS.replace("parameter TWICE 8\n", "")))
 
     def test_a_branch_that_is_not_taken(self) -> None:
-        """A model of both sizes is that of the branch that is taken."""
+        """A model of both sizes is that of the branch that is taken, with one define or with none."""
         wide, right = HEADS["ansi"].format(a=9, d=9, q=9), HEADS["ansi"].format(a=3, d=4, q=4)
-        self.assertEqual(self.refusal(f"`ifdef WIDE\n{wide}\n`else\n{right}\n`endif"), "")
-        self.assertIn("a has 9 bits", self.refusal(f"`ifndef WIDE\n{wide}\n`else\n{right}\n`endif"))
+        for head in ("`ifdef WIDE", "`ifdef OTHER", "`ifndef WIDE"):
+            self.assertEqual(self.refusal(f"{head}\n{wide}\n`else\n{right}\n`endif"), "", head)
+        twice = f"`ifndef P `ifdef Q\n{wide}\n`else\n{wide.replace('8', '7')}\n`endif\n`else\n{wide}\n`endif"
+        self.assertIn("a has 9 bits", self.refusal(twice))
 
-    def test_a_module_that_a_define_brings(self) -> None:
-        with tempfile.TemporaryDirectory() as name:
-            file, pins = pathlib.Path(name) / "ram.v", pathlib.Path(name) / "ram.pins"
-            file.write_text(f"`ifdef WIDE\n{HEADS['ansi'].format(a=9, d=9, q=9)} endmodule\n`endif\n")
-            pins.write_text(PINS)
-            macro = read_macro(str(pins), Word([parse_memory(MEMORY.format(words=8, bits=4))]))
-            refuse_other_ports(macro, str(file))
-            told = f"the ports of ram are not compared with {pins}: a define brings them into {file}"
-            self.assertEqual(undriven(macro, str(file)), [told])
+    def test_what_a_define_brings(self) -> None:
+        right, file = HEADS["ansi"].format(a=3, d=4, q=4), "ram.v"
+        for text, told in (
+            (f"`ifdef WIDE\n{right} endmodule\n`endif\n", "has the ports of ram.pins where WIDE is defined: tell"),
+            (f"`ifdef P\n`ifdef Q\n{right} endmodule\n`endif\n`endif\n", "several defines bring them into ram.v"),
+            (right.replace("input [1:0] t,", "input [1:0] t, input x,") + " endmodule", "nothing drives x of ram"),
+        ):
+            with tempfile.TemporaryDirectory() as name, self.subTest(told=told):
+                (pathlib.Path(name) / file).write_text(text)
+                (pathlib.Path(name) / "ram.pins").write_text(PINS)
+                word = Word([parse_memory(MEMORY.format(words=8, bits=4))])
+                macro = read_macro(f"{name}/ram.pins", word)
+                refuse_other_ports(macro, f"{name}/{file}")
+                self.assertIn(told, undriven(macro, f"{name}/{file}")[0].replace(f"{name}/", ""))
 
 
 class Files(unittest.TestCase):

@@ -12,7 +12,7 @@ from vidlakost_tools.collar.pins import Macro, literal, widths_of
 from vidlakost_tools.collar.port_list import Ports
 from vidlakost_tools.text import SOURCE_BYTES, read_described, shown
 from vidlakost_tools.tool import ToolError
-from vidlakost_tools.verilog.conditions import taken
+from vidlakost_tools.verilog.conditions import asked_in, taken
 from vidlakost_tools.verilog.syntax import COMMENT
 
 # what may stand between the words of a text; a name with a backslash ends at a blank
@@ -84,6 +84,8 @@ def files_beside(macro: str, vendors: Mapping[str, list[str]], macros: Collectio
 
 # ---- the ports of a model
 
+# how many of the names that a model asks for are tried
+MOST_NAMES = 32
 WAYS = {"rdata": "output", "out": "output", "open": "output", "power": "inout"}
 
 
@@ -93,36 +95,57 @@ def number_of(value: str) -> int | None:
     return found[1] if found else int(value) if re.fullmatch("[0-9]{1,9}", value) else None
 
 
-def ports_of(macro: Macro, file: str) -> list[Found] | None:
-    """The ports of a model, with the parameters that the pins give it; None if the module is there only with a
-    define."""
+def ports_of(macro: Macro, file: str, defined: Collection[str]) -> list[Found] | None:
+    """The ports of a model where these names are defined, with the parameters that the pins give it; None if the module
+    is not there."""
     given = {name: number for name, value in macro.parameters for number in [number_of(value)] if number is not None}
     text = read_described(file, SOURCE_BYTES)
-    return Ports(file, text, macro.name, given).ports() if macro.name in modules_in(taken(file, text)) else None
+    is_there = macro.name in modules_in(taken(file, text, defined))
+    return Ports(file, text, macro.name, given, defined).ports() if is_there else None
 
 
-def undriven(macro: Macro, file: str) -> list[str]:
-    """What there is to say of inputs of a model that no line of the pins names, as the enable that somebody forgot."""
-    ports = ports_of(macro, file)
-    if ports is None:
-        return [f"the ports of {macro.name} are not compared with {macro.path}: a define brings them into {file}"]
-    named_pins = {name for pin in macro.pins for name, _ in widths_of(pin)}
-    names = [port.name for port in ports if port.way == "input" and port.name not in named_pins]
-    return [f"nothing drives {', '.join(names)} of {macro.name}, which no line of {macro.path} names"] if names else []
+def unlike(macro: Macro, file: str, found: list[Found]) -> ToolError | None:
+    """What there is to refuse where a pin is a port of another width or another direction. A width that no number tells
+    is looked at by the collar itself, in its testbench."""
+    ports = {port.name: port for port in found}
+    for pin, name, width in ((pin, *named) for pin in macro.pins for named in widths_of(pin)):
+        port, way = ports.get(name), WAYS.get(pin.kind, "input")
+        if port and width and port.width and port.width != width:
+            told = f"{name} has {port.width} bits in {file}, and {width} by the pins and the description"
+            return macro.refuse(pin.line, told)
+        if port and port.way != way and "inout" not in (port.way, way):
+            return macro.refuse(pin.line, f"{name} is an {port.way} in {file}, and an {way} by this line")
+    return None
+
+
+def fitting(macro: Macro, file: str) -> tuple[str, list[Found] | None]:
+    """The ports of a model that the pins fit, and the name that has to be defined for it, if one has; no ports if the
+    module needs several names. Refuses a model whose ports no name makes those of the pins."""
+    refused: ToolError | None = None
+    for name in ("", *asked_in(read_described(file, SOURCE_BYTES))[:MOST_NAMES]):
+        found = ports_of(macro, file, [name])
+        wrong = unlike(macro, file, found) if found is not None else None
+        if found is not None and wrong is None:
+            return name, found
+        refused = refused or wrong
+    if refused:
+        raise refused
+    return "", None
 
 
 def refuse_other_ports(macro: Macro, file: str) -> None:
-    """Refuses a model in which a pin is a port of another width or another direction. A width that no number tells is
-    looked at by the collar itself, in its testbench."""
-    ports = {port.name: port for port in ports_of(macro, file) or []}
-    for pin in macro.pins:
-        for name, width in widths_of(pin):
-            port = ports.get(name)
-            if port is None:
-                continue
-            if width and port.width and port.width != width:
-                told = f"{name} has {port.width} bits in {file}, and {width} by the pins and the description"
-                raise macro.refuse(pin.line, told)
-            way = WAYS.get(pin.kind, "input")
-            if port.way != way and "inout" not in (port.way, way):
-                raise macro.refuse(pin.line, f"{name} is an {port.way} in {file}, and an {way} by this line")
+    """Refuses a model in which a pin is a port of another width or another direction."""
+    fitting(macro, file)
+
+
+def undriven(macro: Macro, file: str) -> list[str]:
+    """What there is to say of a model: the name to define, and inputs that no line of the pins names, as the enable
+    that somebody forgot."""
+    define, ports = fitting(macro, file)
+    if ports is None:
+        return [f"the ports of {macro.name} are not compared with {macro.path}: several defines bring them into {file}"]
+    told = [f"{file} has the ports of {macro.path} where {define} is defined: tell the simulator"] if define else []
+    named_pins = {name for pin in macro.pins for name, _ in widths_of(pin)}
+    names = [port.name for port in ports if port.way == "input" and port.name not in named_pins]
+    more = f"nothing drives {', '.join(names)} of {macro.name}, which no line of {macro.path} names"
+    return [*told, *([more] if names else [])]

@@ -83,3 +83,10 @@ class Conditions:
 def taken(path: str, text: str, defined: Iterable[str] = ()) -> str:
     """What is left of a text where these names are defined before it."""
     return Conditions(path, text, defined).taken()
+
+
+def asked_in(text: str) -> list[str]:
+    """The names that the conditions of a text ask for."""
+    kinds = ("ifdef", "ifndef", "elsif")
+    asked = (NAME.match(text, match.end("kind")) for match in PART.finditer(text) if match["kind"] in kinds)
+    return list(dict.fromkeys(match[1] for match in asked if match))
