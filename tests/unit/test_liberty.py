@@ -276,6 +276,16 @@ class Usual(unittest.TestCase):
         self.assertIn("addr X 3", lines)
         self.assertIn("# A, an input of 3 bits: tie A 3'h0, or pass A 3", lines)
 
+    def test_a_width_that_is_not_known(self) -> None:
+        """What the call says of such a pin is written, and the description gives its width."""
+        self.assertIn("# A, an input of ? bits: tie A WIDTH'h0, or pass A WIDTH", self.told("CK A:0 D:4 Q:4"))
+        self.assertIn("addr A", self.told("CK A:0 D:4 Q:4", "A=addr"))
+        self.assertIn("# BM, an input of ? bits: tie BM WIDTH'h0, or pass BM WIDTH", self.told("CK BM:0", "BM=mask"))
+
+    def test_a_supply_beside_three_ports(self) -> None:
+        lines = self.told("CLKA CLKB AA:3 AB:3 DA:4 QA:4 QB:4 DATA:4 VDD XE", "XE=port en")
+        self.assertLess({"power VDD 1", "port en XE"}, {*lines})
+
     def test_buses_bit_by_bit(self) -> None:
         bits = " ".join(f"{front}{bit}" for front, count in (("A", 3), ("D", 8), ("Q", 8)) for bit in range(count))
         told = ["clk CK", "pins A 0 2", "addr A 3", "pins D 0 7", "wdata D 8", "pins Q 0 7", "rdata Q 8"]

@@ -269,9 +269,11 @@ def named_by_addresses(guesses: list[Guess]) -> None:
             one.port = mine if shared else clocks.get(one.pin.clock, mine)
 
 
-def is_odd(pin: Found) -> bool:
-    """Whether no line can have a pin."""
-    return not is_name(pin.name) or pin.name in RESERVED or not 0 < pin.width <= WIDEST
+def is_odd(one: Guess) -> bool:
+    """Whether no line can have a pin. Where the call says what it is, the description may give its width."""
+    is_described = one.is_told and not one.pin.width and one.kind in ("addr", "wdata", "rdata")
+    has_width = 0 < one.pin.width <= WIDEST or is_described
+    return not is_name(one.pin.name) or one.pin.name in RESERVED or not has_width
 
 
 def refuse_second(one: Guess, guesses: list[Guess]) -> None:
@@ -295,10 +297,11 @@ def pins(macro: str, found: list[Found], confirmed: Mapping[str, str] | None = N
         key = (one.kind, second)
         once = one.kind in ("clk", "wdata", "rdata") or one.kind == "addr" and not split
         common = split and one.kind == "clk" and (key in seen or one.port == ports[1])
-        is_left = once and not common and key in (seen if one.is_told else seen | told) or one.port in ports[2:]
+        is_left = once and not common and key in (seen if one.is_told else seen | told)
+        is_left = is_left or one.port in ports[2:] and not one.is_second and one.kind != "power"
         if one.is_told and is_left:
             refuse_second(one, made)
-        if is_left or not one.kind or is_odd(one.pin):
+        if is_left or not one.kind or is_odd(one):
             left.append(open_line(one, second))
             continue
         if not common:
