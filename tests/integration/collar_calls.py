@@ -69,6 +69,13 @@ FILES.update(
         "evil.lib": LIBRARY.replace("pin(sleep)", 'pin("x\nmacro evil")'),
         "cut.lib": LIBRARY[:200],
         "down.lib": LIBRARY.replace("clocked_on : CLK", 'clocked_on : "!CLK"').replace("falling_edge", "rising_edge"),
+        "ways.v": (
+            "module ways(input WCLK, RCLK, WE, RE, input [1:0] WA, RA, input D, output reg Q); reg m [0:3];\n"
+            "always @(posedge WCLK) if (WE) m[WA] <= D;\nalways @(posedge RCLK) if (RE) Q <= m[RA];\nendmodule\n"
+        ),
+        "ways.pins": (
+            "macro ways\nclk WCLK\nwrite WE\nread RE\nwaddr WA\nraddr RA\nwdata D\nrdata Q\nclock2 RCLK\n"
+        ),
         "bits.v": (
             "`ifdef BITS\nmodule bits(input CK, CE, WE, A0, A1, D0, D1, output Q0, Q1); endmodule\n"
             "`elsif NONE\nmodule bits; endmodule\n`endif\n"
@@ -80,6 +87,7 @@ FILES.update(
     }
 )
 TOP = "tools/top two.chip s.pins t.pins"
+WAYS = "tools/collar s.mem --macro ways.pins --clock-mux CK:S:A:B:Z"
 LEFT = "tools/collar examples/joins/left.mem --macro examples/joins/left.pins"
 COLLAR = "tools/collar s.mem --macro s.pins"
 CALLS: List[Call] = [
@@ -231,6 +239,12 @@ CALLS: List[Call] = [
         says="flow: 'a`b.list': a file name in the makefile has only letters",
     ),
     Call("tools/flow chip.chip chip.pins flow", status=2, says="flow: a memory named chip would have the folder"),
+    Call(
+        f"{WAYS} ways",
+        prints="ways/CK.v\n",
+        says="collar: not tested: WE, RE: whether it is ever off; RCLK: a further clock, which the model ignores\n",
+    ),
+    Call(f"{WAYS} theirs --model ways.v", says="collar: not tested: WE, RE: whether it is ever off\n"),
     Call(
         f"{LEFT} mux",
         prints="mux/left_collar.v\n",
