@@ -156,53 +156,54 @@ def answered(text: str, options: dict[str, Any]) -> int:
     return number_of(text, "CYCLE", 1) - 1 if "--at" in options else number_of(text, "CYCLE")
 
 
+def words_in(line: str, rest: list[str]) -> list[str]:
+    """The cycle and the two words of a line of a memory's own test."""
+    match, whose = entry_in(line), OF_UNIT.search(line)
+    if match is None or rest:
+        raise ToolError("the line names no read: it has no 'cycle C expected X returned Y'")
+    if whose is not None:
+        why = "whose cycles are the chip's: give the chip file with --chip and the cycle, or its pins with --whole"
+        raise ToolError(f"the line is of unit {whose[1]} of a chip, {why}")
+    return list(match.groups())
+
+
+def of_memory(words: list[str], options: dict[str, Any], mux: int, has_rows: bool) -> list[str]:
+    """What is said of one memory."""
+    march, memory_file, *rest = words
+    if "--tdr" in options and (rest or set(options) - {"--tdr", "--sib"}):
+        raise ToolError(f"--tdr takes only a march and a memory, with --sib or --mux\n{usage_of(__doc__)}")
+    if "--elements" in options and (rest or len(options) > 1):
+        raise ToolError(f"--elements takes only a march and a memory\n{usage_of(__doc__)}")
+    line = options.get("--line")
+    is_of_check = line is not None and line.startswith(("differs ", "unknown ")) and not rest
+    if line is not None and not is_of_check:
+        rest = words_in(line, rest)
+    if not is_of_check and not {"--tdr", "--elements"} & set(options) and len(rest) not in (1, 3):
+        raise ToolError(f"after the memory comes a cycle, or a cycle and two words\n{usage_of(__doc__)}")
+    elements, memory = march_of(march)[1], read_memory(memory_file)
+    if "--tdr" in options:
+        return tester.memory_register(elements, memory, options["--tdr"], mux, "--sib" in options)
+    if "--elements" in options:
+        return list(element_lines(elements, memory))
+    if is_of_check:
+        return of_check(line or "", elements, memory)
+    read = read_of(elements, memory, answered(rest[0], options))
+    lines = tester.told(read, elements, memory, mux) if has_rows else visit_lines(read, elements[read.element], memory)
+    return lines + (bits_of(read, memory, rest[1:], mux if has_rows else None) if rest[1:] else [])
+
+
 def main(arguments: list[str]) -> int:
     allowed = {"--line": 1, "--elements": 0, "--chip": 0, "--tdr": 1, "--at": 1, "--mux": 1, "--sib": 0}
     words, options = words_of(__doc__, arguments, {**allowed, "--whole": 0, "--in-place": 0}, 1, None)
     if "--sib" in options and "--tdr" not in options:
         raise ToolError(f"--sib needs --tdr\n{usage_of(__doc__)}")
     has_rows, mux = "--mux" in options, number_of(options.pop("--mux", "1"), "--mux", 1)
-    for option, told in (("--in-place", of_places), ("--whole", of_whole)):
+    is_many = "--in-place" in options or "--whole" in options
+    if not is_many and (len(words) > 5 or len(words) < 2 and "--chip" not in options):
+        raise ToolError(f"too {'many' if len(words) > 5 else 'few'} words\n{usage_of(__doc__)}")
+    for option, told in (("--in-place", of_places), ("--whole", of_whole), ("--chip", of_chip)):
         if option in options:
             print("\n".join(told(words, options, mux)))
             return 0
-    if len(words) > 5:
-        raise ToolError(f"too many words\n{usage_of(__doc__)}")
-    if "--chip" in options:
-        print("\n".join(of_chip(words, options, mux)))
-        return 0
-    if len(words) < 2:
-        raise ToolError(f"too few words\n{usage_of(__doc__)}")
-    march, memory_file, *rest = words
-    if "--tdr" in options:
-        if rest or set(options) - {"--tdr", "--sib"}:
-            raise ToolError(f"--tdr takes only a march and a memory, with --sib or --mux\n{usage_of(__doc__)}")
-        elements, memory = march_of(march)[1], read_memory(memory_file)
-        print("\n".join(tester.memory_register(elements, memory, options["--tdr"], mux, "--sib" in options)))
-        return 0
-    if "--elements" in options:
-        if rest or len(options) > 1:
-            raise ToolError(f"--elements takes only a march and a memory\n{usage_of(__doc__)}")
-        print("\n".join(element_lines(march_of(march)[1], read_memory(memory_file))))
-        return 0
-    if options.get("--line", "").startswith(("differs ", "unknown ")) and not rest:
-        print("\n".join(of_check(options["--line"], march_of(march)[1], read_memory(memory_file))))
-        return 0
-    if "--line" in options:
-        match = entry_in(options["--line"])
-        if match is None or rest:
-            raise ToolError("the line names no read: it has no 'cycle C expected X returned Y'")
-        whose = OF_UNIT.search(options["--line"])
-        if whose is not None:
-            why = "whose cycles are the chip's: give the chip file with --chip and the cycle, or its pins with --whole"
-            raise ToolError(f"the line is of unit {whose[1]} of a chip, {why}")
-        rest = list(match.groups())
-    if len(rest) not in (1, 3):
-        raise ToolError(f"after the memory comes a cycle, or a cycle and two words\n{usage_of(__doc__)}")
-    elements, memory = march_of(march)[1], read_memory(memory_file)
-    read = read_of(elements, memory, answered(rest[0], options))
-    lines = tester.told(read, elements, memory, mux) if has_rows else visit_lines(read, elements[read.element], memory)
-    if rest[1:]:
-        lines += bits_of(read, memory, rest[1:], mux if has_rows else None)
-    print("\n".join(lines))
+    print("\n".join(of_memory(words, options, mux, has_rows)))
     return 0
