@@ -274,7 +274,19 @@ class Usual(unittest.TestCase):
         # what is told goes before what a name says, in whichever order they stand
         lines = self.told("CK A:3 X:3 DI:4 Q:4", "X=addr")
         self.assertIn("addr X 3", lines)
-        self.assertIn("# A, an input of 3 bits: tie A 3'h0, or pass A 3", lines)
+        asked = "# A, an input of 3 bits: addr A 3, or port addr A 3, or raddr A 3, or waddr A 3"
+        self.assertIn(asked, lines)
+
+    def test_words_without_the_letter_of_their_address(self) -> None:
+        """Which of two addresses a word goes with is asked for, and no address is to be tied."""
+        lines = self.told("CLKA CLKB ADA:3 ADB:3 DI:4 QO:4 CEA CEB", "QO=rdata")
+        self.assertEqual(lines[:2], ["wdata DI 4", "rdata QO 4"])
+        for letter in "AB":
+            self.assertIn(f": addr AD{letter} 3, or port addr AD{letter} 3, or raddr AD{letter} 3", "\n".join(lines))
+            self.assertIn(f"# CE{letter}, an input of 1 bits: en CE{letter}, or port en CE{letter}", lines)
+        self.assertIn("# CLKB, an input of 1 bits: clk CLKB, or port clk CLKB, or clock2 CLKB", lines)
+        lines = self.told("CLKA CLKB ADA:3 ADB:3 DI:4 QO:4", "QO=rdata", "ADA=waddr", "ADB=raddr")
+        self.assertLess({"waddr ADA 3", "raddr ADB 3", "wdata DI 4", "rdata QO 4"}, {*lines})
 
     def test_a_width_that_is_not_known(self) -> None:
         """What the call says of such a pin is written, and the description gives its width."""

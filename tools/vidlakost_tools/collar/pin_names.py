@@ -208,6 +208,14 @@ def line_of(one: Guess, second: bool) -> str:
     return (UNSURE if one.by_name else "") + line + (f"  # {'; '.join(told)}" if told else "")
 
 
+def seeming(one: Guess, name: str) -> str:
+    """The lines that could have a pin whose kind is known, but not which of several such pins it is."""
+    kind, low = one.kind.lstrip("~"), "~" if one.kind.startswith("~") else ""
+    told = f"{low}{name}{f' {one.pin.width}' if one.pin.width > 1 or kind == 'mask' else ''}"
+    others = {"addr": tuple(WAYS), "clk": ("clock2",)}.get(kind, ())
+    return ", or ".join(f"{which} {told}" for which in (kind, f"{PORT}{kind}", *others))
+
+
 def open_line(one: Guess, second: bool) -> str:
     """A commented line of a pin that is not recognised, with what could stand there."""
     pin, name = one.pin, visible(one.pin.name)
@@ -215,6 +223,8 @@ def open_line(one: Guess, second: bool) -> str:
     head = f"# {name}, an {pin.way if pin.way in ('output', 'inout') else 'input'} of {pin.width or '?'} bits: "
     if pin.ends:
         head = f"# {name}{pin.ends[0]} to {name}{pin.ends[1]}: pins {name} {pin.ends[0]} {pin.ends[1]}, and "
+    if one.kind and pin.width:
+        return head + seeming(one, name)
     if pin.way == "output":
         return f"{head}open {name}, or out {name} {width}"
     if pin.is_supply or pin.way == "inout":
@@ -298,7 +308,7 @@ def pins(macro: str, found: list[Found], confirmed: Mapping[str, str] | None = N
         once = one.kind in ("clk", "wdata", "rdata") or one.kind == "addr" and not split
         common = split and one.kind == "clk" and (key in seen or one.port == ports[1])
         is_left = once and not common and key in (seen if one.is_told else seen | told)
-        is_left = is_left or one.port in ports[2:] and not one.is_second and one.kind != "power"
+        is_left = is_left or one.port in unsettled(ports) and not one.is_second and one.kind != "power"
         if one.is_told and is_left:
             refuse_second(one, made)
         if is_left or not one.kind or is_odd(one):
@@ -309,6 +319,11 @@ def pins(macro: str, found: list[Found], confirmed: Mapping[str, str] | None = N
         lines += [f"pins {one.pin.name} {one.pin.ends[0]} {one.pin.ends[1]}"] if one.pin.ends else []
         lines.append(line_of(of_split(one, ports, common) if split else one, second))
     return [*lines, *left], len(left)
+
+
+def unsettled(ports: list[str]) -> list[str]:
+    """The ports that have no place: a third one, and all with a name where the words have none."""
+    return ports[1 if ports[:1] == [""] and len(ports) > 2 else 2 :]
 
 
 def is_second(one: Guess, ports: list[str], split: bool) -> bool:
