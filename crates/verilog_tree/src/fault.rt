@@ -6,7 +6,7 @@ use crate::tree::Name;
 use bist_bits::NoMemory;
 
 /// Why a text is refused. The first byte at which one of L1, L3, L4 and L5 stands decides.
-#[derive(Clone, Copy, Debug, PartialEq, Eq)]
+#[derive(Clone, Copy)]
 pub enum ReadFault {
     /// L1: with this byte no text of the grammar begins so.
     Unexpected { byte: usize },
@@ -25,7 +25,7 @@ pub enum ReadFault {
 }
 
 /// A rule that a module breaks, or that there was no memory.
-#[derive(Debug, Drop, PartialEq, Eq)]
+#[derive(Drop)]
 pub enum TreeFault {
     /// N1: a name is neither a port nor declared in an earlier item.
     Unknown { name: Name },
