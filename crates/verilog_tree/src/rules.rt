@@ -272,6 +272,25 @@ fn check_in_order(
     driven(&before.assigned, declared)
 }
 
+// The rules, where the declared names are listed, and their widths are known by name.
+fn check_listed(
+    alloc: Global,
+    declared: &[Declared],
+    widths: &Declarations,
+    module: &Module,
+) -> Result<(), TreeFault>
+    requires listed { map declaration declared.now ≡ declarations (plain_module «module».now).ports (plain_module «module».now).items }
+    requires named { widths.now ≡ with_all [] (map declaration declared.now) }
+    ensures { Refuses (first_break (plain_module «module».now)) result }
+{
+    let mut before = Before {
+        declared: Declarations::new(alloc),
+        assigned: NameSet::new(alloc),
+        set: NameSet::new(alloc),
+    };
+    check_in_order(alloc, declared, widths, &mut before, module)
+}
+
 /// Refuses a module for the first rule that it breaks: N1 to N6, N10 and N9. The ports are item 0, and
 /// the first item that breaks a rule decides; within it the rules are tried in the order N1, N2, N6, N3,
 /// N5, N4, N10, each at its first place in the text. N9 comes last. Loops of wires are not looked for.
@@ -282,10 +301,5 @@ pub fn check(alloc: Global, module: &Module) -> Result<(), TreeFault>
 {
     let declared = all_declared(alloc, module)?;
     let widths = by_name(alloc, &declared)?;
-    let mut before = Before {
-        declared: Declarations::new(alloc),
-        assigned: NameSet::new(alloc),
-        set: NameSet::new(alloc),
-    };
-    check_in_order(alloc, &declared, &widths, &mut before, module)
+    check_listed(alloc, &declared, &widths, module)
 }
