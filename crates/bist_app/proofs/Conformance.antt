@@ -6,10 +6,10 @@ use Rattle.verilog_tree.specs.Names.{number}
 use Rattle.verilog_tree.proofs.Settling.{one_settles}
 use Rattle.verilog_cycle.specs.Design.{places}
 use Rattle.verilog_cycle.proofs.Settled.{places_fall}
-use Rattle.port_check.specs.Answers.{Told}
+use Rattle.port_check.specs.Answers.{Told, is_amiss}
 use Rattle.port_check.specs.Compared.{Issues}
 use Rattle.port_check.proofs.Checking.{told_of}
-use Rattle.bist_app.specs.Check.{IsChecked, LeavesCheck, DecidesCheck, is_amiss, check_form}
+use Rattle.bist_app.specs.Check.{IsChecked, LeavesCheck, DecidesCheck, check_form}
 use Rattle.bist_app.specs.Conformance.{IsConformance, LeavesConformance}
 use Rattle.bist_app.specs.Headline.{Only, InputHas}
 use Rattle.bist_app.proofs.Headline.{march_read, memory_read}

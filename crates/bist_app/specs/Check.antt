@@ -1,13 +1,13 @@
 -- Trusted. The command `check VERILOG MARCH MEMORY`: whether the module of a file issues the commands of a march, whatever its registers hold at first and
 -- whatever words return. Its checks in their order, and what it leaves.
-use Rattle.std.specs.Prelude.{◌≡◌, ◌++◌, ℕ, Bool, true, false, List, [], Option, Result, codes, decimal}
+use Rattle.std.specs.Prelude.{◌≡◌, ◌++◌, ℕ, List, [], Option, Result, codes, decimal}
 use Rattle.bist_host.specs.Files.{Files}
 use Rattle.verilog_tree.specs.Plain.{ModuleTree}
 use Rattle.verilog_tree.specs.Grammar.{ByPrecedence}
 use Rattle.march_core.specs.March.{MarchElement}
 use Rattle.memory_desc.specs.Descriptions.{Description}
 use Rattle.port_check.specs.declared.answer.PortAnswer.{PortAnswer}
-use Rattle.port_check.specs.Answers.{IsAnswer}
+use Rattle.port_check.specs.Answers.{IsAnswer, is_amiss}
 use Rattle.bist_endings.specs.declared.ending.Refusal.{Refusal}
 use Rattle.bist_endings.specs.Ending.{Done, numbered_line}
 use Rattle.bist_endings.specs.Then.{Then, OrNoMemory}
@@ -17,11 +17,6 @@ use Rattle.bist_inputs.specs.Memories.{InputMemory}
 use Rattle.bist_inputs.specs.Designs.{InputModule}
 use Rattle.bist_app.specs.Forms.{Form, Row, without_boxes}
 use Rattle.bist_app.specs.Shared.{FitsLength, HasPorts}
-
--- some port isn't seen to be as the rule of the ports wants it
-abbrev pub is_amiss : PortAnswer → Bool
-is_amiss (PortAnswer.Conforms cycles) = false
-is_amiss other = true
 
 abbrev pub at_text : ℕ → List ℕ → List ℕ
 at_text cycle port = decimal cycle ++ codes " port " ++ port

@@ -11,14 +11,14 @@ use Rattle.verilog_tree.specs.Spells.{FreelySpells}
 use Rattle.verilog_tree.specs.Wires.{Starts, OneSettles}
 use Rattle.self_test.specs.WrongPort.{wrong_port}
 use Rattle.port_check.specs.declared.answer.PortAnswer.{PortAnswer}
-use Rattle.port_check.specs.Answers.{IsAnswer, Told}
+use Rattle.port_check.specs.Answers.{IsAnswer, Told, is_amiss}
 use Rattle.port_check.specs.Compared.{Issues}
 use Rattle.bist_endings.specs.Words.{Words, word}
 use Rattle.bist_endings.specs.Ending.{found_status}
 use Rattle.bist_inputs.specs.Designs.{CanRun}
 use Rattle.bist_app.specs.Forms.{HasForm}
 use Rattle.bist_app.specs.Headline.{InputHas, Only}
-use Rattle.bist_app.specs.Check.{check_form, is_amiss, check_line}
+use Rattle.bist_app.specs.Check.{check_form, check_line}
 
 -- The bytes of VERILOG spell a module and no other, which can be run and has the ports of a self-test; MARCH and MEMORY were read as a march
 -- and a memory, and spell no others. With status 0 the module issues the commands of the march, whatever its registers hold at first and whatever words return.

@@ -88,7 +88,7 @@ fn plan_answer(alloc: Global, answer: &PortAnswer) -> Result<Effects, Refusal>
 {
     let line = answer_line(alloc, answer)?;
     Ok(Effects {
-        found: !matches!(answer, PortAnswer::Conforms { .. }),
+        found: answer.is_amiss(),
         outputs: Vec::new(alloc),
         line,
     })
