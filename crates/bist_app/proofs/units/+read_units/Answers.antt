@@ -1,6 +1,12 @@
+use Rattle.bist_app.proofs.Common.{rules}
 use Rattle.bist_app.proofs.Refusing.{stopped}
-use Rattle.bist_app.proofs.ReadUnits.{nothing_read, units_stop, units_go_on}
+use Rattle.bist_app.proofs.ReadUnits.{nothing_read, one_more, units_stop, units_go_on}
 use Rattle.bist_app.proofs.units.+read_units.Goals as goal
+
+pub read_units-requires : goal.read_units-requires
+read_units-requires g t c κs within =
+    let appended = c.in_ok-read_unit-in-len1-up.ensures.answer in
+    (search rules, (search rules, (search rules, one_more _ _ _ appended.0 c.requires.counted appended.2)))
 
 pub returns-in-empty-clause-answer : goal.returns-in-empty-clause-answer
 returns-in-empty-clause-answer g t c = nothing_read (g.H.Host.state c.args.host.now).files c.args.number c.args.units.now c.args.table.now c.in-empty.len_below
