@@ -108,6 +108,11 @@ boxes
 11 device V4
 ";
 
+#[test]
+fn boxes(rt: HostRuntime) {
+    are_right(&rt, first_wrong(rt.alloc(), BENCH));
+}
+
 static FILES: &str = r"# FILES
 m = {any(w1);any(r1)}
 d = memory 1\nname buf0\nwords 2\nbits 1\n
@@ -176,11 +181,6 @@ boxes sound:65536
 boxes zeros:65536
 1 fail 1 done 162 cycle 50 expected 1 returned 0
 ";
-
-#[test]
-fn boxes(rt: HostRuntime) {
-    are_right(&rt, first_wrong(rt.alloc(), BENCH));
-}
 
 #[test]
 fn modules_of_files(rt: HostRuntime) {

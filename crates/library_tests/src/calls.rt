@@ -1,34 +1,29 @@
 //! Calls of the libraries' functions, with answers that were found by hand. Those of reports, of texts, of Verilog and
 //! of boxes are called elsewhere.
 
-ghost use Rattle.std.specs.Prelude.{◌≡◌, None, IfOk};
-ghost use Rattle.march_core.specs.Visits.{FitsWord};
+ghost use Rattle.std.specs.Prelude.{◌≡◌, None};
 
+use crate::given::{
+    MATS_PLUS, UP_UP_DOWN, failed_transition, holds, march_of, memory_of, one_cell_prim,
+};
+use crate::trees::name;
 use array_sim::act_of;
-use arrayvec::ArrayString;
 use backgrounds::{log_set, separates, word_of};
-use bist_bits::{Bits, NoMemory, all_ones, concat, parity, select, width_of};
-use bist_text::{ByteSet, Cursor, Lines, decimal, hex, put, put_decimal, put_hex};
+use bist_bits::{Bits, all_ones, concat, parity, select, width_of};
+use bist_text::{ByteSet, Cursor, Line, Lines, decimal, hex, put, put_decimal, put_hex};
 use cell_machine::{Pair, Side, act, close};
 use escape_array::{EscapeArray, least, replays};
 use fault_core::{
-    Act, Class, Places, Prim, PrimFault, Sense, class_of, close_cells, do_plainly, is_same_act,
-    members, one_cell, step, two_cell,
+    Act, Class, Places, Prim, class_of, close_cells, do_plainly, is_same_act, members, one_cell,
+    step, two_cell,
 };
 use march_core::{March, MarchBuilder, MarchFault, Op, Order, address_of, is_down, is_wrong};
-use march_syntax::read_march;
-use memory_desc::{Memory, read_memory};
+use memory_desc::Memory;
 use pair_tracker::{Placement, Survivor, survivors};
 use scrambler::{Dependence, Matrix, Scramble, invert};
 use std::alloc::Global;
-use std::test::Fail;
-use verilog_tree::{BinOp, Name, UnOp, binary_width, is_name, unary_width};
+use verilog_tree::{BinOp, UnOp, binary_width, is_name, unary_width};
 use word_march::{PortOp, WordOp, length, port_ops, word_ops};
-
-pub(crate) const MATS_PLUS: &[u8] = b"{any(w0);up(r0,w1);down(r1,w0)}";
-
-/// The direction word in which the third element alone goes downward.
-const UP_UP_DOWN: u64 = 1 << 61;
 
 fn bits_are_joined_and_selected() -> bool {
     let joined = concat(&Bits::new(2, 0b10), &Bits::new(1, 0b1));
@@ -40,12 +35,6 @@ fn bits_are_joined_and_selected() -> bool {
 
 fn numbers_have_bits() -> bool {
     parity(7) && width_of(0) == 1 && width_of(8) == 4 && all_ones(5) == 31
-}
-
-#[test]
-fn bit_vectors(rt: HostRuntime) {
-    assert!(rt; bits_are_joined_and_selected());
-    assert!(rt; numbers_have_bits());
 }
 
 /// `a`, `b` and byte 128.
@@ -71,61 +60,63 @@ fn a_cursor_finds_letters() -> bool {
         && cursor.peek().is_none()
 }
 
+/// Whether this line comes.
+fn is_line(line: Option<Line<'_>>, number: usize, start: usize, text: &[u8], ended: bool) -> bool {
+    match line {
+        None => false,
+        Some(line) => {
+            line.number == number && line.start == start && line.ended == ended && line.text == text
+        }
+    }
+}
+
 /// Whether three lines come with their numbers and places, and then none.
 fn lines_come_in_order() -> bool {
     let mut lines = Lines::new(b"a\n\nb");
-    for (number, start, text, ended) in [(1, 0, "a", true), (2, 2, "", true), (3, 3, "b", false)] {
-        let Some(line) = lines.next() else {
-            return false;
-        };
-        if line.number != number || line.start != start || line.ended != ended {
-            return false;
-        }
-        if line.text != text.as_bytes() {
-            return false;
-        }
-    }
-    lines.next().is_none()
-}
-
-#[test]
-fn cursors_and_lines(rt: HostRuntime) {
-    assert!(rt; letters_are_a_set());
-    assert!(rt; a_cursor_finds_letters());
-    assert!(rt; lines_come_in_order());
+    is_line(lines.next(), 1, 0, b"a", true)
+        && is_line(lines.next(), 2, 2, b"", true)
+        && is_line(lines.next(), 3, 3, b"b", false)
+        && lines.next().is_none()
 }
 
 fn numbers_are_read() -> bool {
     decimal(b"0042") == Some(42) && decimal(b"").is_none() && hex(b"fF") == Some(255)
 }
 
-fn put_numbers(out: &mut Vec<u8>) -> Result<(), NoMemory> {
-    put_decimal(out, 120)?;
-    put(out, b" ")?;
-    put_hex(out, 0xab, 4)
-}
-
-fn numbers_are_put(alloc: Global) -> Result<bool, NoMemory> {
+fn numbers_are_put(alloc: Global) -> bool {
     let mut out = Vec::new(alloc);
-    put_numbers(&mut out)?;
-    Ok(out.as_slice() == b"120 00ab".as_slice())
+    let is_put = put_decimal(&mut out, 120).is_ok()
+        & put(&mut out, b" ").is_ok()
+        & put_hex(&mut out, 0xab, 4).is_ok();
+    is_put && out.as_slice() == b"120 00ab".as_slice()
 }
 
 #[test]
-fn numbers_as_text(rt: HostRuntime) -> Result<(), Fail> {
-    assert!(rt; numbers_are_read());
-    assert!(rt; numbers_are_put(rt.alloc())?);
-    Ok(())
+fn bits_and_texts(rt: HostRuntime) {
+    holds(&rt, "bit vectors", bits_are_joined_and_selected());
+    holds(&rt, "bits of numbers", numbers_have_bits());
+    holds(&rt, "a set of letters", letters_are_a_set());
+    holds(&rt, "a cursor", a_cursor_finds_letters());
+    holds(&rt, "lines", lines_come_in_order());
+    holds(&rt, "numbers that are read", numbers_are_read());
+    holds(&rt, "numbers that are put", numbers_are_put(rt.alloc()));
 }
 
 fn two_elements() -> Result<March, MarchFault> {
     let mut builder = MarchBuilder::new();
-    builder.element(Order::Any)?;
-    builder.op(Op::W0)?;
-    builder.element(Order::Up)?;
-    builder.op(Op::R0)?;
-    builder.op(Op::W1)?;
+    let is_built = builder.element(Order::Any).is_ok()
+        & builder.op(Op::W0).is_ok()
+        & builder.element(Order::Up).is_ok()
+        & builder.op(Op::R0).is_ok()
+        & builder.op(Op::W1).is_ok();
+    if !is_built {
+        return Err(MarchFault::Empty);
+    }
     builder.finish()
+}
+
+fn an_empty_march_is_refused() -> bool {
+    matches!(MarchBuilder::new().finish(), Err(MarchFault::Empty))
 }
 
 fn has_two_elements(march: &March) -> bool {
@@ -138,16 +129,6 @@ fn has_two_elements(march: &March) -> bool {
 /// Whether its first element may go downward and its second may not.
 fn fits_its_directions(march: &March) -> bool {
     march.fits_directions(0) && march.fits_directions(1 << 63) && !march.fits_directions(1 << 62)
-}
-
-#[test]
-fn a_march_in_parts(rt: HostRuntime) -> Result<(), Fail> {
-    let empty = MarchBuilder::new().finish();
-    assert!(rt; matches!(empty, Err(MarchFault::Empty)));
-    let march = two_elements()?;
-    assert!(rt; has_two_elements(&march));
-    assert!(rt; fits_its_directions(&march));
-    Ok(())
 }
 
 fn operations_have_bits() -> bool {
@@ -163,19 +144,19 @@ fn operations_are_acts() -> bool {
         && !is_same_act(Act::Write(true), Act::Write(false))
 }
 
-#[test]
-fn operations(rt: HostRuntime) {
-    assert!(rt; operations_have_bits());
-    assert!(rt; operations_are_acts());
-    assert!(rt; is_down(UP_UP_DOWN, 2) && address_of(true, 1, 4) == 2);
+fn directions_are_bits() -> bool {
+    is_down(UP_UP_DOWN, 2) && address_of(true, 1, 4) == 2
 }
 
-/// The primitive of one cell that keeps this state where the other bit is written.
-pub(crate) fn failed_transition(state: bool) -> Result<Prim, PrimFault>
-    ensures { IfOk result (λ prim. prim.agg ≡ None) }
-{
-    let act = Some(Act::Write(!state));
-    Prim::new(None, Sense { state, act }, state, None)
+#[test]
+fn marches_and_operations(rt: HostRuntime) {
+    let march = two_elements().expect(&rt, "a march");
+    holds(&rt, "an empty march", an_empty_march_is_refused());
+    holds(&rt, "two elements", has_two_elements(&march));
+    holds(&rt, "directions", fits_its_directions(&march));
+    holds(&rt, "bits of operations", operations_have_bits());
+    holds(&rt, "acts", operations_are_acts());
+    holds(&rt, "a direction word", directions_are_bits());
 }
 
 fn keeps_a_zero(prim: &Prim) -> bool {
@@ -194,65 +175,55 @@ fn last_classes() -> Option<(Class, Class)> {
     Some((class_of(ones.last()?), class_of(twos.last()?)))
 }
 
-#[test]
-fn primitives_and_classes(rt: HostRuntime) -> Result<(), Fail> {
-    let keeps_zero = failed_transition(false)?;
-    assert!(rt; keeps_a_zero(&keeps_zero));
-    assert!(rt; class_of(&keeps_zero) == Class::TF && members(Class::CFds).len() == 12);
-    assert!(rt; last_classes() == Some((Class::IRF, Class::CFir)));
-    Ok(())
+fn primitives_have_classes(keeps_zero: &Prim) -> bool {
+    class_of(keeps_zero) == Class::TF
+        && members(Class::CFds).len() == 12
+        && last_classes() == Some((Class::IRF, Class::CFir))
 }
 
-/// The primitive of one cell that never holds a 0.
-fn loses_zero() -> Result<Prim, PrimFault>
-    ensures { IfOk result (λ prim. prim.agg ≡ None) }
-{
-    let state = false;
-    Prim::new(None, Sense { state, act: None }, true, None)
-}
-
-fn pairs_are_faulty() -> Result<bool, PrimFault> {
-    let keeps_zero = failed_transition(false)?;
-    let loses_zero = loses_zero()?;
+fn pairs_are_faulty(keeps_zero: &Prim, loses_zero: &Prim) -> bool {
     let zeros = Pair { a: false, v: false };
-    let kept = act(&keeps_zero, zeros, Side::V, Act::Write(true)) == (zeros, None);
-    Ok(kept && close(&loses_zero, zeros) == Pair { a: false, v: true })
+    act(keeps_zero, zeros, Side::V, Act::Write(true)) == (zeros, None)
+        && close(loses_zero, zeros) == Pair { a: false, v: true }
 }
 
-fn cells_are_faulty() -> Result<bool, PrimFault> {
-    let keeps_zero = failed_transition(false)?;
-    let loses_zero = loses_zero()?;
+fn a_cell_keeps_its_zero(keeps_zero: &Prim) -> bool
+    requires { keeps_zero.now.agg ≡ None }
+{
     let places = Places { agg: None, vic: 1 };
     let mut cells = [false, false];
-    let answer = step(&keeps_zero, places, &mut cells, 1, Act::Write(true));
-    let kept = answer.is_none() && cells == [false, false];
-    close_cells(&loses_zero, places, &mut cells);
+    let answer = step(keeps_zero, places, &mut cells, 1, Act::Write(true));
+    answer.is_none() && cells == [false, false]
+}
+
+fn a_cell_loses_its_zero(loses_zero: &Prim) -> bool
+    requires { loses_zero.now.agg ≡ None }
+{
+    let places = Places { agg: None, vic: 1 };
+    let mut cells = [false, false];
+    close_cells(loses_zero, places, &mut cells);
     let lost = cells == [false, true];
     let plain = do_plainly(&mut cells, 1, Act::Read) == Some(true);
-    Ok(kept && lost && plain && cells == [false, true])
+    lost && plain && cells == [false, true]
 }
 
 #[test]
-fn acts_on_cells(rt: HostRuntime) -> Result<(), Fail> {
-    assert!(rt; pairs_are_faulty()?);
-    assert!(rt; cells_are_faulty()?);
-    Ok(())
+fn primitives_and_cells(rt: HostRuntime) {
+    let keeps_zero = failed_transition(&rt, false);
+    let loses_zero = one_cell_prim(&rt, false, None, true);
+    holds(&rt, "its parts", keeps_a_zero(&keeps_zero));
+    holds(&rt, "classes", primitives_have_classes(&keeps_zero));
+    holds(&rt, "pairs", pairs_are_faulty(&keeps_zero, &loses_zero));
+    holds(&rt, "a kept zero", a_cell_keeps_its_zero(&keeps_zero));
+    holds(&rt, "a lost zero", a_cell_loses_its_zero(&loses_zero));
 }
 
 /// Whether a cell that keeps its one passes a march in this way alone.
-fn survives_alone(march: &March, survivor: Survivor) -> Result<bool, PrimFault> {
-    let keeps_one = failed_transition(true)?;
-    let found = survivors(march, &keeps_one, Placement::Alone, [false, false]);
-    Ok(found.as_slice() == [survivor].as_slice())
-}
-
-#[test]
-fn arrays_of_two_cells(rt: HostRuntime) -> Result<(), Fail> {
-    let march = read_march(MATS_PLUS)?;
-    let pair = Pair { a: false, v: true };
-    let directions = UP_UP_DOWN;
-    assert!(rt; survives_alone(&march, Survivor { pair, directions })?);
-    Ok(())
+fn survives_alone(march: &March, keeps_one: &Prim, survivor: Survivor) -> bool
+    requires { keeps_one.now.agg ≡ None }
+{
+    let found = survivors(march, keeps_one, Placement::Alone, [false, false]);
+    found.as_slice() == [survivor].as_slice()
 }
 
 /// Whether it is the escape of a cell that keeps its one from MATS+.
@@ -263,36 +234,49 @@ pub(crate) fn is_worked_escape(escape: &EscapeArray) -> bool {
         && escape.directions == UP_UP_DOWN
 }
 
-fn an_escape_is_found(march: &March) -> Result<bool, PrimFault> {
-    let keeps_one = failed_transition(true)?;
-    match least(march, &keeps_one) {
-        None => Ok(false),
-        Some(escape) => Ok(is_worked_escape(&escape) && replays(march, &escape)),
+fn an_escape_is_found(march: &March, keeps_one: &Prim) -> bool {
+    match least(march, keeps_one) {
+        None => false,
+        Some(escape) => is_worked_escape(&escape) && replays(march, &escape),
     }
 }
 
 /// Whether a march catches a cell that keeps its zero where it would be an escape.
 #[tactic(auto, using(escape_array::proofs::Replaying::array_fits))]
-fn catches_a_kept_zero(march: &March, directions: u64) -> Result<bool, PrimFault>
-    requires { FitsWord march.now directions }
+fn catches_a_kept_zero(march: &March, keeps_zero: &Prim, directions: u64) -> bool
+    requires { keeps_zero.now.agg ≡ None }
 {
     let caught = EscapeArray {
-        prim: failed_transition(false)?,
+        prim: *keeps_zero,
         agg: None,
         vic: 0,
         content: [false, false],
         directions,
     };
-    Ok(least(march, &caught.prim).is_none() && !replays(march, &caught))
+    march.fits_directions(directions)
+        && least(march, keeps_zero).is_none()
+        && !replays(march, &caught)
 }
 
 #[test]
-fn escapes(rt: HostRuntime) -> Result<(), Fail> {
-    let march = read_march(MATS_PLUS)?;
-    assert!(rt; an_escape_is_found(&march)?);
-    assert!(rt; march.fits_directions(UP_UP_DOWN));
-    assert!(rt; catches_a_kept_zero(&march, UP_UP_DOWN)?);
-    Ok(())
+fn arrays_of_two_cells(rt: HostRuntime) {
+    let march = march_of(&rt, MATS_PLUS);
+    let keeps_zero = failed_transition(&rt, false);
+    let keeps_one = failed_transition(&rt, true);
+    let pair = Pair { a: false, v: true };
+    let directions = UP_UP_DOWN;
+    let survivor = Survivor { pair, directions };
+    holds(
+        &rt,
+        "survivors",
+        survives_alone(&march, &keeps_one, survivor),
+    );
+    holds(&rt, "an escape", an_escape_is_found(&march, &keeps_one));
+    holds(
+        &rt,
+        "none",
+        catches_a_kept_zero(&march, &keeps_zero, directions),
+    );
 }
 
 fn is_worked_scramble(scramble: &Scramble) -> bool {
@@ -309,7 +293,7 @@ fn moves_two_bits(scramble: &Scramble) -> bool {
         && scramble.duplicate().logical_of(3) == 3
 }
 
-fn a_matrix_is_inverted() -> Result<bool, Dependence> {
+fn a_matrix_is_inverted() -> bool {
     let mut rows = [0; 16];
     rows[0] = 0b11;
     rows[1] = 0b10;
@@ -318,8 +302,10 @@ fn a_matrix_is_inverted() -> Result<bool, Dependence> {
         rows,
         constant: 0b01,
     };
-    let scramble = invert(&matrix)?;
-    Ok(is_worked_scramble(&scramble) && moves_two_bits(&scramble))
+    match invert(&matrix) {
+        Ok(scramble) => is_worked_scramble(&scramble) && moves_two_bits(&scramble),
+        Err(_) => false,
+    }
 }
 
 fn like_rows_depend() -> bool {
@@ -331,12 +317,8 @@ fn like_rows_depend() -> bool {
     matches!(invert(&matrix), Err(Dependence { rows: 0b11 }))
 }
 
-#[test]
-fn scrambled_addresses(rt: HostRuntime) -> Result<(), Fail> {
-    assert!(rt; a_matrix_is_inverted()?);
-    assert!(rt; Scramble::identity(3).logical_of(5) == 5);
-    assert!(rt; like_rows_depend());
-    Ok(())
+fn identity_moves_nothing() -> bool {
+    Scramble::identity(3).logical_of(5) == 5
 }
 
 fn narrow_words_have_sets() -> bool {
@@ -352,12 +334,20 @@ fn the_widest_word_has_a_set() -> bool {
         && widest.last() == Some(&0xffff_ffff_0000_0000)
 }
 
+fn backgrounds_separate_bits() -> bool {
+    word_of(0x0a, true, 5) == 0x15
+        && separates(&[0x00, 0x0a], 0, 1)
+        && !separates(&[0x00, 0x0a], 0, 2)
+}
+
 #[test]
-fn words_of_backgrounds(rt: HostRuntime) {
-    assert!(rt; narrow_words_have_sets());
-    assert!(rt; the_widest_word_has_a_set());
-    assert!(rt; word_of(0x0a, true, 5) == 0x15);
-    assert!(rt; separates(&[0x00, 0x0a], 0, 1) && !separates(&[0x00, 0x0a], 0, 2));
+fn scramblings_and_backgrounds(rt: HostRuntime) {
+    holds(&rt, "a matrix", a_matrix_is_inverted());
+    holds(&rt, "like rows", like_rows_depend());
+    holds(&rt, "the identity", identity_moves_nothing());
+    holds(&rt, "sets of narrow words", narrow_words_have_sets());
+    holds(&rt, "the set of the widest", the_widest_word_has_a_set());
+    holds(&rt, "words of backgrounds", backgrounds_separate_bits());
 }
 
 /// Whether there are eight commands, and which is the third of them.
@@ -369,27 +359,25 @@ fn has_its_third_command(march: &March, memory: &Memory) -> bool {
         && port_ops(march, memory).nth(2) == Some(PortOp { write, addr, word })
 }
 
+fn some_texts_are_names() -> bool {
+    is_name(&name("buffer_1")) && !is_name(&name("buf")) && !is_name(&name("1st"))
+}
+
+fn operators_have_widths() -> bool {
+    unary_width(UnOp::Invert, 4) == 4
+        && unary_width(UnOp::Parity, 4) == 1
+        && binary_width(BinOp::Shl, 4) == 4
+        && binary_width(BinOp::Lt, 4) == 1
+}
+
 #[test]
-fn commands_of_a_memory(rt: HostRuntime) -> Result<(), Fail> {
-    let march = read_march(b"{any(w1);down(r1)}")?;
-    let memory = read_memory(
+fn commands_and_trees(rt: HostRuntime) {
+    let march = march_of(&rt, b"{any(w1);down(r1)}");
+    let memory = memory_of(
+        &rt,
         b"memory 1\nname s4\nwords 4\nbits 1\nscramble a0 = p0 ^ p1\nscramble a1 = p1\n",
-    )?;
-    assert!(rt; has_its_third_command(&march, &memory));
-    Ok(())
-}
-
-fn name(text: &str) -> Name {
-    ArrayString::from(text).unwrap_or(ArrayString::new())
-}
-
-#[test]
-fn names(rt: HostRuntime) {
-    assert!(rt; is_name(&name("buffer_1")) && !is_name(&name("buf")) && !is_name(&name("1st")));
-}
-
-#[test]
-fn widths_of_operators(rt: HostRuntime) {
-    assert!(rt; unary_width(UnOp::Invert, 4) == 4 && unary_width(UnOp::Parity, 4) == 1);
-    assert!(rt; binary_width(BinOp::Shl, 4) == 4 && binary_width(BinOp::Lt, 4) == 1);
+    );
+    holds(&rt, "commands", has_its_third_command(&march, &memory));
+    holds(&rt, "names", some_texts_are_names());
+    holds(&rt, "widths of operators", operators_have_widths());
 }

@@ -43,6 +43,11 @@ z swaps wdata = 1'd0 => wdata = rdata
 z = $f
 z swaps en = !reset && t => en = t
 1 unknown cycle 0 port en
+# its ports in another order
+z = $f
+z swaps input clk, input reset, input rdata, output en, output we, => output done, output wdata, input rdata, output fail, output addr,
+z swaps output addr, output wdata, output done, output fail => output en, input reset, output we, input clk
+0 conforms 5
 # no reset
 z = $f
 z swaps input reset, input rdata => input rdata
@@ -50,6 +55,55 @@ z swaps !reset && t < => !1'd0 && t <
 z swaps !reset && t == => !1'd0 && t ==
 z swaps if (reset) => if (1'd0)
 14 verilog B2 reset
+# an `if` on a word that returns leaves the counter open, unless a later assignment gives it a number
+z = $f
+z swaps else if (t != 3'd3) t <= t + 3'd1; => else if (rdata) t <= t + 3'd1; else t <= t + 3'd1;
+1 unknown cycle 2 port en
+z = $f
+z swaps else if (t != 3'd3) t <= t + 3'd1; => else begin if (rdata) t <= 3'd7; if (t != 3'd3) t <= t + 3'd1; else t <= t; end
+0 conforms 5
+
+# ONE OPERAND MAY DECIDE
+z = $f
+z swaps wdata = 1'd0 => wdata = rdata & 1'd0
+0 conforms 5
+z = $f
+z swaps wdata = 1'd0 => wdata = 1'd0 & rdata
+0 conforms 5
+z = $f
+z swaps wdata = 1'd0 => wdata = rdata && 1'd0
+0 conforms 5
+z = $f
+z swaps wdata = 1'd0 => wdata = 1'd1 | rdata
+1 differs cycle 1 port wdata expected 0 got 1
+z = $f
+z swaps wdata = 1'd0 => wdata = rdata || 1'd1
+1 differs cycle 1 port wdata expected 0 got 1
+z = $f
+z swaps wdata = 1'd0 => wdata = rdata ^ rdata
+1 unknown cycle 1 port wdata
+z = $f
+z swaps wdata = 1'd0 => wdata = rdata & !rdata
+1 unknown cycle 1 port wdata
+z = $f
+z swaps wdata = 1'd0 => wdata = rdata ? 1'd0 : 1'd0
+0 conforms 5
+z = $f
+z swaps wdata = 1'd0 => wdata = rdata ? 1'd0 : 1'd1
+1 unknown cycle 1 port wdata
+z = $f
+z swaps wdata = 1'd0 => wdata = reset ? rdata : 1'd0
+0 conforms 5
+
+# TOO LONG COMES BEFORE WRONG PORTS
+m = $c
+d = memory 1\nname big\nwords 65536\nbits 64\n
+z = $f
+z swaps input reset, input rdata => input rdata
+z swaps !reset && t < 3'd2 => 1'd0
+z swaps !reset && t == => !1'd0 && t ==
+z swaps if (reset) => if (1'd0)
+12 too long 4587523
 
 # REFUSED
 m = $long

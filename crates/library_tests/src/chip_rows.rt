@@ -7,9 +7,9 @@ static CHIP: &str = r"# TESTED
 s = chip 1\nname soc\nbudget 5\nunit 3 c.m m16\nunit 3 c.m m8\nunit 2 mats.m t2\n
 c.m = $c
 mats.m = $mats
-memories 16 1 m16
-memories 8 8 m8
-memories 2 1 t2
+m16 = memory 1\nname m16\nwords 16\nbits 1\n
+m8 = memory 1\nname m8\nwords 8\nbits 8\n
+t2 = memory 1\nname t2\nwords 2\nbits 1\n
 > chip s v
 0 chip units 3 groups 2 done 483
 v begins module m16_bist(\n
@@ -17,13 +17,13 @@ v ends endmodule\n
 anew
 s = chip 1\nname one\nbudget 1\nunit 1 w t2\n
 w = $w0
-memories 2 1 t2
+t2 = memory 1\nname t2\nwords 2\nbits 1\n
 0 chip units 1 groups 1 done 4
 v begins module t2_bist(\n
 v ends endmodule\n
 # two groups: the second is held in reset until the first is done, in cycle 4, and has 32 commands
 s = chip 1\nname soc\nbudget 2\nunit 2 w t2\nunit 1 w m8\n
-memories 8 8 m8
+m8 = memory 1\nname m8\nwords 8\nbits 8\n
 0 chip units 2 groups 2 done 37
 v ends
 | endmodule
@@ -54,7 +54,8 @@ v ends
 |   t2_bist unit_0(.clk(clk), .reset(reset), .rdata(rdata_0), .en(en_0), .we(we_0), .addr(addr_0), .wdata(wdata_0), .done(over_0), .fail(bad_0));
 |   m8_bist unit_1(.clk(clk), .reset(hold_1), .rdata(rdata_1), .en(en_1), .we(we_1), .addr(addr_1), .wdata(wdata_1), .done(over_1), .fail(bad_1));
 | endmodule
-no t2 m8
+no t2
+no m8
 s = chip 1\nname unit_0\nbudget 2\nunit 1 w a\nunit 1 w b\nunit 1 w c\n
 a = memory 1\nname hold_1\nwords 2\nbits 1\n
 b = memory 1\nname en_0\nwords 2\nbits 1\n
@@ -63,7 +64,22 @@ c = memory 1\nname done\nwords 2\nbits 1\n
 v begins module hold_1_bist(\n
 v ends endmodule\n
 s = chip 1\nname soc\nbudget 16\nunit 1 w a\nunit 1 w b\nunit 1 w c\nunit 1 w d\nunit 1 w e\nunit 1 w f\nunit 1 w g\nunit 1 w h\nunit 1 w i\nunit 1 w j\nunit 1 w k\nunit 1 w l\nunit 1 w m\nunit 1 w n\nunit 1 w o\nunit 1 w p\n
-memories 2 1 a b c d e f g h i j k l m n o p
+a = memory 1\nname a\nwords 2\nbits 1\n
+b = memory 1\nname b\nwords 2\nbits 1\n
+c = memory 1\nname c\nwords 2\nbits 1\n
+d = memory 1\nname d\nwords 2\nbits 1\n
+e = memory 1\nname e\nwords 2\nbits 1\n
+f = memory 1\nname f\nwords 2\nbits 1\n
+g = memory 1\nname g\nwords 2\nbits 1\n
+h = memory 1\nname h\nwords 2\nbits 1\n
+i = memory 1\nname i\nwords 2\nbits 1\n
+j = memory 1\nname j\nwords 2\nbits 1\n
+k = memory 1\nname k\nwords 2\nbits 1\n
+l = memory 1\nname l\nwords 2\nbits 1\n
+m = memory 1\nname m\nwords 2\nbits 1\n
+n = memory 1\nname n\nwords 2\nbits 1\n
+o = memory 1\nname o\nwords 2\nbits 1\n
+p = memory 1\nname p\nwords 2\nbits 1\n
 0 chip units 16 groups 1 done 4
 s swaps budget 16 => budget 1
 0 chip units 16 groups 16 done 49
@@ -74,22 +90,22 @@ s = chip 1\nname soc\nbits 1\n
 15 chip C1 line 3 byte 1
 s = chip 1\nname soc\nbudget 5\nunit 3 c.m m16\nunit 3 c.m m16\n
 c.m = $c
-memories 16 1 m16
+m16 = memory 1\nname m16\nwords 16\nbits 1\n
 15 chip C8 unit 1
 s = chip 1\nname soc\nbudget 5\nunit 6 c.m m16\n
 15 chip C9 line 4
 anew
 s = chip 1\nname soc\nbudget 5\nunit 1 w t2\nunit 1 w a\nunit 1 w b\n
 w = $w0
-memories 2 1 t2
+t2 = memory 1\nname t2\nwords 2\nbits 1\n
 a = memory 1\nname u\nwords 4\nbits 1\n
 b = memory 1\nname u\nwords 2\nbits 1\n
 15 chip C8 unit 2
 anew
 s = chip 1\nname t2_bist\nbudget 5\nunit 1 w m8\nunit 1 w t2\n
 w = $w0
-memories 8 8 m8
-memories 2 1 t2
+m8 = memory 1\nname m8\nwords 8\nbits 8\n
+t2 = memory 1\nname t2\nwords 2\nbits 1\n
 15 chip C8 unit 1
 no m8
 s = chip 1\nname one\nbudget 1\nunit 1 w t2\n
@@ -106,7 +122,7 @@ no w
 10 unit 0 absent 1
 no s
 w = $w0
-memories 2 1 t2
+t2 = memory 1\nname t2\nwords 2\nbits 1\n
 10 absent 1
 no t2
 s = chip 1\nname one\nbudget 1\nunit 1 w t2\n
@@ -116,7 +132,7 @@ w = $w0
 t2 =
 4 unit 0 memory D2
 s = chip 1\nname soc\nbudget 5\nunit 1 w t2\nunit 1 x m8\n
-memories 2 1 t2
+t2 = memory 1\nname t2\nwords 2\nbits 1\n
 x = {any(r0)}
 3 unit 1 march M7 element 0 operation 0
 no x
@@ -127,7 +143,7 @@ s = chip 1\nname t2_bist\nbudget 5\nunit 1 w t2\nunit 1 x t2\n
 # the file of a unit's march is too large
 anew
 s = chip 1\nname one\nbudget 1\nunit 1 w t2\n
-memories 2 1 t2
+t2 = memory 1\nname t2\nwords 2\nbits 1\n
 w = \1048577{\s\}
 6 unit 0 too large 1
 ";

@@ -2,20 +2,21 @@
 //!
 //! A line each, beside the lines of any rows (`rows.rt`):
 //!
-//! - `NAME = TEXT`: a file is there from here on. `$NAME` is the text of another file, and `@NAME` what stands of a file
-//!   after the last run. A name that begins with `$` is no file of the host.
+//! - `NAME = TEXT`: a file is there from here on. `$NAME` is the text of another file, `@NAME` what stands of a file after
+//!   the last run, and `@said` what was said. A name that begins with `$` is no file of the host.
 //! - `NAME swaps OLD => NEW`: the file has the one part in place of the other.
-//! - `memories WORDS BITS NAME ..`: files that describe memories of their own names.
-//! - `no NAME ..`: these aren't there any more. `anew`: no file, box or failing call is.
+//! - `no NAME`: it isn't there any more. `anew`: no file, box or failing call is, but the usual texts are.
 //! - `boxes SORT:ROOM ..`: these boxes, at each run from here on.
-//! - `fails NUMBER ..`: these calls of the host fail.
+//! - `fails NUMBER ..`: these calls of the host fail, by hexadecimal numbers.
 //! - `> COMMAND`: the command of the lines below.
 //! - `STATUS SAID`: it runs over a new host with these files, ends so, and says this line; nothing where none is given.
 //!   `STATUS+LEFT` where boxes are left. Where it is refused, each file that it names is as before. `STATUS ..` says what
 //!   a line `said == TEXT` below it tells.
 //! - `NAME == TEXT`, `NAME begins TEXT`, `NAME ends TEXT`, `NAME half TEXT`, `NAME absent`: what stands of a file now.
 
-use crate::rows::{RowLine, Text, read_lines};
+ghost use Rattle.std.specs.Prelude.{◌<◌, IfSome, length};
+
+use crate::rows::{RowLine, Text, numbers, read_lines};
 use bist_app::run;
 use bist_host::{FailHost, MemHost};
 use bist_text::decimal;
@@ -48,6 +49,8 @@ struct File<'a> {
 #[derive(Drop)]
 struct Stage<'a> {
     files: Vec<File<'a>>,
+    // How many of these are the usual texts.
+    usual: usize,
     boxes: &'a str,
     failing: &'a str,
     command: &'a str,
@@ -56,30 +59,43 @@ struct Stage<'a> {
     left: usize,
 }
 
-/// The bytes of a file before the command.
-fn bytes_of<'a>(files: &'a [File<'_>], name: &str) -> Option<&'a [u8]> {
-    for file in files {
+/// Where a file of this name stands.
+fn place_of(files: &[File<'_>], name: &str) -> Option<usize>
+    ensures { IfSome result (λ i. i < length files.now) }
+{
+    for (i, file) in files.iter().enumerate() {
         if file.name == name {
-            return file.bytes.as_deref();
+            return Some(i);
         }
     }
     None
 }
 
-/// What stands of a file after the last run.
+/// The bytes of a file before the command.
+fn bytes_of<'a>(files: &'a [File<'_>], name: &str) -> Option<&'a [u8]> {
+    match place_of(files, name) {
+        Some(i) => files[i].bytes.as_deref(),
+        None => None,
+    }
+}
+
+/// What stands of a file after the last run, or what was said.
 fn held<'a>(host: &'a FailHost, name: &str) -> Option<&'a [u8]> {
-    host.inner().get(name)
+    match name {
+        "said" => Some(host.inner().said()),
+        _ => host.inner().get(name),
+    }
 }
 
 /// From here on a file has these bytes, or isn't there.
 fn set_file<'a>(stage: &mut Stage<'a>, name: &'a str, bytes: Option<Vec<u8>>) -> Option<()> {
-    for file in &mut stage.files {
-        if file.name == name {
-            file.bytes = bytes;
-            return Some(());
+    match place_of(&stage.files, name) {
+        Some(i) => {
+            stage.files[i].bytes = bytes;
+            Some(())
         }
+        None => stage.files.push(File { name, bytes }).ok(),
     }
-    stage.files.push(File { name, bytes }).ok()
 }
 
 /// What is meant by the text of a line, and its further lines.
@@ -121,15 +137,6 @@ fn devices_of(alloc: Global, boxes: &str) -> Option<Vec<Box<dyn Device>>> {
     Some(devices)
 }
 
-/// The numbers of a line.
-fn numbers(alloc: Global, line: &str) -> Option<Vec<u64>> {
-    let mut numbers = Vec::new(alloc);
-    for word in line.split_whitespace() {
-        numbers.push(u64::from(decimal(word.as_bytes())?)).ok()?;
-    }
-    Some(numbers)
-}
-
 /// Gives a file that is there to the host.
 fn put_file(host: &mut MemHost, file: &File<'_>) -> bool {
     match &file.bytes {
@@ -138,15 +145,22 @@ fn put_file(host: &mut MemHost, file: &File<'_>) -> bool {
     }
 }
 
-/// A host with the files.
-fn host_of(alloc: Global, stage: &Stage<'_>) -> Option<FailHost> {
-    let mut inner = MemHost::new(alloc);
-    for file in &stage.files {
-        if !put_file(&mut inner, file) {
-            return None;
+/// Gives all files to the host.
+fn put_files(host: &mut MemHost, files: &[File<'_>]) -> bool {
+    for file in files {
+        if !put_file(host, file) {
+            return false;
         }
     }
-    Some(FailHost::new(inner, numbers(alloc, stage.failing)?))
+    true
+}
+
+/// A host with the files.
+fn host_of(alloc: Global, stage: &Stage<'_>) -> Option<FailHost> {
+    let failing = numbers(alloc, stage.failing)?;
+    let mut inner = MemHost::new(alloc);
+    let is_whole = put_files(&mut inner, &stage.files);
+    is_whole.then_some(FailHost::new(inner, failing))
 }
 
 /// Runs a command.
@@ -189,52 +203,38 @@ fn are_kept(stage: &Stage<'_>) -> bool {
     true
 }
 
+/// Whether the command was no refusal, or left its files as they were.
+fn leaves_files(stage: &Stage<'_>) -> bool {
+    match stage.status {
+        0 | 1 | 8 => true,
+        _ => are_kept(stage),
+    }
+}
+
 /// Runs the command, which ends so and says this line. A refusal changes no file.
 fn heed_end(alloc: Global, stage: &mut Stage<'_>, ended: &str, said: &str) -> Option<()> {
     let mut command = Text::new(alloc);
     command.put_meant(alloc, stage.command);
     run_command(alloc, stage, str::from_utf8(command.bytes()?).ok()?)?;
-    let is_kept = match stage.status {
-        0 | 1 | 8 => true,
-        _ => are_kept(stage),
-    };
-    (is_kept && is_ended(stage, ended) && is_said(stage, said)).then_some(())
+    (is_ended(stage, ended) && is_said(stage, said) && leaves_files(stage)).then_some(())
 }
 
-/// The file with one part of it in place of another.
-fn swap<'a>(alloc: Global, stage: &mut Stage<'a>, name: &'a str, parts: &str) -> Option<()> {
+/// The text with one part of it in place of another.
+fn swapped(alloc: Global, text: &str, parts: &str) -> Option<Vec<u8>> {
     let (old, new) = parts.split_once(" => ")?;
-    let text = str::from_utf8(bytes_of(&stage.files, name)?).ok()?;
     let (before, behind) = text.split_once(old)?;
     let mut swapped = Text::new(alloc);
     swapped.put(before.as_bytes());
     swapped.put(new.as_bytes());
     swapped.put(behind.as_bytes());
-    set_file(stage, name, Some(swapped.finish()?))
+    swapped.finish()
 }
 
-/// The description of a memory.
-fn memory_text(alloc: Global, name: &str, words: &str, bits: &str) -> Option<Vec<u8>> {
-    let mut text = Text::new(alloc);
-    text.put(b"memory 1\nname ");
-    text.put(name.as_bytes());
-    text.put(b"\nwords ");
-    text.put(words.as_bytes());
-    text.put(b"\nbits ");
-    text.put(bits.as_bytes());
-    text.put(b"\n");
-    text.finish()
-}
-
-/// Files that describe memories of their names and of this size.
-fn put_memories<'a>(alloc: Global, stage: &mut Stage<'a>, line: &'a str) -> Option<()> {
-    let (words, rest) = line.split_once(' ')?;
-    let (bits, names) = rest.split_once(' ')?;
-    for name in names.split(' ') {
-        let text = memory_text(alloc, name, words, bits)?;
-        set_file(stage, name, Some(text))?;
-    }
-    Some(())
+/// From here on the file has one part in place of another.
+fn swap<'a>(alloc: Global, stage: &mut Stage<'a>, name: &'a str, parts: &str) -> Option<()> {
+    let text = str::from_utf8(bytes_of(&stage.files, name)?).ok()?;
+    let bytes = swapped(alloc, text, parts)?;
+    set_file(stage, name, Some(bytes))
 }
 
 /// Whether what stands of a file is so.
@@ -267,29 +267,18 @@ fn heed_file<'a>(
     if verb == "=" {
         return set_file(stage, name, Some(text));
     }
-    if name == "said" {
-        return stands(Some(stage.host.inner().said()), verb, &text).then_some(());
-    }
     stands(held(&stage.host, name), verb, &text).then_some(())
 }
 
-/// No file but the named texts is there, no box, and no failing call.
+/// No file but the usual texts is there, no box, and no failing call.
 fn begin_anew(stage: &mut Stage<'_>) {
-    for file in &mut stage.files {
-        if !file.name.starts_with('$') {
-            file.bytes = None;
-        }
-    }
+    stage.files.truncate(stage.usual);
     stage.boxes = "";
     stage.failing = "";
 }
 
-/// These files aren't there any more.
-fn forget<'a>(stage: &mut Stage<'a>, names: &'a str) -> Option<()> {
-    for name in names.split(' ') {
-        set_file(stage, name, None)?;
-    }
-    Some(())
+fn begins_with_digit(word: &str) -> bool {
+    matches!(word.as_bytes(), [b'0'..=b'9', ..])
 }
 
 /// Does what a line says, or finds that it isn't so.
@@ -300,12 +289,9 @@ fn heed<'a>(alloc: Global, stage: &mut Stage<'a>, line: &RowLine<'a>) -> Option<
         "boxes" => stage.boxes = rest,
         "fails" => stage.failing = rest,
         "anew" => begin_anew(stage),
-        "no" => forget(stage, rest)?,
-        "memories" => put_memories(alloc, stage, rest)?,
-        _ => match first.as_bytes() {
-            [b'0'..=b'9', ..] => heed_end(alloc, stage, first, rest)?,
-            _ => heed_file(alloc, stage, first, rest, &line.more)?,
-        },
+        "no" => return set_file(stage, rest, None),
+        _ if begins_with_digit(first) => return heed_end(alloc, stage, first, rest),
+        _ => return heed_file(alloc, stage, first, rest, &line.more),
     }
     Some(())
 }
@@ -327,6 +313,7 @@ fn walk<'a>(alloc: Global, stage: &mut Stage<'a>, text: &'a str) -> Option<usize
 pub(crate) fn first_wrong(alloc: Global, text: &'static str) -> Option<usize> {
     let mut stage = Stage {
         files: Vec::new(alloc),
+        usual: 0,
         boxes: "",
         failing: "",
         command: "",
@@ -334,7 +321,9 @@ pub(crate) fn first_wrong(alloc: Global, text: &'static str) -> Option<usize> {
         status: 0,
         left: 0,
     };
-    match walk(alloc, &mut stage, USUAL) {
+    let wrong = walk(alloc, &mut stage, USUAL);
+    stage.usual = stage.files.len();
+    match wrong {
         None => walk(alloc, &mut stage, text),
         wrong => wrong,
     }

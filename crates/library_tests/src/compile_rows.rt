@@ -29,7 +29,7 @@ r ==
 | total 1 covered 0 escapes 1
 v begins
 # eight bits have four logarithmic backgrounds
-memories 16 8 d
+d = memory 1\nname d\nwords 16\nbits 8\n
 l = SF
 0 total 2 covered 2 escapes 0
 r begins march {any(w0);up(r0,w1);up(r1,w0);down(r0,w1);down(r1,w0);any(r0)}\nmemory d words 16 bits 8 backgrounds 4 commands 640\n
@@ -63,6 +63,11 @@ m = $mats
 5 fault F3 line 1
 ";
 
+#[test]
+fn compilations(rt: HostRuntime) {
+    are_right(&rt, first_wrong(rt.alloc(), COMPILE));
+}
+
 static MAKE: &str = r"# MADE
 > make 1 a b c v r
 1 made elements 6 operations 10 commands 210 covered 672 of 1008
@@ -92,11 +97,6 @@ r ends total 1008 covered 1008 escapes 0\n
 > make 0 a b c v a
 2 usage
 ";
-
-#[test]
-fn compilations(rt: HostRuntime) {
-    are_right(&rt, first_wrong(rt.alloc(), COMPILE));
-}
 
 #[test]
 fn made_inputs(rt: HostRuntime) {

@@ -1,13 +1,11 @@
 //! Dynamic primitives in parts, and what one array shows of them.
 
 ghost use Rattle.std.specs.Prelude.{◌≡◌, ◌<◌, None, IfOk};
-ghost use Rattle.march_core.specs.Visits.{FitsWord};
 
+use crate::given::{holds, march_of};
 use dynamic_core::{DynInstance, DynPrim, DynSense, dyn_one, dyn_two, print_dyn, simulate_dyn};
 use fault_core::{Act, PrimFault};
 use march_core::{March, Miss};
-use march_syntax::read_march;
-use std::test::Fail;
 
 /// A write of 1 and its read stand side by side at the end cells alone.
 const ENDS: &[u8] = b"{any(w0);up(w1);down(r1);up(w0);down(w1);up(r1)}";
@@ -40,39 +38,47 @@ fn are_others_refused(vic: DynSense) -> bool {
     matches!(two, Err(PrimFault::TooManyOperations)) && matches!(as_good, Err(PrimFault::NotAFault))
 }
 
-#[test]
-fn parts_of_dynamic_primitives(rt: HostRuntime) -> Result<(), Fail> {
-    let prim = loses_a_written_one()?;
-    assert!(rt; loses_it_at_once(&prim));
-    assert!(rt; are_others_refused(prim.vic()));
-    assert!(rt; dyn_one().len() == 30 && dyn_two().len() == 96);
-    Ok(())
+fn classes_are_whole() -> bool {
+    dyn_one().len() == 30 && dyn_two().len() == 96
 }
 
-/// Where a march first misses, of three cells, that this one loses a written one.
-fn first_miss(march: &March, directions: u64, vic: usize) -> Result<Option<Miss>, PrimFault>
-    requires fits { FitsWord march.now directions }
+/// Where a march first misses, of three cells, that one is faulty.
+fn first_miss(march: &March, prim: &DynPrim, vic: usize) -> Option<Miss>
+    requires one { prim.now.agg ≡ None }
     requires victim { vic < 3 }
 {
+    if !march.fits_directions(DOWN_AT_2_AND_4) {
+        return None;
+    }
     let instance = DynInstance {
-        prim: loses_a_written_one()?,
+        prim: *prim,
         agg: None,
         vic,
     };
     let mut cells = [false, false, false];
-    Ok(simulate_dyn(march, &instance, &mut cells, directions))
+    simulate_dyn(march, &instance, &mut cells, DOWN_AT_2_AND_4)
 }
 
-#[test]
-fn a_middle_cell_passes(rt: HostRuntime) -> Result<(), Fail> {
-    let march = read_march(ENDS)?;
-    assert!(rt; march.fits_directions(DOWN_AT_2_AND_4));
-    assert!(rt; first_miss(&march, DOWN_AT_2_AND_4, 1)?.is_none());
+/// Whether a fault of the last cell is first missed where the elements come back to it.
+fn an_end_is_caught(march: &March, prim: &DynPrim) -> bool
+    requires { prim.now.agg ≡ None }
+{
     let miss = Miss {
         element: 2,
         address: 2,
         op: 0,
     };
-    assert!(rt; first_miss(&march, DOWN_AT_2_AND_4, 2)? == Some(miss));
-    Ok(())
+    first_miss(march, prim, 2) == Some(miss)
+}
+
+#[test]
+fn dynamic_primitives(rt: HostRuntime) {
+    let prim = loses_a_written_one().expect(&rt, "a primitive");
+    let march = march_of(&rt, ENDS);
+    holds(&rt, "its parts", loses_it_at_once(&prim));
+    holds(&rt, "others", are_others_refused(prim.vic()));
+    holds(&rt, "classes", classes_are_whole());
+    holds(&rt, "directions", march.fits_directions(DOWN_AT_2_AND_4));
+    holds(&rt, "a middle cell", first_miss(&march, &prim, 1).is_none());
+    holds(&rt, "an end", an_end_is_caught(&march, &prim));
 }

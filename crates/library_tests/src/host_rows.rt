@@ -17,7 +17,7 @@ fails 3
 anew
 s = chip 1\nname one\nbudget 1\nunit 1 w t2\n
 w = $w0
-memories 2 1 t2
+t2 = memory 1\nname t2\nwords 2\nbits 1\n
 fails 1
 > chip s v
 7 read failed 1

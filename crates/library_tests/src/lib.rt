@@ -31,6 +31,8 @@ mod dynamic_rows;
 #[cfg(test)]
 mod fault_texts;
 #[cfg(test)]
+mod given;
+#[cfg(test)]
 mod host_rows;
 #[cfg(test)]
 mod hosts;
@@ -40,6 +42,8 @@ mod inword_rows;
 mod judge_rows;
 #[cfg(test)]
 mod linked_rows;
+#[cfg(test)]
+mod list_texts;
 #[cfg(test)]
 mod march_texts;
 #[cfg(test)]
@@ -51,8 +55,6 @@ mod order_rows;
 #[cfg(test)]
 mod pauses;
 #[cfg(test)]
-mod port_checks;
-#[cfg(test)]
 mod port_commands;
 #[cfg(test)]
 mod questions;
@@ -63,9 +65,9 @@ mod reports;
 #[cfg(test)]
 mod reserved_rows;
 #[cfg(test)]
-mod retention_rows;
-#[cfg(test)]
 mod rows;
+#[cfg(test)]
+mod rule_rows;
 #[cfg(test)]
 mod self_test_rows;
 #[cfg(test)]
@@ -74,6 +76,8 @@ mod show_rows;
 mod single_tests;
 #[cfg(test)]
 mod small_arrays;
+#[cfg(test)]
+mod summaries;
 #[cfg(test)]
 mod trees;
 #[cfg(test)]

@@ -2,25 +2,17 @@
 
 use crate::answers::number_text;
 use crate::refusals::refusal_text;
-use crate::rows::{Text, cut};
+use crate::rows::{Text, numbers};
 use bist_endings::{Refusal, VerilogRefusal};
-use bist_text::hex;
-use march_syntax::read_march;
-use memory_desc::read_memory;
-use rtl_gen::generate;
 use std::alloc::Global;
 use std::str;
 use verilog_cycle::{Design, elaborate};
 use verilog_emit::emit;
 use verilog_read::{read_free, read_module};
-use verilog_tree::{Module, ReadFault, TreeFault, check, fits, formed};
+use verilog_tree::{Module, ReadFault, fits, formed};
 
 fn read_refusal(alloc: Global, fault: ReadFault) -> Option<Vec<u8>> {
     refusal_text(alloc, Refusal::Verilog(VerilogRefusal::Read(fault)))
-}
-
-fn tree_refusal(alloc: Global, fault: TreeFault) -> Option<Vec<u8>> {
-    refusal_text(alloc, Refusal::Verilog(VerilogRefusal::Tree(fault)))
 }
 
 /// What is written of a module, where it fits.
@@ -64,61 +56,36 @@ pub(crate) fn free_answer(alloc: Global, text: &[u8]) -> Option<Vec<u8>> {
     }
 }
 
-/// The design of a module, or why it has none.
-fn design_of(alloc: Global, text: &[u8]) -> Option<Result<Design, TreeFault>> {
-    let module = read_module(alloc, text).ok()?;
+/// The design of a module.
+fn design_of(alloc: Global, module: Module) -> Option<Design> {
     if formed(&module) {
-        Some(elaborate(alloc, module))
+        elaborate(alloc, module).ok()
     } else {
         None
     }
 }
 
+/// The design of a text in full parentheses.
 pub(crate) fn designed(alloc: Global, text: &[u8]) -> Option<Design> {
-    design_of(alloc, text)?.ok()
+    design_of(alloc, read_module(alloc, text).ok()?)
 }
 
-pub(crate) fn design_answer(alloc: Global, text: &[u8]) -> Option<Vec<u8>> {
-    tree_refusal(alloc, design_of(alloc, text)?.err()?)
-}
-
-/// The code of the rule that a module breaks, or `ok`.
-pub(crate) fn rule_answer(alloc: Global, text: &[u8]) -> Option<Vec<u8>> {
-    let module = read_module(alloc, text).ok()?;
-    if !formed(&module) {
-        return None;
-    }
-    match check(alloc, &module) {
-        Ok(()) => b"ok".to_vec(alloc).ok(),
-        Err(fault) => cut(&tree_refusal(alloc, fault)?, b' ').0.to_vec(alloc).ok(),
-    }
-}
-
-/// What the output of a module is worth where its two inputs are 1.
-pub(crate) fn worth_answer(alloc: Global, text: &[u8]) -> Option<Vec<u8>> {
-    let module = read_free(alloc, text).ok()?;
-    if !formed(&module) || check(alloc, &module).is_err() {
-        return None;
-    }
-    let mut design = elaborate(alloc, module).ok()?;
+/// What the only output of a design is worth where its two inputs are 1.
+fn worth(design: &mut Design) -> Option<u64> {
     let inputs = [1, 1];
     if !design.inputs_fit(&inputs) {
         return None;
     }
     match *design.outputs(&inputs) {
-        [y] => number_text(alloc, y),
+        [y] => Some(y),
         _ => None,
     }
 }
 
-static MEMORY: &[u8] = b"memory 1\nname buffer\nwords 1000\nbits 64\n";
-
-/// Whether the module of a march is read as it is written.
-pub(crate) fn is_read_back(alloc: Global, march: &[u8]) -> Option<bool> {
-    let march = read_march(march).ok()?;
-    let memory = read_memory(MEMORY).ok()?;
-    let form = written(alloc, &generate(alloc, &march, &memory).ok()?)?;
-    is_free_form(alloc, &form, &form)
+/// What the output of a module is worth where its two inputs are 1.
+pub(crate) fn worth_answer(alloc: Global, text: &[u8]) -> Option<Vec<u8>> {
+    let mut design = design_of(alloc, read_free(alloc, text).ok()?)?;
+    number_text(alloc, worth(&mut design)?)
 }
 
 /// The text that has an expression in each of the four places where one may stand.
@@ -146,27 +113,23 @@ pub(crate) fn are_alike(alloc: Global, free: &[u8], whole: &[u8]) -> Option<bool
     Some(is_free_form(alloc, &text, &form)? && is_free_form(alloc, &same, &form)?)
 }
 
-/// Hexadecimal numbers with blanks between them.
-fn numbers(alloc: Global, words: &str) -> Option<Vec<u64>> {
-    let mut numbers = Vec::new(alloc);
-    for word in words.split_whitespace() {
-        numbers.push(hex(word.as_bytes())?).ok()?;
+/// Whether a cycle with these inputs shows these outputs.
+fn shows(design: &mut Design, inputs: &[u64], outputs: &[u64]) -> Option<bool> {
+    if !design.inputs_fit(inputs) {
+        return None;
     }
-    Some(numbers)
+    if design.outputs(inputs) != outputs {
+        return None;
+    }
+    Some(design.clock(inputs) == outputs)
 }
 
 /// Whether a cycle with the inputs before the mark shows the outputs behind it.
-fn shows(alloc: Global, design: &mut Design, cycle: &str) -> Option<bool> {
+fn shows_cycle(alloc: Global, design: &mut Design, cycle: &str) -> Option<bool> {
     let (inputs, outputs) = cycle.split_once('>')?;
     let inputs = numbers(alloc, inputs)?;
     let outputs = numbers(alloc, outputs)?;
-    if !design.inputs_fit(&inputs) {
-        return None;
-    }
-    if design.outputs(&inputs) != outputs.as_slice() {
-        return None;
-    }
-    Some(design.clock(&inputs) == outputs.as_slice())
+    shows(design, &inputs, &outputs)
 }
 
 /// Gives the registers these values.
@@ -182,7 +145,7 @@ fn set_registers(alloc: Global, design: &mut Design, registers: &str) -> Option<
 /// Whether a design shows these cycles, with `;` between them.
 fn shows_all(alloc: Global, design: &mut Design, cycles: &str) -> Option<bool> {
     for cycle in cycles.split(';') {
-        if !shows(alloc, design, cycle)? {
+        if !shows_cycle(alloc, design, cycle)? {
             return Some(false);
         }
     }

@@ -1,17 +1,21 @@
-//! Pauses as values: in marches, and what they do to cells.
+//! Pauses as values: in marches, what they do to cells, and to a pair of cells.
 
-ghost use Rattle.std.specs.Prelude.{◌≡◌, None, IfOk};
+ghost use Rattle.std.specs.Prelude.{◌≡◌, None};
 
-use fault_core::{Act, Places, Prim, PrimFault, Sense, pause_cells};
-use march_core::{March, MarchBuilder, MarchFault, Order};
-use std::test::Fail;
+use crate::given::{holds, one_cell_prim};
+use cell_machine::{Pair, pause};
+use fault_core::{Act, Places, Prim, pause_cells};
+use march_core::{March, MarchBuilder, MarchFault, Op, Order};
 
 /// `{any(w0);del}`.
 fn a_pause_behind_a_write() -> Result<March, MarchFault> {
     let mut builder = MarchBuilder::new();
-    builder.element(Order::Any)?;
-    builder.op(march_core::Op::W0)?;
-    builder.pause()?;
+    let is_built = builder.element(Order::Any).is_ok()
+        & builder.op(Op::W0).is_ok()
+        & builder.pause().is_ok();
+    if !is_built {
+        return Err(MarchFault::Empty);
+    }
     builder.finish()
 }
 
@@ -29,37 +33,32 @@ fn has_one_direction(march: &March) -> bool {
     march.fits_directions(0) && march.fits_directions(1 << 63) && !march.fits_directions(1 << 62)
 }
 
-#[test]
-fn a_pause_has_no_order(rt: HostRuntime) -> Result<(), Fail> {
-    let march = a_pause_behind_a_write()?;
-    assert!(rt; ends_with_pause(&march));
-    assert!(rt; has_one_direction(&march));
-    Ok(())
-}
-
-/// `<0t/1/->`.
-fn loses_zero() -> Result<Prim, PrimFault>
-    ensures { IfOk result (λ prim. prim.agg ≡ None) }
-{
-    let act = Some(Act::Pause);
-    let state = false;
-    Prim::new(None, Sense { state, act }, true, None)
-}
-
-/// The cells after the pause, where the second one loses a zero.
-fn after_pause(prim: &Prim, before: [bool; 3]) -> [bool; 3]
-    requires { prim.now.agg ≡ None }
+/// Whether the second cell loses a zero in the pause, and no other does.
+fn a_pause_is_on_no_cell(loses_zero: &Prim, before: [bool; 3]) -> bool
+    requires { loses_zero.now.agg ≡ None }
 {
     let mut cells = before;
-    pause_cells(prim, Places { agg: None, vic: 1 }, &mut cells);
-    cells
+    pause_cells(loses_zero, Places { agg: None, vic: 1 }, &mut cells);
+    cells == [false, true, false]
+}
+
+const ZEROS: Pair = Pair { a: false, v: false };
+
+const ONES: Pair = Pair { a: true, v: true };
+
+fn pauses_change_pairs(loses_zero: &Prim) -> bool {
+    pause(loses_zero, ZEROS) == Pair { a: false, v: true } && pause(loses_zero, ONES) == ONES
 }
 
 #[test]
-fn a_pause_is_on_no_cell(rt: HostRuntime) -> Result<(), Fail> {
-    let prim = loses_zero()?;
-    let after = [false, true, false];
-    assert!(rt; after_pause(&prim, [false, false, false]) == after);
-    assert!(rt; after_pause(&prim, [false, true, false]) == after);
-    Ok(())
+fn pauses_as_values(rt: HostRuntime) {
+    let march = a_pause_behind_a_write().expect(&rt, "a march");
+    let loses_zero = one_cell_prim(&rt, false, Some(Act::Pause), true);
+    let zeros = [false, false, false];
+    let one = [false, true, false];
+    holds(&rt, "a march that ends", ends_with_pause(&march));
+    holds(&rt, "its directions", has_one_direction(&march));
+    holds(&rt, "zeros", a_pause_is_on_no_cell(&loses_zero, zeros));
+    holds(&rt, "a one", a_pause_is_on_no_cell(&loses_zero, one));
+    holds(&rt, "pairs", pauses_change_pairs(&loses_zero));
 }

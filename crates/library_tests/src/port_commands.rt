@@ -1,36 +1,32 @@
 //! The commands of memories with a polarity or pauses.
 
+use crate::given::{holds, march_of, memory_of};
 use march_core::March;
-use march_syntax::read_march;
-use memory_desc::{Memory, read_memory};
-use std::test::Fail;
+use memory_desc::Memory;
 use word_march::{length, span, word_ops};
 
-/// The greatest word of the march's operations on the memory.
-fn greatest_word(march: &March, memory: &Memory) -> Option<u64> {
-    word_ops(march, memory).map(|o| o.word).max()
+/// Whether there are four commands, and 1 is the greatest word of their operations.
+fn has_its_greatest_word(march: &March, memory: &Memory) -> bool {
+    length(march, memory) == 4 && word_ops(march, memory).map(|o| o.word).max() == Some(1)
+}
+
+/// Whether a march has so many commands on the memory, and takes so many cycles.
+fn takes(march: &March, memory: &Memory, commands: u64, cycles: u64) -> bool {
+    length(march, memory) == commands && span(march, memory) == cycles
 }
 
 #[test]
-fn a_polarity_inverts_words_at_the_port_alone(rt: HostRuntime) -> Result<(), Fail> {
-    let march = read_march(b"{up(w1);down(r1)}")?;
-    let memory = read_memory(b"memory 2\nname two\nwords 2\nbits 1\npolarity 1\n")?;
-    assert!(rt; length(&march, &memory) == 4);
-    assert!(rt; greatest_word(&march, &memory) == Some(1));
-    Ok(())
-}
-
-/// Whether a march of two elements with a pause between them has so many commands on the memory of the text, and takes
-/// so many cycles.
-fn takes(text: &str, commands: u64, cycles: u64) -> Result<bool, Fail> {
-    let march = read_march(b"{any(w0);del;any(r0)}")?;
-    let memory = read_memory(text.as_bytes())?;
-    Ok(length(&march, &memory) == commands && span(&march, &memory) == cycles)
+fn a_polarity_inverts_words_at_the_port_alone(rt: HostRuntime) {
+    let march = march_of(&rt, b"{up(w1);down(r1)}");
+    let memory = memory_of(&rt, b"memory 2\nname two\nwords 2\nbits 1\npolarity 1\n");
+    holds(&rt, "words", has_its_greatest_word(&march, &memory));
 }
 
 #[test]
-fn pauses_are_no_commands_but_take_cycles(rt: HostRuntime) -> Result<(), Fail> {
-    assert!(rt; takes("memory 2\nname two\nwords 2\nbits 1\n", 4, 5)?);
-    assert!(rt; takes("memory 2\nname two\nwords 2\nbits 2\npause 5\n", 8, 18)?);
-    Ok(())
+fn pauses_are_no_commands_but_take_cycles(rt: HostRuntime) {
+    let march = march_of(&rt, b"{any(w0);del;any(r0)}");
+    let brief = memory_of(&rt, b"memory 2\nname two\nwords 2\nbits 1\n");
+    let long = memory_of(&rt, b"memory 2\nname two\nwords 2\nbits 2\npause 5\n");
+    holds(&rt, "one cycle", takes(&march, &brief, 4, 5));
+    holds(&rt, "five cycles", takes(&march, &long, 8, 18));
 }

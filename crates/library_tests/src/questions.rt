@@ -4,7 +4,7 @@
 //!   answer.
 
 use crate::answers::answer_of;
-use crate::module_answers::{are_alike, is_read_back, runs_so};
+use crate::module_answers::{are_alike, runs_so};
 use crate::rows::{RowLine, Text, read_lines};
 use std::alloc::Global;
 
@@ -36,7 +36,6 @@ fn question_of<'a>(alloc: Global, row: &RowLine<'a>) -> Question<'a> {
 /// Whether a text is answered so.
 fn is_answer(alloc: Global, kind: &str, text: &[u8], answer: &[u8]) -> Option<bool> {
     match kind {
-        "read_back" => is_read_back(alloc, text),
         "groups" => are_alike(alloc, text, answer),
         "run" => runs_so(alloc, text, answer),
         _ => Some(answer_of(alloc, kind, text)?.as_slice() == answer),

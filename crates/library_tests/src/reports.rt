@@ -1,48 +1,37 @@
-//! Reports by each call that writes one, and the verdicts that they print.
+//! Reports by each call that writes one, and the verdicts that they print. What `judge` writes is asked by its rows.
 
-use crate::calls::{MATS_PLUS, failed_transition, is_worked_escape};
+use crate::calls::is_worked_escape;
+use crate::given::{MATS_PLUS, failed_transition, holds, march_of};
 use bist_bits::NoMemory;
 use coverage::{Verdict, judge, judge_all};
 use dynamic_core::Item;
-use fault_core::{Prim, PrimFault};
+use fault_core::Prim;
 use march_core::March;
-use march_syntax::read_march;
 use report::{count_covered, judge_items, write_judged, write_mixed, write_report};
 use report_lines::total_text;
 use std::alloc::Global;
-use std::test::Fail;
 
-fn is_text(text: Vec<u8>, wanted: &[u8]) -> bool {
-    text.as_slice() == wanted
+/// Whether a cell that keeps its zero is caught, and one that keeps its one is the worked escape.
+fn are_worked_verdicts(march: &March, keeps_zero: &Prim, keeps_one: &Prim) -> bool {
+    let Verdict::Escape(escape) = judge(march, keeps_one) else {
+        return false;
+    };
+    is_worked_escape(&escape) && matches!(judge(march, keeps_zero), Verdict::Covered)
 }
 
-/// The cells that keep a zero and a one.
-fn failed_transitions() -> Result<[Prim; 2], PrimFault> {
-    Ok([failed_transition(false)?, failed_transition(true)?])
-}
-
-fn is_worked_verdict(verdict: &Verdict) -> bool {
-    match verdict {
-        Verdict::Covered => false,
-        Verdict::Escape(escape) => is_worked_escape(escape),
-    }
-}
-
-#[test]
-fn verdicts(rt: HostRuntime) -> Result<(), Fail> {
-    let march = read_march(MATS_PLUS)?;
-    let [keeps_zero, keeps_one] = failed_transitions()?;
-    assert!(rt; matches!(judge(&march, &keeps_zero), Verdict::Covered));
-    assert!(rt; is_worked_verdict(&judge(&march, &keeps_one)));
-    Ok(())
-}
-
-const REPORT: &[u8] = b"march {any(w0);up(r0,w1);down(r1,w0)}
+static REPORT: &[u8] = b"march {any(w0);up(r0,w1);down(r1,w0)}
 covered <0w1/0/-> TF
 escape <1w0/1/-> TF aggressor none victim 0 content 00 directions uud
 class TF 2 covered 1
 total 2 covered 1 escapes 1
 ";
+
+fn is_report(text: Result<Vec<u8>, NoMemory>) -> bool {
+    match text {
+        Ok(text) => text.as_slice() == REPORT,
+        Err(_) => false,
+    }
+}
 
 /// The report of primitives by their verdicts; nothing where one has none.
 fn report_of(alloc: Global, march: &March, prims: &[Prim]) -> Result<Vec<u8>, NoMemory> {
@@ -53,38 +42,49 @@ fn report_of(alloc: Global, march: &March, prims: &[Prim]) -> Result<Vec<u8>, No
     write_report(alloc, march, None, prims, &verdicts)
 }
 
-#[test]
-fn a_report_of_verdicts(rt: HostRuntime) -> Result<(), Fail> {
-    let march = read_march(MATS_PLUS)?;
-    let prims = failed_transitions()?;
-    assert!(rt; is_text(report_of(rt.alloc(), &march, &prims)?, REPORT));
-    Ok(())
-}
-
+/// The report of items that are judged first, where the march covers one of them.
 fn judged_report(alloc: Global, march: &March, items: &[Item]) -> Result<Vec<u8>, NoMemory> {
     let judged = judge_items(alloc, march, items)?;
+    if count_covered(&judged) != 1 {
+        return Ok(Vec::new(alloc));
+    }
     write_judged(alloc, march, None, &judged)
 }
 
-/// How many items the march covers.
-fn covered(alloc: Global, march: &March, items: &[Item]) -> Result<usize, NoMemory> {
-    Ok(count_covered(&judge_items(alloc, march, items)?))
+fn is_total(alloc: Global) -> bool {
+    match total_text(alloc, 5, 3) {
+        Ok(text) => text.as_slice() == b"total 5 covered 3 escapes 2\n".as_slice(),
+        Err(_) => false,
+    }
 }
 
 #[test]
-fn reports_of_items(rt: HostRuntime) -> Result<(), Fail> {
-    let march = read_march(MATS_PLUS)?;
-    let [keeps_zero, keeps_one] = failed_transitions()?;
+fn reports(rt: HostRuntime) {
+    let alloc = rt.alloc();
+    let march = march_of(&rt, MATS_PLUS);
+    let keeps_zero = failed_transition(&rt, false);
+    let keeps_one = failed_transition(&rt, true);
+    let prims = [keeps_zero, keeps_one];
     let items = [Item::Plain(keeps_zero), Item::Plain(keeps_one)];
-    assert!(rt; covered(rt.alloc(), &march, &items)? == 1);
-    assert!(rt; is_text(judged_report(rt.alloc(), &march, &items)?, REPORT));
-    assert!(rt; is_text(write_mixed(rt.alloc(), &march, None, &items)?, REPORT));
-    Ok(())
-}
-
-#[test]
-fn a_total(rt: HostRuntime) -> Result<(), Fail> {
-    let total = b"total 5 covered 3 escapes 2\n";
-    assert!(rt; is_text(total_text(rt.alloc(), 5, 3)?, total));
-    Ok(())
+    holds(
+        &rt,
+        "verdicts",
+        are_worked_verdicts(&march, &keeps_zero, &keeps_one),
+    );
+    holds(
+        &rt,
+        "by verdicts",
+        is_report(report_of(alloc, &march, &prims)),
+    );
+    holds(
+        &rt,
+        "judged items",
+        is_report(judged_report(alloc, &march, &items)),
+    );
+    holds(
+        &rt,
+        "items",
+        is_report(write_mixed(alloc, &march, None, &items)),
+    );
+    holds(&rt, "a total", is_total(alloc));
 }

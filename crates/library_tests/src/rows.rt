@@ -36,6 +36,15 @@ fn hex_byte(digits: &[u8]) -> Option<u8> {
     u8::try_from(hex(digits)?).ok()
 }
 
+/// Hexadecimal numbers with blanks between them.
+pub(crate) fn numbers(alloc: Global, words: &str) -> Option<Vec<u64>> {
+    let mut numbers = Vec::new(alloc);
+    for word in words.split_whitespace() {
+        numbers.push(hex(word.as_bytes())?).ok()?;
+    }
+    Some(numbers)
+}
+
 /// A text that is put together. Where memory lacks, an escape can't be read, or a piece is left open, it isn't whole.
 #[derive(Drop)]
 pub(crate) struct Text {

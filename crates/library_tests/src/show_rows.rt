@@ -100,6 +100,27 @@ m = {del}
 15 chip C1 line 1 byte 0
 > show module m
 14 verilog L1 byte 0
+
+# MODULES OF THE LONGEST MARCHES ARE READ AS THEY ARE WRITTEN: 256 operations in all
+anew
+d = memory 1\nname buffer\nwords 1000\nbits 64\n
+l = SF
+m = {\63{any(w0,r0,w1,r1);\}any(w0,r0,w1,r1)}
+> compile m d l v r
+0 total 2 covered 2 escapes 0
+$v = @v
+v = $v
+> show module v
+0 ..
+said == $v
+m = {\15{any(w0,r0,w1,r1,w0,r0,w1,r1,w0,r0,w1,r1,w0,r0,w1,r1);\}up(w0,r0,w1,r1,w1,r1,w0,r0,w1,r1,w0,r0,w0,r0,w1,r1)}
+> compile m d l v r
+0 total 2 covered 2 escapes 0
+$v = @v
+v = $v
+> show module v
+0 ..
+said == $v
 ";
 
 #[test]

@@ -5,15 +5,14 @@ ghost use Rattle.fault_core.specs.Cells.{FitsPlace};
 ghost use Rattle.march_core.specs.Visits.{FitsWord};
 ghost use Rattle.array_sim.specs.Run.{places_of};
 
+use crate::given::{holds, march_of};
 use array_sim::{Instance, simulate};
 use coverage::{Verdict, judge};
 use fault_core::{Prim, one_cell, two_cell};
 use march_core::March;
-use march_syntax::read_march;
-use std::test::Fail;
 
 /// Marches of four elements at most, so that every choice of directions can be walked.
-const MARCHES: [&str; 4] = [
+static MARCHES: [&str; 4] = [
     "{any(w0);up(r0,w1);down(r1,w0)}",
     "{any(w0);any(r0,w1);any(w0);down(r0,w1)}",
     "{any(w1);up(r1,w0,r0);any(r0);down(r0,w1)}",
@@ -136,11 +135,10 @@ fn are_confirmed(march: &March, prims: &[Prim]) -> bool {
 }
 
 #[test]
-fn verdicts_are_those_of_every_small_array(rt: HostRuntime) -> Result<(), Fail> {
-    for text in MARCHES {
-        let march = read_march(text.as_bytes())?;
-        assert!(rt; are_confirmed(&march, &one_cell()), "{text}");
-        assert!(rt; are_confirmed(&march, &two_cell()), "{text}");
+fn verdicts_are_those_of_every_small_array(rt: HostRuntime) {
+    for text in &MARCHES {
+        let march = march_of(&rt, text.as_bytes());
+        holds(&rt, text, are_confirmed(&march, &one_cell()));
+        holds(&rt, text, are_confirmed(&march, &two_cell()));
     }
-    Ok(())
 }

@@ -27,7 +27,7 @@ d = memory 2\nname two\nwords 2\nbits 1\npolarity 1\n
 o == w 0 0\nw 1 0\nr 1 0\nr 0 0\n
 # a word has a digit for each four bits that it begins
 m = $w0
-memories 2 9 d
+d = memory 1\nname d\nwords 2\nbits 9\n
 0 vectors 10
 o == w 0 000\nw 1 000\nw 0 0aa\nw 1 0aa\nw 0 0cc\nw 1 0cc\nw 0 0f0\nw 1 0f0\nw 0 100\nw 1 100\n
 m = $retention

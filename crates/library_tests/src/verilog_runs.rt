@@ -1,10 +1,14 @@
 //! Modules, what they do cycle by cycle, and the rules that they break.
 
+use crate::given::holds;
 use crate::module_answers::designed;
 use crate::questions::first_wrong;
 use crate::rows::are_right;
-use std::test::Fail;
+use crate::trees::name;
+use std::alloc::Global;
 use verilog_cycle::Design;
+use verilog_read::read_module;
+use verilog_tree::{Module, fits};
 
 static RUNS: &str = r"# REGISTERS
 
@@ -31,45 +35,10 @@ run ; e > 0; f > 1; 0 > 0: module m(input [3:0]a,output z);assign z=(&a);endmodu
 run ; c a > 8 e 6: module m(input [3:0]a,input [3:0]b,output [3:0]x,output [3:0]y,output [3:0]z);assign x=(a&b);assign y=(a|b);assign z=(a^b);endmodule
 run ; 3 3 > 25 3; 0 3 > 1c 1; 3 0 > 13 1; 0 0 > 25 0: module m(input [3:0]a,input [3:0]b,output [5:0]y,output [1:0]z);assign y={(a==b),(a!=b),(a<b),(a<=b),(a>b),(a>=b)};assign z={(a&&b),(a||b)};endmodule
 run ; 2 9 6 > 9 6; 4 9 6 > 9 9; 0 9 6 > 6 6: module m(input [3:0]c,input [3:0]a,input [3:0]b,output [3:0]y,output [3:0]z);assign y=(c?a:b);assign z=(c[2]?a:b);endmodule
-
-# NO DESIGN
-
-design N7 b c: module m(output y);wire b;wire c;assign y=b;assign b=c;assign c=b;endmodule
-design N7 a b: module m(output a);wire b;assign a = b;assign b = a;endmodule
-design N7 y: module m(output y);assign y=y;endmodule
-# What `check` refuses comes first.
-design N9 z: module m(output y,output z);assign y=y;endmodule
-design N4 q: module m(input clk,output reg q);always@(posedge clk)q<=1'h0;always@(posedge clk)q<=1'h1;endmodule
-
-# RULES
-
-rule ok: module m(input clk,input [3:0]a,input [2:0]b,output [3:0]y);assign y=a;endmodule
-rule N1: module m(input clk,input [3:0]a,input [2:0]b,output [3:0]y);assign y=w;endmodule
-rule N3: module m(input clk,input [3:0]a,input [2:0]b,output [3:0]y);assign y=clk;endmodule
-rule N5: module m(input clk,input [3:0]a,input [2:0]b,output [3:0]y);assign a=a;endmodule
-rule N6: module m(input clk,input [3:0]a,input [2:0]b,output [3:0]y);assign y=a[4:1];endmodule
-rule N2: module m(input clk,input [3:0]a,input [2:0]b,output [3:0]y);assign y=a;assign y=a;endmodule
-rule N3: module m(input clk,input [3:0]a,input [2:0]b,output [3:0]y);assign y=(a+b);endmodule
-rule ok: module m(input clk,input [3:0]a,input [2:0]b,output [3:0]y);assign y=(a<<b);endmodule
-rule ok: module m(input clk,input [3:0]a,input [2:0]b,output [3:0]y);assign y=(a>>b);endmodule
-rule ok: module m(input clk,input [3:0]a,input [2:0]b,output [3:0]y);assign y={3'h0,(a&&b)};endmodule
-rule ok: module m(input clk,input [3:0]a,input [2:0]b,output [3:0]y);assign y={3'h0,(a||b)};endmodule
-rule N3: module m(input clk,input [3:0]a,input [2:0]b,output [3:0]y);assign y=(a-b);endmodule
-rule N3: module m(input clk,input [3:0]a,input [2:0]b,output [3:0]y);assign y=(a&b);endmodule
-rule N3: module m(input clk,input [3:0]a,input [2:0]b,output [3:0]y);assign y=(a|b);endmodule
-rule N3: module m(input clk,input [3:0]a,input [2:0]b,output [3:0]y);assign y=(a^b);endmodule
-rule N3: module m(input clk,input [3:0]a,input [2:0]b,output [3:0]y);assign y={3'h0,(a<b)};endmodule
-rule N3: module m(input clk,input [3:0]a,input [2:0]b,output [3:0]y);assign y={3'h0,(a<=b)};endmodule
-rule N3: module m(input clk,input [3:0]a,input [2:0]b,output [3:0]y);assign y={3'h0,(a>b)};endmodule
-rule N3: module m(input clk,input [3:0]a,input [2:0]b,output [3:0]y);assign y={3'h0,(a>=b)};endmodule
-rule N3: module m(input clk,input [3:0]a,input [2:0]b,output [3:0]y);assign y={3'h0,(a==b)};endmodule
-rule N3: module m(input clk,input [3:0]a,input [2:0]b,output [3:0]y);assign y={3'h0,(a!=b)};endmodule
-rule N4: module m(input clk,input [3:0]a,input [2:0]b,output [3:0]y);reg [3:0]r;always@(posedge clk)r<=4'h9;always@(posedge clk)r<=4'h9;assign y=r;endmodule
-rule N9: module m(input clk,input [3:0]a,input [2:0]b,output [3:0]y);endmodule
 ";
 
 #[test]
-fn runs_and_rules(rt: HostRuntime) {
+fn runs(rt: HostRuntime) {
     are_right(&rt, first_wrong(rt.alloc(), RUNS));
 }
 
@@ -104,15 +73,35 @@ fn refuses_wide_values(design: &Design) -> bool {
     !design.inputs_fit(&[2]) && !design.registers_fit(&[8])
 }
 
-const NETS: &[u8] =
+static NETS: &[u8] =
     b"module m(input clk,input a,output y,output reg [2:0]q);wire b;wire c;assign y=c;assign c=b;assign b=a;always@(posedge clk)q<=3'h5;endmodule";
 
 #[test]
-fn nets(rt: HostRuntime) -> Result<(), Fail> {
-    let mut design = designed(rt.alloc(), NETS).ok_or("a design")?;
-    assert!(rt; three_nets(&design, "b", "c", "y"));
-    assert!(rt; has_its_ports(&design) && has_its_register(&design));
-    assert!(rt; takes_an_edge(&mut design));
-    assert!(rt; refuses_wide_values(&design));
-    Ok(())
+fn nets(rt: HostRuntime) {
+    let mut design = designed(rt.alloc(), NETS).expect(&rt, "a design");
+    holds(&rt, "nets", three_nets(&design, "b", "c", "y"));
+    holds(&rt, "ports", has_its_ports(&design));
+    holds(&rt, "a register", has_its_register(&design));
+    holds(&rt, "an edge", takes_an_edge(&mut design));
+    holds(&rt, "wide values", refuses_wide_values(&design));
+}
+
+/// Whether a module of this name can be printed.
+fn fits_named(alloc: Global, text: &str) -> Option<bool> {
+    let module = read_module(alloc, b"module m(input clk);endmodule").ok()?;
+    let named = Module {
+        name: name(text),
+        ..module
+    };
+    Some(fits(&named))
+}
+
+#[test]
+fn reserved_names(rt: HostRuntime) {
+    holds(&rt, "a name", fits_named(rt.alloc(), "m") == Some(true));
+    holds(
+        &rt,
+        "a word",
+        fits_named(rt.alloc(), "module") == Some(false),
+    );
 }

@@ -2,10 +2,6 @@
 
 use crate::questions::first_wrong;
 use crate::rows::are_right;
-use crate::trees::name;
-use std::alloc::Global;
-use verilog_read::read_module;
-use verilog_tree::{Module, ReadFault, fits};
 
 static TEXTS: &str = r"# CUT
 
@@ -16,6 +12,43 @@ module L2: //
 module L2: /*/
 module L2: /* module */ // m
 module L2: modul
+
+# CUT AT EACH BYTE, AND WHOLE
+
+module L2:
+module L2: m
+module L2: mo
+module L2: mod
+module L2: modu
+module L2: modul
+module L2: module
+module L2: module\s
+module L2: module m
+module L2: module m(
+module L2: module m(i
+module L2: module m(in
+module L2: module m(inp
+module L2: module m(inpu
+module L2: module m(input
+module L2: module m(input\s
+module L2: module m(input c
+module L2: module m(input cl
+module L2: module m(input clk
+module L2: module m(input clk)
+module L2: module m(input clk);
+module L2: module m(input clk);e
+module L2: module m(input clk);en
+module L2: module m(input clk);end
+module L2: module m(input clk);endm
+module L2: module m(input clk);endmo
+module L2: module m(input clk);endmod
+module L2: module m(input clk);endmodu
+module L2: module m(input clk);endmodul
+module: module m(input clk);endmodule
+| module m(
+|   input clk
+| );
+| endmodule
 
 # UNEXPECTED BYTES
 
@@ -259,41 +292,9 @@ free yes: module m(input a,input b,output y);assign y=a\256{+a\};assign y=a+a;en
 # A TREE OF 321 LEVELS IS RUN: 256 operators that lean left, within 64 braces
 
 worth 1: module m(input a,input b,output y);assign y=\64{{\}a\256{&b\}\64{}\};endmodule
-
-# MODULES OF THE LONGEST MARCHES ARE READ: 256 operations in all
-
-read_back: {\63{any(w0,r0,w1,r1);\}any(w0,r0,w1,r1)}
-read_back: {\15{any(w0,r0,w1,r1,w0,r0,w1,r1,w0,r0,w1,r1,w0,r0,w1,r1);\}up(w0,r0,w1,r1,w1,r1,w0,r0,w1,r1,w0,r0,w0,r0,w1,r1)}
 ";
 
 #[test]
 fn texts_whose_operators_bind_by_precedence(rt: HostRuntime) {
     are_right(&rt, first_wrong(rt.alloc(), FREE));
-}
-
-static EMPTY: &[u8] = b"module m(input clk);endmodule";
-
-#[test]
-fn a_text_is_cut_at_each_byte(rt: HostRuntime) {
-    for length in 0..EMPTY.len() {
-        let read = read_module(rt.alloc(), &EMPTY[..length]);
-        assert!(rt; matches!(read, Err(ReadFault::Truncated)), "{length}");
-    }
-    assert!(rt; read_module(rt.alloc(), EMPTY).is_ok());
-}
-
-/// Whether a module of this name can be printed.
-fn fits_named(alloc: Global, text: &str) -> Option<bool> {
-    let module = read_module(alloc, EMPTY).ok()?;
-    let named = Module {
-        name: name(text),
-        ..module
-    };
-    Some(fits(&named))
-}
-
-#[test]
-fn reserved_names(rt: HostRuntime) {
-    assert!(rt; fits_named(rt.alloc(), "m") == Some(true));
-    assert!(rt; fits_named(rt.alloc(), "module") == Some(false));
 }

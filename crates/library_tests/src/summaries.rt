@@ -1,28 +1,16 @@
-//! What a pause does to a pair of cells, and what some elements lead to.
+//! What some elements of a march lead to.
 
-ghost use Rattle.std.specs.Prelude.{◌≡◌, None, IsSome, IfOk};
+ghost use Rattle.std.specs.Prelude.{IsSome, IfOk};
 
-use cell_machine::{Pair, pause};
+use crate::given::{MATS_PLUS, UP_UP_DOWN, holds, march_of};
+use cell_machine::Pair;
 use fault_core::{Act, Prim, PrimFault, Sense};
 use march_core::March;
-use march_syntax::read_march;
 use pair_tracker::{Placement, Summary, Survivor};
-use std::test::Fail;
-
-const MATS_PLUS: &[u8] = b"{any(w0);up(r0,w1);down(r1,w0)}";
 
 const ZEROS: Pair = Pair { a: false, v: false };
 
 const ONES: Pair = Pair { a: true, v: true };
-
-/// `<0t/1/->`.
-fn loses_zero() -> Result<Prim, PrimFault>
-    ensures { IfOk result (λ prim. prim.agg ≡ None) }
-{
-    let act = Some(Act::Pause);
-    let state = false;
-    Prim::new(None, Sense { state, act }, true, None)
-}
 
 /// `<0w1;0/1/->`.
 fn sets_its_victim() -> Result<Prim, PrimFault>
@@ -32,17 +20,6 @@ fn sets_its_victim() -> Result<Prim, PrimFault>
     let state = false;
     let victim = Sense { state, act: None };
     Prim::new(Some(Sense { state, act }), victim, true, None)
-}
-
-fn pauses_change_pairs() -> Result<bool, PrimFault> {
-    let prim = loses_zero()?;
-    Ok(pause(&prim, ZEROS) == Pair { a: false, v: true } && pause(&prim, ONES) == ONES)
-}
-
-#[test]
-fn a_pause_of_a_pair(rt: HostRuntime) -> Result<(), Fail> {
-    assert!(rt; pauses_change_pairs()?);
-    Ok(())
 }
 
 /// Whether one run survives, which ends with this pair and had these directions.
@@ -65,12 +42,17 @@ fn elements_lead_to_ones(march: &March, prim: &Prim) -> bool
         && is_survivor(&both.ends(ONES), ONES, 0)
 }
 
+fn a_march_leads_to_zeros(march: &March, prim: &Prim) -> bool
+    requires { IsSome prim.now.agg }
+{
+    let whole = Summary::whole(march, prim, Placement::Above);
+    is_survivor(&whole.survivors([false, false]), ZEROS, UP_UP_DOWN)
+}
+
 #[test]
-fn elements_are_summed_up(rt: HostRuntime) -> Result<(), Fail> {
-    let march = read_march(MATS_PLUS)?;
-    let prim = sets_its_victim()?;
-    assert!(rt; elements_lead_to_ones(&march, &prim));
-    let whole = Summary::whole(&march, &prim, Placement::Above);
-    assert!(rt; is_survivor(&whole.survivors([false, false]), ZEROS, 1 << 61));
-    Ok(())
+fn elements_are_summed_up(rt: HostRuntime) {
+    let march = march_of(&rt, MATS_PLUS);
+    let prim = sets_its_victim().expect(&rt, "a primitive");
+    holds(&rt, "elements", elements_lead_to_ones(&march, &prim));
+    holds(&rt, "a march", a_march_leads_to_zeros(&march, &prim));
 }
