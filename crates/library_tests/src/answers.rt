@@ -1,7 +1,7 @@
 //! The answers of the readers as text: what is read, as it is printed or counted, or why the text is refused. What `show`
 //! says of a file is asked by rows of commands instead.
 
-use crate::module_answers::{free_answer, module_answer, worth_answer};
+use crate::module_answers::{free_answer, module_answer};
 use crate::refusals::refusal_text;
 use crate::rows::Text;
 use bist_endings::Refusal;
@@ -13,7 +13,7 @@ use std::alloc::Global;
 use verilog_read::read_module;
 
 /// A number in decimal.
-pub(crate) fn number_text(alloc: Global, number: u64) -> Option<Vec<u8>> {
+fn number_text(alloc: Global, number: u64) -> Option<Vec<u8>> {
     let mut text = Text::new(alloc);
     text.put_number(number);
     text.finish()
@@ -39,13 +39,13 @@ fn list_answer(alloc: Global, text: &[u8]) -> Option<Vec<u8>> {
     }
 }
 
-/// The latency, the polarity with all its digits, and the pause of a memory.
+/// The latency, the polarity and the pause of a memory.
 fn timed_answer(alloc: Global, text: &[u8]) -> Option<Vec<u8>> {
     let memory = read_memory(text).ok()?;
     let mut answer = Text::new(alloc);
     answer.put_number(u64::from(memory.latency()));
     answer.put(b" ");
-    answer.put_long(memory.polarity());
+    answer.put_number(memory.polarity());
     answer.put(b" ");
     answer.put_number(u64::from(memory.pause()));
     answer.finish()
@@ -72,7 +72,6 @@ pub(crate) fn answer_of(alloc: Global, kind: &str, text: &[u8]) -> Option<Vec<u8
         "module" => module_answer(alloc, text),
         "free" => free_answer(alloc, text),
         "wrong" => wrong_answer(alloc, text),
-        "worth" => worth_answer(alloc, text),
         _ => None,
     }
 }

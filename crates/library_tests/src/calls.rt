@@ -4,7 +4,7 @@
 ghost use Rattle.std.specs.Prelude.{◌≡◌, None};
 
 use crate::given::{
-    MATS_PLUS, UP_UP_DOWN, failed_transition, holds, march_of, memory_of, one_cell_prim,
+    MATS_PLUS, UP_UP_DOWN, all_hold, failed_transition, march_of, memory_of, one_cell_prim,
 };
 use crate::trees::name;
 use array_sim::act_of;
@@ -25,27 +25,11 @@ use std::alloc::Global;
 use verilog_tree::{BinOp, UnOp, binary_width, is_name, unary_width};
 use word_march::{PortOp, WordOp, length, port_ops, word_ops};
 
-fn bits_are_joined_and_selected() -> bool {
-    let joined = concat(&Bits::new(2, 0b10), &Bits::new(1, 0b1));
-    joined.width() == 3
-        && joined.value() == 0b101
-        && select(&Bits::new(4, 0b1101), 2, 1) == Bits::new(2, 0b10)
-        && Bits::try_new(4, 16).is_none()
-}
-
-fn numbers_have_bits() -> bool {
-    parity(7) && width_of(0) == 1 && width_of(8) == 4 && all_ones(5) == 31
-}
-
 /// `a`, `b` and byte 128.
 const LETTERS: ByteSet = ByteSet {
     low: 0b11 << 97,
     high: 1,
 };
-
-fn letters_are_a_set() -> bool {
-    LETTERS.contains(b'b') && !LETTERS.contains(b'c') && LETTERS.contains(128)
-}
 
 /// Whether a cursor finds the letters behind a byte and two blanks, and then the end.
 fn a_cursor_finds_letters() -> bool {
@@ -79,10 +63,6 @@ fn lines_come_in_order() -> bool {
         && lines.next().is_none()
 }
 
-fn numbers_are_read() -> bool {
-    decimal(b"0042") == Some(42) && decimal(b"").is_none() && hex(b"fF") == Some(255)
-}
-
 fn numbers_are_put(alloc: Global) -> bool {
     let mut out = Vec::new(alloc);
     let is_put = put_decimal(&mut out, 120).is_ok()
@@ -92,14 +72,35 @@ fn numbers_are_put(alloc: Global) -> bool {
 }
 
 #[test]
-fn bits_and_texts(rt: HostRuntime) {
-    holds(&rt, "bit vectors", bits_are_joined_and_selected());
-    holds(&rt, "bits of numbers", numbers_have_bits());
-    holds(&rt, "a set of letters", letters_are_a_set());
-    holds(&rt, "a cursor", a_cursor_finds_letters());
-    holds(&rt, "lines", lines_come_in_order());
-    holds(&rt, "numbers that are read", numbers_are_read());
-    holds(&rt, "numbers that are put", numbers_are_put(rt.alloc()));
+fn bits(rt: HostRuntime) {
+    let joined = concat(&Bits::new(2, 0b10), &Bits::new(1, 0b1));
+    let claims = [
+        joined.width() == 3,
+        joined.value() == 0b101,
+        select(&Bits::new(4, 0b1101), 2, 1) == Bits::new(2, 0b10),
+        Bits::try_new(4, 16).is_none(),
+        parity(7),
+        width_of(0) == 1,
+        width_of(8) == 4,
+        all_ones(5) == 31,
+    ];
+    all_hold(&rt, &claims);
+}
+
+#[test]
+fn texts(rt: HostRuntime) {
+    let claims = [
+        LETTERS.contains(b'b'),
+        !LETTERS.contains(b'c'),
+        LETTERS.contains(128),
+        a_cursor_finds_letters(),
+        lines_come_in_order(),
+        decimal(b"0042") == Some(42),
+        decimal(b"").is_none(),
+        hex(b"fF") == Some(255),
+        numbers_are_put(rt.alloc()),
+    ];
+    all_hold(&rt, &claims);
 }
 
 fn two_elements() -> Result<March, MarchFault> {
@@ -115,10 +116,6 @@ fn two_elements() -> Result<March, MarchFault> {
     builder.finish()
 }
 
-fn an_empty_march_is_refused() -> bool {
-    matches!(MarchBuilder::new().finish(), Err(MarchFault::Empty))
-}
-
 fn has_two_elements(march: &March) -> bool {
     march.len() == 2
         && march.order(1) == Order::Up
@@ -131,32 +128,32 @@ fn fits_its_directions(march: &March) -> bool {
     march.fits_directions(0) && march.fits_directions(1 << 63) && !march.fits_directions(1 << 62)
 }
 
-fn operations_have_bits() -> bool {
-    Op::W1.written() == Some(true)
-        && Op::R0.expected() == Some(false)
-        && Op::W0.writes()
-        && Op::R1.data_value()
-}
-
-fn operations_are_acts() -> bool {
-    act_of(Op::R1) == Act::Read
-        && is_wrong(Op::R1, Some(false))
-        && !is_same_act(Act::Write(true), Act::Write(false))
-}
-
-fn directions_are_bits() -> bool {
-    is_down(UP_UP_DOWN, 2) && address_of(true, 1, 4) == 2
+#[test]
+fn marches(rt: HostRuntime) {
+    let march = two_elements().expect(&rt, "a march");
+    let empty = MarchBuilder::new().finish();
+    let claims = [
+        matches!(empty, Err(MarchFault::Empty)),
+        has_two_elements(&march),
+        fits_its_directions(&march),
+        is_down(UP_UP_DOWN, 2),
+        address_of(true, 1, 4) == 2,
+    ];
+    all_hold(&rt, &claims);
 }
 
 #[test]
-fn marches_and_operations(rt: HostRuntime) {
-    let march = two_elements().expect(&rt, "a march");
-    holds(&rt, "an empty march", an_empty_march_is_refused());
-    holds(&rt, "two elements", has_two_elements(&march));
-    holds(&rt, "directions", fits_its_directions(&march));
-    holds(&rt, "bits of operations", operations_have_bits());
-    holds(&rt, "acts", operations_are_acts());
-    holds(&rt, "a direction word", directions_are_bits());
+fn operations(rt: HostRuntime) {
+    let claims = [
+        Op::W1.written() == Some(true),
+        Op::R0.expected() == Some(false),
+        Op::W0.writes(),
+        Op::R1.data_value(),
+        act_of(Op::R1) == Act::Read,
+        is_wrong(Op::R1, Some(false)),
+        !is_same_act(Act::Write(true), Act::Write(false)),
+    ];
+    all_hold(&rt, &claims);
 }
 
 fn keeps_a_zero(prim: &Prim) -> bool {
@@ -173,18 +170,6 @@ fn last_classes() -> Option<(Class, Class)> {
     let ones = one_cell();
     let twos = two_cell();
     Some((class_of(ones.last()?), class_of(twos.last()?)))
-}
-
-fn primitives_have_classes(keeps_zero: &Prim) -> bool {
-    class_of(keeps_zero) == Class::TF
-        && members(Class::CFds).len() == 12
-        && last_classes() == Some((Class::IRF, Class::CFir))
-}
-
-fn pairs_are_faulty(keeps_zero: &Prim, loses_zero: &Prim) -> bool {
-    let zeros = Pair { a: false, v: false };
-    act(keeps_zero, zeros, Side::V, Act::Write(true)) == (zeros, None)
-        && close(loses_zero, zeros) == Pair { a: false, v: true }
 }
 
 fn a_cell_keeps_its_zero(keeps_zero: &Prim) -> bool
@@ -208,14 +193,29 @@ fn a_cell_loses_its_zero(loses_zero: &Prim) -> bool
 }
 
 #[test]
-fn primitives_and_cells(rt: HostRuntime) {
+fn primitives(rt: HostRuntime) {
+    let keeps_zero = failed_transition(&rt, false);
+    let claims = [
+        keeps_a_zero(&keeps_zero),
+        class_of(&keeps_zero) == Class::TF,
+        members(Class::CFds).len() == 12,
+        last_classes() == Some((Class::IRF, Class::CFir)),
+    ];
+    all_hold(&rt, &claims);
+}
+
+#[test]
+fn acts_on_cells(rt: HostRuntime) {
     let keeps_zero = failed_transition(&rt, false);
     let loses_zero = one_cell_prim(&rt, false, None, true);
-    holds(&rt, "its parts", keeps_a_zero(&keeps_zero));
-    holds(&rt, "classes", primitives_have_classes(&keeps_zero));
-    holds(&rt, "pairs", pairs_are_faulty(&keeps_zero, &loses_zero));
-    holds(&rt, "a kept zero", a_cell_keeps_its_zero(&keeps_zero));
-    holds(&rt, "a lost zero", a_cell_loses_its_zero(&loses_zero));
+    let zeros = Pair { a: false, v: false };
+    let claims = [
+        act(&keeps_zero, zeros, Side::V, Act::Write(true)) == (zeros, None),
+        close(&loses_zero, zeros) == Pair { a: false, v: true },
+        a_cell_keeps_its_zero(&keeps_zero),
+        a_cell_loses_its_zero(&loses_zero),
+    ];
+    all_hold(&rt, &claims);
 }
 
 /// Whether a cell that keeps its one passes a march in this way alone.
@@ -266,16 +266,13 @@ fn arrays_of_two_cells(rt: HostRuntime) {
     let pair = Pair { a: false, v: true };
     let directions = UP_UP_DOWN;
     let survivor = Survivor { pair, directions };
-    holds(
+    all_hold(
         &rt,
-        "survivors",
-        survives_alone(&march, &keeps_one, survivor),
-    );
-    holds(&rt, "an escape", an_escape_is_found(&march, &keeps_one));
-    holds(
-        &rt,
-        "none",
-        catches_a_kept_zero(&march, &keeps_zero, directions),
+        &[
+            survives_alone(&march, &keeps_one, survivor),
+            an_escape_is_found(&march, &keeps_one),
+            catches_a_kept_zero(&march, &keeps_zero, directions),
+        ],
     );
 }
 
@@ -317,10 +314,6 @@ fn like_rows_depend() -> bool {
     matches!(invert(&matrix), Err(Dependence { rows: 0b11 }))
 }
 
-fn identity_moves_nothing() -> bool {
-    Scramble::identity(3).logical_of(5) == 5
-}
-
 fn narrow_words_have_sets() -> bool {
     log_set(1).as_slice() == [0].as_slice()
         && log_set(5).as_slice() == [0x00, 0x0a, 0x0c, 0x10].as_slice()
@@ -334,20 +327,26 @@ fn the_widest_word_has_a_set() -> bool {
         && widest.last() == Some(&0xffff_ffff_0000_0000)
 }
 
-fn backgrounds_separate_bits() -> bool {
-    word_of(0x0a, true, 5) == 0x15
-        && separates(&[0x00, 0x0a], 0, 1)
-        && !separates(&[0x00, 0x0a], 0, 2)
+#[test]
+fn scramblings(rt: HostRuntime) {
+    let claims = [
+        a_matrix_is_inverted(),
+        like_rows_depend(),
+        Scramble::identity(3).logical_of(5) == 5,
+    ];
+    all_hold(&rt, &claims);
 }
 
 #[test]
-fn scramblings_and_backgrounds(rt: HostRuntime) {
-    holds(&rt, "a matrix", a_matrix_is_inverted());
-    holds(&rt, "like rows", like_rows_depend());
-    holds(&rt, "the identity", identity_moves_nothing());
-    holds(&rt, "sets of narrow words", narrow_words_have_sets());
-    holds(&rt, "the set of the widest", the_widest_word_has_a_set());
-    holds(&rt, "words of backgrounds", backgrounds_separate_bits());
+fn words_of_backgrounds(rt: HostRuntime) {
+    let claims = [
+        narrow_words_have_sets(),
+        the_widest_word_has_a_set(),
+        word_of(0x0a, true, 5) == 0x15,
+        separates(&[0x00, 0x0a], 0, 1),
+        !separates(&[0x00, 0x0a], 0, 2),
+    ];
+    all_hold(&rt, &claims);
 }
 
 /// Whether there are eight commands, and which is the third of them.
@@ -359,25 +358,26 @@ fn has_its_third_command(march: &March, memory: &Memory) -> bool {
         && port_ops(march, memory).nth(2) == Some(PortOp { write, addr, word })
 }
 
-fn some_texts_are_names() -> bool {
-    is_name(&name("buffer_1")) && !is_name(&name("buf")) && !is_name(&name("1st"))
-}
-
-fn operators_have_widths() -> bool {
-    unary_width(UnOp::Invert, 4) == 4
-        && unary_width(UnOp::Parity, 4) == 1
-        && binary_width(BinOp::Shl, 4) == 4
-        && binary_width(BinOp::Lt, 4) == 1
-}
-
 #[test]
-fn commands_and_trees(rt: HostRuntime) {
+fn commands_of_a_memory(rt: HostRuntime) {
     let march = march_of(&rt, b"{any(w1);down(r1)}");
     let memory = memory_of(
         &rt,
         b"memory 1\nname s4\nwords 4\nbits 1\nscramble a0 = p0 ^ p1\nscramble a1 = p1\n",
     );
-    holds(&rt, "commands", has_its_third_command(&march, &memory));
-    holds(&rt, "names", some_texts_are_names());
-    holds(&rt, "widths of operators", operators_have_widths());
+    all_hold(&rt, &[has_its_third_command(&march, &memory)]);
+}
+
+#[test]
+fn names_and_operators(rt: HostRuntime) {
+    let claims = [
+        is_name(&name("buffer_1")),
+        !is_name(&name("buf")),
+        !is_name(&name("1st")),
+        unary_width(UnOp::Invert, 4) == 4,
+        unary_width(UnOp::Parity, 4) == 1,
+        binary_width(BinOp::Shl, 4) == 4,
+        binary_width(BinOp::Lt, 4) == 1,
+    ];
+    all_hold(&rt, &claims);
 }

@@ -1,6 +1,6 @@
 //! The microcode of marches, its steps, and what the controller shows at the ports.
 
-use crate::given::{MATS_PLUS, holds, march_of, memory_of};
+use crate::given::{MATS_PLUS, all_hold, march_of, memory_of};
 use controller::Control;
 use march_core::March;
 use memory_desc::Memory;
@@ -66,9 +66,14 @@ fn takes_its_steps(march: &March) -> bool {
 #[test]
 fn codes_and_steps(rt: HostRuntime) {
     let march = march_of(&rt, MATS_PLUS);
-    holds(&rt, "codes", is_coded(&march, &[9, 0, 13, 6, 11]));
-    holds(&rt, "a pause", a_pause_is_coded());
-    holds(&rt, "steps", takes_its_steps(&march));
+    all_hold(
+        &rt,
+        &[
+            is_coded(&march, &[9, 0, 13, 6, 11]),
+            a_pause_is_coded(),
+            takes_its_steps(&march),
+        ],
+    );
 }
 
 /// Whether the ports show the commands in these cycles, and that the march is done from this one on.
@@ -91,25 +96,13 @@ fn shows_its_cycles(march: &March, memory: &Memory, commands: &[u64], done: u8) 
 fn cycles_of_the_controller(rt: HostRuntime) {
     let march = march_of(&rt, b"{any(w0)}");
     let memory = memory_of(&rt, b"memory 1\nname two\nwords 2\nbits 1\n");
-    holds(
-        &rt,
-        "a write",
-        shows_its_cycles(&march, &memory, &[1, 2], 4),
-    );
+    all_hold(&rt, &[shows_its_cycles(&march, &memory, &[1, 2], 4)]);
     let march = march_of(&rt, b"{any(w0);del;any(r0)}");
     let memory = memory_of(&rt, b"memory 2\nname two\nwords 2\nbits 1\npause 5\n");
-    holds(
-        &rt,
-        "a pause",
-        shows_its_cycles(&march, &memory, &[1, 2, 8, 9], 11),
-    );
+    all_hold(&rt, &[shows_its_cycles(&march, &memory, &[1, 2, 8, 9], 11)]);
     let march = march_of(&rt, b"{any(w0);any(r0)}");
     let memory = memory_of(&rt, b"memory 2\nname two\nwords 2\nbits 1\nlatency 4\n");
-    holds(
-        &rt,
-        "a latency",
-        shows_its_cycles(&march, &memory, &[1, 2, 3, 4], 9),
-    );
+    all_hold(&rt, &[shows_its_cycles(&march, &memory, &[1, 2, 3, 4], 9)]);
 }
 
 /// Whether the march fails from the cycle after the fifth on, in which alone the word is wrong.
@@ -131,5 +124,5 @@ fn fails_from_the_sixth(march: &March, memory: &Memory) -> bool {
 fn a_wrong_answer_fails(rt: HostRuntime) {
     let march = march_of(&rt, b"{any(w0);any(r0)}");
     let memory = memory_of(&rt, b"memory 2\nname two\nwords 2\nbits 1\nlatency 2\n");
-    holds(&rt, "a failure", fails_from_the_sixth(&march, &memory));
+    all_hold(&rt, &[fails_from_the_sixth(&march, &memory)]);
 }

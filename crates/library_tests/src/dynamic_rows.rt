@@ -2,7 +2,7 @@
 
 ghost use Rattle.std.specs.Prelude.{◌≡◌, ◌<◌, None, IfOk};
 
-use crate::given::{holds, march_of};
+use crate::given::{all_hold, march_of};
 use dynamic_core::{DynInstance, DynPrim, DynSense, dyn_one, dyn_two, print_dyn, simulate_dyn};
 use fault_core::{Act, PrimFault};
 use march_core::{March, Miss};
@@ -75,10 +75,15 @@ fn an_end_is_caught(march: &March, prim: &DynPrim) -> bool
 fn dynamic_primitives(rt: HostRuntime) {
     let prim = loses_a_written_one().expect(&rt, "a primitive");
     let march = march_of(&rt, ENDS);
-    holds(&rt, "its parts", loses_it_at_once(&prim));
-    holds(&rt, "others", are_others_refused(prim.vic()));
-    holds(&rt, "classes", classes_are_whole());
-    holds(&rt, "directions", march.fits_directions(DOWN_AT_2_AND_4));
-    holds(&rt, "a middle cell", first_miss(&march, &prim, 1).is_none());
-    holds(&rt, "an end", an_end_is_caught(&march, &prim));
+    all_hold(
+        &rt,
+        &[
+            loses_it_at_once(&prim),
+            are_others_refused(prim.vic()),
+            classes_are_whole(),
+            march.fits_directions(DOWN_AT_2_AND_4),
+            first_miss(&march, &prim, 1).is_none(),
+            an_end_is_caught(&march, &prim),
+        ],
+    );
 }

@@ -2,6 +2,7 @@
 
 ghost use Rattle.std.specs.Prelude.{◌≡◌, None};
 
+use crate::rows::are_right;
 use fault_core::{Act, Prim, Sense};
 use march_core::March;
 use march_syntax::read_march;
@@ -13,9 +14,19 @@ pub(crate) const MATS_PLUS: &[u8] = b"{any(w0);up(r0,w1);down(r1,w0)}";
 /// The direction word in which the third element alone goes downward.
 pub(crate) const UP_UP_DOWN: u64 = 1 << 61;
 
-/// Ends the test where this isn't so.
-pub(crate) fn holds(rt: &impl Abort, what: &str, is_so: bool) {
-    assert!(rt; is_so, "{what}");
+/// The place of the first that isn't so.
+fn first_false(claims: &[bool]) -> Option<usize> {
+    for (i, claim) in claims.iter().enumerate() {
+        if !*claim {
+            return Some(i);
+        }
+    }
+    None
+}
+
+/// Ends the test where one of these isn't so, with its place among them.
+pub(crate) fn all_hold(rt: &impl Abort, claims: &[bool]) {
+    are_right(rt, first_false(claims));
 }
 
 /// The march of a text.

@@ -1,6 +1,6 @@
 //! The hosts in memory, without and with failing calls.
 
-use crate::given::holds;
+use crate::given::all_hold;
 use bist_host::{FailHost, Host, HostFault, MemHost};
 use std::alloc::Global;
 
@@ -47,16 +47,13 @@ fn holds_what_came_before(host: &MemHost) -> bool {
 fn hosts_in_memory(rt: HostRuntime) {
     let failing = [2, 4, 6].to_vec(rt.alloc()).expect(&rt, "numbers");
     let mut host = FailHost::new(MemHost::new(rt.alloc()), failing);
-    holds(&rt, "no call fails", keeps_the_last_text(rt.alloc()));
-    holds(&rt, "the second fails", the_second_call_fails(&mut host));
-    holds(
+    all_hold(
         &rt,
-        "the fourth and sixth fail",
-        the_next_writes_fail(&mut host),
-    );
-    holds(
-        &rt,
-        "what came before",
-        holds_what_came_before(host.inner()),
+        &[
+            keeps_the_last_text(rt.alloc()),
+            the_second_call_fails(&mut host),
+            the_next_writes_fail(&mut host),
+            holds_what_came_before(host.inner()),
+        ],
     );
 }

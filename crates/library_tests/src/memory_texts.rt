@@ -242,10 +242,10 @@ fn memories(rt: HostRuntime) {
 
 static TIMED: &str = r"# LATENCY, POLARITY AND PAUSE
 
-timed 1 0000000000000000 1: memory 2\nname two\nwords 2\nbits 1\nlatency 1\npolarity 0\npause 1\n
-timed 3 000000000000000f 1: memory 2\npolarity F\nlatency 3\nname n\nwords 3\nbits 8\nbackgrounds 0\n
-timed 1 0000000000000000 500: memory 2\npause 500 # cycles\nname n\nwords 2\nbits 1\nscramble a0 = p0 ^ 1\n
-timed 4 ffffffffffffffff 65535: memory 2\nname b23456789_123456789_123456789_123456789_12345678\nwords 65536\nbits 64\nlatency 4\npolarity FFFFFFFFFFFFFFFF\npause 65535\nbackgrounds FFFFFFFFFFFFFFFF 8000000000000000 ffffffff 0 aaaaaaaaaaaaaaaa CCCCCCCCCCCCCCCC 1 f0f0f0f0f0f0f0f0\n
+timed 1 0 1: memory 2\nname two\nwords 2\nbits 1\nlatency 1\npolarity 0\npause 1\n
+timed 3 15 1: memory 2\npolarity F\nlatency 3\nname n\nwords 3\nbits 8\nbackgrounds 0\n
+timed 1 0 500: memory 2\npause 500 # cycles\nname n\nwords 2\nbits 1\nscramble a0 = p0 ^ 1\n
+timed 4 18446744073709551615 65535: memory 2\nname b23456789_123456789_123456789_123456789_12345678\nwords 65536\nbits 64\nlatency 4\npolarity FFFFFFFFFFFFFFFF\npause 65535\nbackgrounds FFFFFFFFFFFFFFFF 8000000000000000 ffffffff 0 aaaaaaaaaaaaaaaa CCCCCCCCCCCCCCCC 1 f0f0f0f0f0f0f0f0\n
 ";
 
 #[test]

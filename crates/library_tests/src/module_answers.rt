@@ -1,6 +1,5 @@
 //! The answers to rows on modules, as text: what is read, what a module does, or why it is refused.
 
-use crate::answers::number_text;
 use crate::refusals::refusal_text;
 use crate::rows::{Text, numbers};
 use bist_endings::{Refusal, VerilogRefusal};
@@ -56,36 +55,13 @@ pub(crate) fn free_answer(alloc: Global, text: &[u8]) -> Option<Vec<u8>> {
     }
 }
 
-/// The design of a module.
-fn design_of(alloc: Global, module: Module) -> Option<Design> {
-    if formed(&module) {
-        elaborate(alloc, module).ok()
-    } else {
-        None
-    }
-}
-
-/// The design of a text in full parentheses.
+/// The design of a module whose operators may bind by precedence.
 pub(crate) fn designed(alloc: Global, text: &[u8]) -> Option<Design> {
-    design_of(alloc, read_module(alloc, text).ok()?)
-}
-
-/// What the only output of a design is worth where its two inputs are 1.
-fn worth(design: &mut Design) -> Option<u64> {
-    let inputs = [1, 1];
-    if !design.inputs_fit(&inputs) {
+    let module = read_free(alloc, text).ok()?;
+    if !formed(&module) {
         return None;
     }
-    match *design.outputs(&inputs) {
-        [y] => Some(y),
-        _ => None,
-    }
-}
-
-/// What the output of a module is worth where its two inputs are 1.
-pub(crate) fn worth_answer(alloc: Global, text: &[u8]) -> Option<Vec<u8>> {
-    let mut design = design_of(alloc, read_free(alloc, text).ok()?)?;
-    number_text(alloc, worth(&mut design)?)
+    elaborate(alloc, module).ok()
 }
 
 /// The text that has an expression in each of the four places where one may stand.

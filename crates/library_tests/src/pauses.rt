@@ -2,7 +2,7 @@
 
 ghost use Rattle.std.specs.Prelude.{◌≡◌, None};
 
-use crate::given::{holds, one_cell_prim};
+use crate::given::{all_hold, one_cell_prim};
 use cell_machine::{Pair, pause};
 use fault_core::{Act, Places, Prim, pause_cells};
 use march_core::{March, MarchBuilder, MarchFault, Op, Order};
@@ -56,9 +56,14 @@ fn pauses_as_values(rt: HostRuntime) {
     let loses_zero = one_cell_prim(&rt, false, Some(Act::Pause), true);
     let zeros = [false, false, false];
     let one = [false, true, false];
-    holds(&rt, "a march that ends", ends_with_pause(&march));
-    holds(&rt, "its directions", has_one_direction(&march));
-    holds(&rt, "zeros", a_pause_is_on_no_cell(&loses_zero, zeros));
-    holds(&rt, "a one", a_pause_is_on_no_cell(&loses_zero, one));
-    holds(&rt, "pairs", pauses_change_pairs(&loses_zero));
+    all_hold(
+        &rt,
+        &[
+            ends_with_pause(&march),
+            has_one_direction(&march),
+            a_pause_is_on_no_cell(&loses_zero, zeros),
+            a_pause_is_on_no_cell(&loses_zero, one),
+            pauses_change_pairs(&loses_zero),
+        ],
+    );
 }

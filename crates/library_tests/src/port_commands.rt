@@ -1,6 +1,6 @@
 //! The commands of memories with a polarity or pauses.
 
-use crate::given::{holds, march_of, memory_of};
+use crate::given::{all_hold, march_of, memory_of};
 use march_core::March;
 use memory_desc::Memory;
 use word_march::{length, span, word_ops};
@@ -19,7 +19,7 @@ fn takes(march: &March, memory: &Memory, commands: u64, cycles: u64) -> bool {
 fn a_polarity_inverts_words_at_the_port_alone(rt: HostRuntime) {
     let march = march_of(&rt, b"{up(w1);down(r1)}");
     let memory = memory_of(&rt, b"memory 2\nname two\nwords 2\nbits 1\npolarity 1\n");
-    holds(&rt, "words", has_its_greatest_word(&march, &memory));
+    all_hold(&rt, &[has_its_greatest_word(&march, &memory)]);
 }
 
 #[test]
@@ -27,6 +27,8 @@ fn pauses_are_no_commands_but_take_cycles(rt: HostRuntime) {
     let march = march_of(&rt, b"{any(w0);del;any(r0)}");
     let brief = memory_of(&rt, b"memory 2\nname two\nwords 2\nbits 1\n");
     let long = memory_of(&rt, b"memory 2\nname two\nwords 2\nbits 2\npause 5\n");
-    holds(&rt, "one cycle", takes(&march, &brief, 4, 5));
-    holds(&rt, "five cycles", takes(&march, &long, 8, 18));
+    all_hold(
+        &rt,
+        &[takes(&march, &brief, 4, 5), takes(&march, &long, 8, 18)],
+    );
 }

@@ -1,7 +1,7 @@
 //! Reports by each call that writes one, and the verdicts that they print. What `judge` writes is asked by its rows.
 
 use crate::calls::is_worked_escape;
-use crate::given::{MATS_PLUS, failed_transition, holds, march_of};
+use crate::given::{MATS_PLUS, all_hold, failed_transition, march_of};
 use bist_bits::NoMemory;
 use coverage::{Verdict, judge, judge_all};
 use dynamic_core::Item;
@@ -66,25 +66,14 @@ fn reports(rt: HostRuntime) {
     let keeps_one = failed_transition(&rt, true);
     let prims = [keeps_zero, keeps_one];
     let items = [Item::Plain(keeps_zero), Item::Plain(keeps_one)];
-    holds(
+    all_hold(
         &rt,
-        "verdicts",
-        are_worked_verdicts(&march, &keeps_zero, &keeps_one),
+        &[
+            are_worked_verdicts(&march, &keeps_zero, &keeps_one),
+            is_report(report_of(alloc, &march, &prims)),
+            is_report(judged_report(alloc, &march, &items)),
+            is_report(write_mixed(alloc, &march, None, &items)),
+            is_total(alloc),
+        ],
     );
-    holds(
-        &rt,
-        "by verdicts",
-        is_report(report_of(alloc, &march, &prims)),
-    );
-    holds(
-        &rt,
-        "judged items",
-        is_report(judged_report(alloc, &march, &items)),
-    );
-    holds(
-        &rt,
-        "items",
-        is_report(write_mixed(alloc, &march, None, &items)),
-    );
-    holds(&rt, "a total", is_total(alloc));
 }

@@ -6,7 +6,7 @@
 //! In a text `\n`, `\r` and `\t` are what they are in Rust, `\s` is a blank, `\xe2` the byte 226, and
 //! `\64{any(w0);\}` so many times what stands between the braces.
 
-use bist_text::{decimal, hex, put_decimal, put_hex};
+use bist_text::{decimal, hex, put_decimal};
 use std::alloc::Global;
 use std::process::Abort;
 
@@ -113,13 +113,6 @@ impl Text {
     /// Appends a number in decimal.
     pub(crate) fn put_number(&mut self, number: u64) {
         if put_decimal(&mut self.bytes, number).is_err() {
-            self.whole = false;
-        }
-    }
-
-    /// Appends a number in hexadecimal, with all of 16 digits.
-    pub(crate) fn put_long(&mut self, number: u64) {
-        if put_hex(&mut self.bytes, number, 16).is_err() {
             self.whole = false;
         }
     }

@@ -1,6 +1,6 @@
 //! What rows can't say: real files, and the words of a box.
 
-use crate::given::{MATS_PLUS, holds, memory_of};
+use crate::given::{MATS_PLUS, all_hold, memory_of};
 use bist_app::run;
 use bist_host::{Host, RealHost};
 use memory_desc::Memory;
@@ -30,7 +30,7 @@ fn real_files(rt: HostRuntime) {
     let is_written = host.write_file(name, MATS_PLUS).is_ok();
     let status = sim_of(rt.alloc(), name, &mut host);
     let is_gone = fs::remove_file(&rt, name).is_ok();
-    holds(&rt, "a file", is_written & is_gone & (status == 1));
+    all_hold(&rt, &[is_written & is_gone & (status == 1)]);
 }
 
 /// The words that a box of two words answers to two commands, once it is filled with the words of this number.
@@ -62,7 +62,7 @@ fn a_write_is_answered_by_zero(rt: HostRuntime) {
     let memory = memory_of(&rt, b"memory 2\nname wide\nwords 2\nbits 8\npause 65535\n");
     let commands = (&command(true, 1, 0xa5), &command(false, 1, 0xa5));
     let answers = answers_of(rt.alloc(), &memory, 0x7e7e, commands);
-    holds(&rt, "the word behind it", answers == Some((0, 0xa5)));
+    all_hold(&rt, &[answers == Some((0, 0xa5))]);
 }
 
 #[test]
@@ -70,9 +70,5 @@ fn the_words_of_a_number(rt: HostRuntime) {
     let memory = memory_of(&rt, b"memory 1\nname wide\nwords 2\nbits 64\n");
     let commands = (&command(false, 0, 0), &command(false, 1, 0));
     let answers = answers_of(rt.alloc(), &memory, 0x1_0000_0001, commands);
-    holds(
-        &rt,
-        "both words",
-        answers == Some((0x1_0000_0000, 0x3_0000_0000)),
-    );
+    all_hold(&rt, &[answers == Some((0x1_0000_0000, 0x3_0000_0000))]);
 }

@@ -5,19 +5,11 @@ ghost use Rattle.fault_core.specs.Cells.{FitsPlace};
 ghost use Rattle.march_core.specs.Visits.{FitsWord};
 ghost use Rattle.array_sim.specs.Run.{places_of};
 
-use crate::given::{holds, march_of};
+use crate::given::{MATS_PLUS, all_hold, march_of};
 use array_sim::{Instance, simulate};
 use coverage::{Verdict, judge};
 use fault_core::{Prim, one_cell, two_cell};
 use march_core::March;
-
-/// Marches of four elements at most, so that every choice of directions can be walked.
-static MARCHES: [&str; 4] = [
-    "{any(w0);up(r0,w1);down(r1,w0)}",
-    "{any(w0);any(r0,w1);any(w0);down(r0,w1)}",
-    "{any(w1);up(r1,w0,r0);any(r0);down(r0,w1)}",
-    "{any(w0);any(w0,r0);any(w1,r1,w1,r1)}",
-];
 
 /// The instance of a primitive with its victim in one cell and, where it has an aggressor, that in another.
 fn instance_at(prim: &Prim, agg: usize, vic: usize, size: usize) -> Instance
@@ -134,11 +126,23 @@ fn are_confirmed(march: &March, prims: &[Prim]) -> bool {
     true
 }
 
+/// Whether it is so for each static primitive.
+fn are_all_confirmed(march: &March) -> bool {
+    are_confirmed(march, &one_cell()) && are_confirmed(march, &two_cell())
+}
+
+/// Marches of four elements at most, so that every choice of directions can be walked.
 #[test]
 fn verdicts_are_those_of_every_small_array(rt: HostRuntime) {
-    for text in &MARCHES {
-        let march = march_of(&rt, text.as_bytes());
-        holds(&rt, text, are_confirmed(&march, &one_cell()));
-        holds(&rt, text, are_confirmed(&march, &two_cell()));
-    }
+    let mats = march_of(&rt, MATS_PLUS);
+    let any = march_of(&rt, b"{any(w0);any(r0,w1);any(w0);down(r0,w1)}");
+    let long = march_of(&rt, b"{any(w1);up(r1,w0,r0);any(r0);down(r0,w1)}");
+    let again = march_of(&rt, b"{any(w0);any(w0,r0);any(w1,r1,w1,r1)}");
+    let claims = [
+        are_all_confirmed(&mats),
+        are_all_confirmed(&any),
+        are_all_confirmed(&long),
+        are_all_confirmed(&again),
+    ];
+    all_hold(&rt, &claims);
 }

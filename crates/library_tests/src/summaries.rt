@@ -2,7 +2,7 @@
 
 ghost use Rattle.std.specs.Prelude.{IsSome, IfOk};
 
-use crate::given::{MATS_PLUS, UP_UP_DOWN, holds, march_of};
+use crate::given::{MATS_PLUS, UP_UP_DOWN, all_hold, march_of};
 use cell_machine::Pair;
 use fault_core::{Act, Prim, PrimFault, Sense};
 use march_core::March;
@@ -53,6 +53,11 @@ fn a_march_leads_to_zeros(march: &March, prim: &Prim) -> bool
 fn elements_are_summed_up(rt: HostRuntime) {
     let march = march_of(&rt, MATS_PLUS);
     let prim = sets_its_victim().expect(&rt, "a primitive");
-    holds(&rt, "elements", elements_lead_to_ones(&march, &prim));
-    holds(&rt, "a march", a_march_leads_to_zeros(&march, &prim));
+    all_hold(
+        &rt,
+        &[
+            elements_lead_to_ones(&march, &prim),
+            a_march_leads_to_zeros(&march, &prim),
+        ],
+    );
 }

@@ -1,6 +1,6 @@
 //! Modules, what they do cycle by cycle, and the rules that they break.
 
-use crate::given::holds;
+use crate::given::all_hold;
 use crate::module_answers::designed;
 use crate::questions::first_wrong;
 use crate::rows::are_right;
@@ -35,6 +35,10 @@ run ; e > 0; f > 1; 0 > 0: module m(input [3:0]a,output z);assign z=(&a);endmodu
 run ; c a > 8 e 6: module m(input [3:0]a,input [3:0]b,output [3:0]x,output [3:0]y,output [3:0]z);assign x=(a&b);assign y=(a|b);assign z=(a^b);endmodule
 run ; 3 3 > 25 3; 0 3 > 1c 1; 3 0 > 13 1; 0 0 > 25 0: module m(input [3:0]a,input [3:0]b,output [5:0]y,output [1:0]z);assign y={(a==b),(a!=b),(a<b),(a<=b),(a>b),(a>=b)};assign z={(a&&b),(a||b)};endmodule
 run ; 2 9 6 > 9 6; 4 9 6 > 9 9; 0 9 6 > 6 6: module m(input [3:0]c,input [3:0]a,input [3:0]b,output [3:0]y,output [3:0]z);assign y=(c?a:b);assign z=(c[2]?a:b);endmodule
+
+# A TREE OF 321 LEVELS IS RUN: 256 operators that lean left, within 64 braces
+
+run ; 1 1 > 1: module m(input a,input b,output y);assign y=\64{{\}a\256{&b\}\64{}\};endmodule
 ";
 
 #[test]
@@ -79,11 +83,16 @@ static NETS: &[u8] =
 #[test]
 fn nets(rt: HostRuntime) {
     let mut design = designed(rt.alloc(), NETS).expect(&rt, "a design");
-    holds(&rt, "nets", three_nets(&design, "b", "c", "y"));
-    holds(&rt, "ports", has_its_ports(&design));
-    holds(&rt, "a register", has_its_register(&design));
-    holds(&rt, "an edge", takes_an_edge(&mut design));
-    holds(&rt, "wide values", refuses_wide_values(&design));
+    all_hold(
+        &rt,
+        &[
+            three_nets(&design, "b", "c", "y"),
+            has_its_ports(&design),
+            has_its_register(&design),
+            takes_an_edge(&mut design),
+            refuses_wide_values(&design),
+        ],
+    );
 }
 
 /// Whether a module of this name can be printed.
@@ -98,10 +107,11 @@ fn fits_named(alloc: Global, text: &str) -> Option<bool> {
 
 #[test]
 fn reserved_names(rt: HostRuntime) {
-    holds(&rt, "a name", fits_named(rt.alloc(), "m") == Some(true));
-    holds(
+    all_hold(
         &rt,
-        "a word",
-        fits_named(rt.alloc(), "module") == Some(false),
+        &[
+            fits_named(rt.alloc(), "m") == Some(true),
+            fits_named(rt.alloc(), "module") == Some(false),
+        ],
     );
 }

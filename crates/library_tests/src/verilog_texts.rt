@@ -288,10 +288,6 @@ free yes: module m(input a,input b,output y);assign y=a\256{?a:a\};endmodule
 free yes: module m(input a,input b,output y);assign y=!a\127{+!a\}+a;endmodule
 free yes: module m(input a,input b,output y);assign y=a\128{||a&&a\};endmodule
 free yes: module m(input a,input b,output y);assign y=a\256{+a\};assign y=a+a;endmodule
-
-# A TREE OF 321 LEVELS IS RUN: 256 operators that lean left, within 64 braces
-
-worth 1: module m(input a,input b,output y);assign y=\64{{\}a\256{&b\}\64{}\};endmodule
 ";
 
 #[test]
