@@ -98,6 +98,13 @@ fn set_file<'a>(stage: &mut Stage<'a>, name: &'a str, bytes: Option<Vec<u8>>) ->
     }
 }
 
+/// From here on a file that is there isn't there any more.
+fn forget(stage: &mut Stage<'_>, name: &str) -> Option<()> {
+    let place = place_of(&stage.files, name)?;
+    stage.files[place].bytes = None;
+    Some(())
+}
+
 /// What is meant by the text of a line, and its further lines.
 fn text_of(alloc: Global, stage: &Stage<'_>, text: &str, more: &Text) -> Option<Vec<u8>> {
     let mut meant = Text::new(alloc);
@@ -289,7 +296,7 @@ fn heed<'a>(alloc: Global, stage: &mut Stage<'a>, line: &RowLine<'a>) -> Option<
         "boxes" => stage.boxes = rest,
         "fails" => stage.failing = rest,
         "anew" => begin_anew(stage),
-        "no" => return set_file(stage, rest, None),
+        "no" => forget(stage, rest)?,
         _ if begins_with_digit(first) => return heed_end(alloc, stage, first, rest),
         _ => return heed_file(alloc, stage, first, rest, &line.more),
     }

@@ -1,4 +1,4 @@
-//! Modules, what they do cycle by cycle, and the rules that they break.
+//! Modules, and what they do cycle by cycle.
 
 use crate::given::all_hold;
 use crate::module_answers::designed;
