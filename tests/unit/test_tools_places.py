@@ -203,6 +203,12 @@ class Proofs(Placed):
         told = self.added(plain + "  assign q[0] = d[0];\n", plain)
         self.assertTrue(told and all(line.endswith("had more than one driver") for line in told), told)
 
+    def test_functions_of_the_process(self) -> None:
+        """Yosys would call a function of C that a source names, in its own process."""
+        called = '  import "DPI-C" function integer getpid();\n  assign more = getpid();\n'
+        with self.assertRaisesRegex(ToolError, "yosys refuses it: .*getpid"):
+            self.added("  assign more = 1'b0;\n", called)
+
     def test_gate_of_a_clock_that_the_test_opens(self) -> None:
         """In use the test is 0, so what it opens is what it was."""
         gate = "  reg open;\n  always @* if (!clk) open = {};\n  core one(.clk(clk & open)"
