@@ -203,6 +203,37 @@ class Proofs(Placed):
         told = self.added(plain + "  assign q[0] = d[0];\n", plain)
         self.assertTrue(told and all(line.endswith("had more than one driver") for line in told), told)
 
+    def test_first_values(self) -> None:
+        """A flip-flop, a latch and a word begin with what they began with."""
+        same = ["soc: in use each memory, each flip-flop and each output has what it had"]
+        flip = "  reg it = 1'b1;\n  always @(posedge clk) it <= ~it;\n  assign more = it;\n"
+        latch = "  reg it = 1'b1;\n  always @* if (ce) it = a[0];\n  assign more = it;\n"
+        words = "  reg it [0:1];\n  initial it[1] = 1'b1;\n  always @(posedge clk) it[a[0]] <= ce;\n  assign more = it[d[0]];\n"
+        for text, name in ((flip, "it"), (latch, "it"), (words, "it[1]")):
+            self.assertEqual(self.added(text, text), same)
+            told = self.added(text, text.replace("= 1'b1;", "= 1'b0;", 1))
+            self.assertIn(f"soc: in use {name} begins with 1'b0, and began with 1'b1", told)
+        told = self.added(flip, flip.replace(" = 1'b1;", ";", 1))
+        self.assertIn("soc: in use it begins with 1'bx, and began with 1'b1", told)
+
+    def test_parts_that_no_source_describes(self) -> None:
+        """Of such a part the pins are compared, its module and its parameters, also where it has no output."""
+        parts = "(* blackbox *) module meter(input a); parameter P = 1; endmodule\n"
+        parts += "(* blackbox *) module gauge(input a); parameter P = 1; endmodule\n"
+        (self.folder / "parts.v").write_text(parts)
+        named = self.PROVED + "source @/parts.v\nbefore @/parts.v\n"
+        (self.folder / "before.v").write_text(BEFORE.replace(SUM, SUM + "  meter it(.a(ce));\n"))
+        other = "it is of another module, or has other parameters, than before"
+        for part, why in {
+            "meter it(.a(ce));": "each memory, each flip-flop and each output has what it had",
+            "meter it(.a(clk));": "it.a is not what it was",
+            "gauge it(.a(ce));": other,
+            "meter #(2) it(.a(ce));": other,
+            "": "it is not there any more",
+        }.items():
+            told = self.places(named, AFTER.replace(SUM, f"{SUM}  {part}\n"))[1]
+            self.assertIn(f"soc: in use {why}", told)
+
     def test_functions_of_the_process(self) -> None:
         """Yosys would call a function of C that a source names, in its own process."""
         called = '  import "DPI-C" function integer getpid();\n  assign more = getpid();\n'

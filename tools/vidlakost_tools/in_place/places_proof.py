@@ -15,6 +15,7 @@ from vidlakost_tools.chip.system import Placed
 from vidlakost_tools.collar.model import boxes
 from vidlakost_tools.collar.pins import Pin, literal
 from vidlakost_tools.in_place.place_list import Places
+from vidlakost_tools.in_place.places_first import beginnings_of, other_beginnings
 from vidlakost_tools.in_place.sequencer import PlaceTarget
 from vidlakost_tools.in_place.text import box
 from vidlakost_tools.text import beside, template
@@ -112,6 +113,7 @@ class Proof:
             off=yosys.quoted(self.folder / "off.v"),
             renamed="\n".join(f"rename {path} place_{numbers[name]}" for name, path in paths.items()),
             side=side,
+            first=yosys.quoted(self.folder / f"{side}_first.json"),
             json=yosys.quoted(self.folder / f"{side}.json"),
             left_out="".join(f"delete -port {side}/w:{name}\n" for name in left_out),
         )
@@ -168,6 +170,7 @@ class Proof:
                 found.append(f"{self.named(port)} has another direction or width than before")
             elif [bit == "z" for bit in gate.ports[port][1]] != [bit == "z" for bit in bits]:
                 found.append(f"{self.named(port)} is not what it was")
+        found += self.other_beginnings()
         if found:
             return found
         sides = self.script("gold", [port for port in gold.ports if port in beside])
@@ -178,6 +181,10 @@ class Proof:
             with contextlib.suppress(yosys.Slow):
                 return self.unproved(sides + PROOF.replace("equiv_status", "equiv_induct -undef\nequiv_status"))
         return left
+
+    def other_beginnings(self) -> list[str]:
+        gold, gate = (beginnings_of(self.folder / f"{side}_first.json", self.places.chip) for side in ("gold", "gate"))
+        return other_beginnings(gold, gate, [place.was for place in self.places.places.values()])
 
     def unproved(self, script: str) -> list[str]:
         """What Yosys did not prove to be the same on both sides."""
