@@ -191,8 +191,10 @@ class Proofs(Placed):
         never = ["soc: in use more is not what it was"]
         self.assertEqual(self.added("  assign more = 1'bz;\n", "  assign more = 1'b0;\n"), never)
         chosen = "  reg it;\n  always @* case (a) 0: it = ce; 1: it = d[0]; 2: it = d[1]; default: it = 1'bz; endcase\n"
-        with self.assertRaisesRegex(ToolError, "board has a `z`"):
-            self.added(chosen + "  assign more = it;\n", chosen + "  assign more = it;\n")
+        kept = "  reg it;\n  always @(posedge clk) if (ce) it <= d[0]; else it <= 1'bz;\n"
+        for before, after in ((chosen, chosen), (kept, kept.replace("ce", "a[0]"))):
+            with self.assertRaisesRegex(ToolError, "board has a `z`"):
+                self.added(before + "  assign more = it;\n", after + "  assign more = it;\n")
 
     def test_nets_with_two_drivers(self) -> None:
         """What two drivers make of a net is proved of nothing."""

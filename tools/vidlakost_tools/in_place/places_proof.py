@@ -47,7 +47,8 @@ def side_of(path: pathlib.Path, name: str) -> Side:
     told = json.loads(path.read_text(encoding="utf-8"))["modules"][name]
     ports = {port: (one["direction"], one["bits"]) for port, one in told["ports"].items()}
     cells = told["cells"].values()
-    is_off = any("z" in bits for cell in cells for bits in cell["connections"].values())
+    # a driver whose net has no name stays inside, where Yosys takes any value for it
+    is_off = any(cell["type"] == "places_off" or "z" in sum(cell["connections"].values(), []) for cell in cells)
     return Side(ports, any(cell["type"] == "$ff" for cell in cells), is_off)
 
 
@@ -158,7 +159,7 @@ class Proof:
         gold, gate = side_of(self.folder / "gold.json", "gold"), side_of(self.folder / "gate.json", "gate")
         if gold.is_off_inside or gate.is_off_inside:
             chip = self.places.chip
-            raise ToolError(f"{chip} has a `z` that is no answer of `ENABLE ? VALUE : 'bz`, and isn't compared", 1)
+            raise ToolError(f"{chip} has a `z` that no net of its own has from `ENABLE ? VALUE : 'bz`, and isn't compared", 1)
         beside = self.not_compared()
         found = self.tied(gold)
         for port, (way, bits) in gold.ports.items():
