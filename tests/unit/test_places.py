@@ -91,7 +91,7 @@ class InPlace(unittest.TestCase):
         (self.folder / "camera.v").write_text(chip.replace(old, new))
         said = (CASE / "camera.places").read_text().replace("source examples/in_place", f"source {self.folder}")
         target = system_of()
-        return places_proof.differences(target, read_places(self.text(said), target.system))
+        return places_proof.differences(target, read_places(self.text(said), target.system))[0]
 
     @unittest.skipUnless(shutil.which("yosys"), "yosys is not installed")
     def test_proof(self) -> None:

@@ -3,6 +3,7 @@ from __future__ import annotations
 
 import subprocess
 import unittest
+import unittest.mock
 
 from tests.unit.controllers import needs
 from tests.unit.test_tools_chips import NAMES, Chips
@@ -205,12 +206,26 @@ class Proofs(Placed):
         told = self.added(plain + "  assign q[0] = d[0];\n", plain)
         self.assertTrue(told and all(line.endswith("had more than one driver") for line in told), told)
 
+    def test_gate_that_yosys_takes_for_another(self) -> None:
+        gate = "  notif0 (more, d[0], ce);\n"
+        with self.assertRaisesRegex(ToolError, "Yosys takes notif0 for notif1"):
+            self.added(gate, gate.replace("notif0", "notif1"))
+
+    def test_set_beside_a_reset(self) -> None:
+        """Yosys does not say which of both wins, so the tool says that it is open."""
+        flip = "  reg it;\n  always @(posedge clk or negedge ce or negedge wen[0])\n"
+        flip += "    if (!ce) it <= 1'b0; else if (!wen[0]) it <= 1'b1; else it <= d[0];\n  assign more = it;\n"
+        with unittest.mock.patch("vidlakost_tools.commands.places.tell") as tell:
+            self.added(flip, flip)
+        tell.assert_called_once_with("places: not compared: whether the set or the reset of it wins where both act")
+
     def test_first_values(self) -> None:
         """A flip-flop, a latch and a word begin with what they began with."""
         same = ["soc: in use each memory, each flip-flop and each output has what it had"]
         flip = "  reg it = 1'b1;\n  always @(posedge clk) it <= ~it;\n  assign more = it;\n"
         latch = "  reg it = 1'b1;\n  always @* if (ce) it = a[0];\n  assign more = it;\n"
-        words = "  reg it [0:1];\n  initial it[1] = 1'b1;\n  always @(posedge clk) it[a[0]] <= ce;\n  assign more = it[d[0]];\n"
+        words = "  reg it [0:1];\n  initial it[1] = 1'b1;\n  always @(posedge clk) it[a[0]] <= ce;\n"
+        words += "  assign more = it[d[0]];\n"
         for text, name in ((flip, "it"), (latch, "it"), (words, "it[1]")):
             self.assertEqual(self.added(text, text), same)
             told = self.added(text, text.replace("= 1'b1;", "= 1'b0;", 1))

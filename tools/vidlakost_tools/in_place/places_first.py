@@ -35,7 +35,7 @@ def is_part(kind: str) -> bool:
 
 
 def other_beginnings(gold: Beginnings, gate: Beginnings, memories: Sequence[str]) -> list[str]:
-    """What begins otherwise than before, and the parts that are of another kind; the memories are compared elsewhere."""
+    """What begins otherwise than before, and the parts that are of another kind; memories are compared elsewhere."""
     found = [
         f"{name} begins with {shown(gate.nets[name])}, and began with {shown(first)}"
         for name, first in gold.nets.items()

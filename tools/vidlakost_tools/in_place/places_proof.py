@@ -18,9 +18,10 @@ from vidlakost_tools.in_place.place_list import Places
 from vidlakost_tools.in_place.places_first import beginnings_of, other_beginnings
 from vidlakost_tools.in_place.sequencer import PlaceTarget
 from vidlakost_tools.in_place.text import box
-from vidlakost_tools.text import beside, template
+from vidlakost_tools.text import beside, shown, template
 from vidlakost_tools.tool import ToolError
 from vidlakost_tools.verilog import yosys
+from vidlakost_tools.verilog.source_texts import blanked, with_included
 
 # of one side: its boxes, its sources, its top, what its memories are called, and the name that the module gets
 SIDE = template(__file__, "places_proof_side.sv")
@@ -30,6 +31,8 @@ OFF = beside(__file__, "places_proof_off.v")
 OFF_BOX = "module places_off(input value, input on, output net); endmodule\n"
 OFF_PIN = re.compile(r"(.*)\$tribuf\.bits\[(\d+)\]\.off\.(value|on|net)")
 TWO_DRIVERS = re.compile(r"Warning: multiple conflicting drivers for \S+?\.\\?(\S+)(?: \[(\d+)\])?:")
+# Yosys takes an asynchronous reset beside a set for the stronger one, whichever the source names first
+BOTH = re.compile(r"Warning: Complex async reset for dff `\\?(\S+)'\.")
 UNPROVED = re.compile(r"Unproven \$equiv .*?: \\?(\S+)_gold(?: \[(\d+)\])?")
 
 
@@ -57,6 +60,7 @@ class Proof:
 
     def __init__(self, target: PlaceTarget, places: Places, folder: pathlib.Path):
         self.target, self.places, self.folder = target, places, folder
+        self.both: dict[str, None] = {}
         self.collars = {placed.name: placed for placed in target.system.collars}
         words = {placed.word.name: placed for placed in target.system.collars}
         macros = boxes([placed.macro for placed in target.system.collars])
@@ -129,7 +133,9 @@ class Proof:
 
     def driven_twice(self, side: str, when: str) -> list[str]:
         """The bits of a side that have more than one driver: no value of theirs could be compared."""
-        pairs = [TWO_DRIVERS.search(line) for line in yosys.run(self.script(side, []), self.folder)]
+        lines = yosys.run(self.script(side, []), self.folder)
+        self.both.update((found[1], None) for found in map(BOTH.search, lines) if found)
+        pairs = [TWO_DRIVERS.search(line) for line in lines]
         return [f"{self.named(found[1], found[2])} {when} more than one driver" for found in pairs if found]
 
     def tied(self, gold: Side) -> list[str]:
@@ -159,7 +165,8 @@ class Proof:
         gold, gate = side_of(self.folder / "gold.json", "gold"), side_of(self.folder / "gate.json", "gate")
         if gold.is_off_inside or gate.is_off_inside:
             chip = self.places.chip
-            raise ToolError(f"{chip} has a `z` that no net of its own has from `ENABLE ? VALUE : 'bz`, and isn't compared", 1)
+            why = "that no net of its own has from `ENABLE ? VALUE : 'bz`, and isn't compared"
+            raise ToolError(f"{chip} has a `z` {why}", 1)
         beside = self.not_compared()
         found = self.tied(gold)
         for port, (way, bits) in gold.ports.items():
@@ -197,6 +204,16 @@ class Proof:
         return list(dict.fromkeys(left))
 
 
+def refuse_misread(files: list[str]) -> None:
+    """Refuses what Yosys reads otherwise than a simulator, so that two chips could seem to be equal."""
+    for file, source in with_included(files):
+        found = re.search(r"\bnotif0\b", blanked(source)[0])
+        if found:
+            line = blanked(source)[0].count("\n", 0, found.start()) + 1
+            why = "Yosys takes notif0 for notif1; `assign` with `? :` says what is meant"
+            raise ToolError(f"{shown(file)}:{line}: {why}")
+
+
 def is_tied(gold: Side, pin: Pin, placed: Placed, number: int) -> bool:
     """Whether an input had what the file of pins says."""
     bits = gold.ports[f"place_{number}.{pin.name}"][1]
@@ -208,7 +225,10 @@ def is_tied(gold: Side, pin: Pin, placed: Placed, number: int) -> bool:
     return there is not None and bits == there[1]
 
 
-def differences(target: PlaceTarget, places: Places) -> list[str]:
-    """What is another in use than it was."""
+def differences(target: PlaceTarget, places: Places) -> tuple[list[str], list[str]]:
+    """What is another in use than it was, and the flip-flops of which it is open what they do while both their set and
+    their reset act."""
+    refuse_misread([*places.before, *places.sources])
     with tempfile.TemporaryDirectory() as folder:
-        return Proof(target, places, pathlib.Path(folder)).differences()
+        proof = Proof(target, places, pathlib.Path(folder))
+        return proof.differences(), list(proof.both)
