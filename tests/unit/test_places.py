@@ -112,7 +112,7 @@ class InPlace(unittest.TestCase):
         said = (CASE / "camera.places").read_text()
         said = said.replace("before examples/in_place/camera_before.v", f"before {self.folder}/before.v")
         target = system_of()
-        found = places_proof.differences(target, read_places(self.text(said), target.system))
+        found, _ = places_proof.differences(target, read_places(self.text(said), target.system))
         self.assertEqual(found, ["mode of kept is tied to 2'b01 by the file of pins, and was not before"])
 
     # ---- the run
