@@ -73,18 +73,18 @@ modelled = $(if $(CELLS),read_liberty -ignore_miss_func $(CELLS); write_verilog 
 # a flip-flop begins with a bit by chance: gates of a few kinds hand an unknown one on where the module does not
 drawn = sed -i 's/^  reg \([A-Za-z_0-9]*\);/  reg \1 = $$random;/' cells.v
 # the netlist of the module $(1), of the files $(2) beside the boxes $(3): simulated as the module was, but for what is planted
-netlist = yosys -q -p "read_verilog $(SYNTH_MORE) -lib $(3); read_verilog $(SYNTH_MORE) $(2); \
+netlist = yosys -q -p "read_verilog -nodpi $(SYNTH_MORE) -lib $(3); read_verilog -nodpi $(SYNTH_MORE) $(2); \
   synth -flatten -top $(1); $(mapped); check -assert; write_verilog -noattr $(1)_gates.v" >gates.log 2>&1 && \
   $(if $(CELLS),yosys -q -p "$(modelled)" >>gates.log 2>&1 && $(drawn),true) || { tail -n 5 gates.log; exit 1; }
 # what other tools say of the module $(1) of the files $(2) beside the boxes $(3): what lint does, and how many cells it takes
 linted = verilator --lint-only -Wall -Wno-DECLFILENAME $(LINT_MORE) --top-module $(1) $(2) $(3) >lint.txt 2>&1 || \
   { cat lint.txt; exit 1; }
-synthesized = yosys -q -E synthesis.d -p "read_verilog $(SYNTH_MORE) -lib $(3); read_verilog $(SYNTH_MORE) $(2); \
+synthesized = yosys -q -E synthesis.d -p "read_verilog -nodpi $(SYNTH_MORE) -lib $(3); read_verilog -nodpi $(SYNTH_MORE) $(2); \
   synth -top $(1); $(mapped); check -assert; write_verilog -noattr $(1)_cells.v; \
   tee -q -o synthesis.txt $(counted)" >synthesis.log 2>&1 || { tail -n 5 synthesis.log; exit 1; }; \
   sed 's/^[^:]*: //' synthesis.d | xargs -n 1 >synthesis.txt.read
 # that module as cells, by the constraints $(4) in OpenSTA, which may tell of the pins of macros in the list $(5) alone
-timed = rm -f sta.txt && yosys -q -p "read_verilog $(SYNTH_MORE) -lib $(3); read_verilog $(SYNTH_MORE) $(2); synth -flatten -top $(1); \
+timed = rm -f sta.txt && yosys -q -p "read_verilog -nodpi $(SYNTH_MORE) -lib $(3); read_verilog -nodpi $(SYNTH_MORE) $(2); synth -flatten -top $(1); \
   $(mapped); splitnets -ports; clean; write_verilog -noattr $(1)_timed.v" >sta.log 2>&1 && \
   { for file in $(CELLS) $(MACRO_CELLS); do echo "read_liberty $$file"; done; \
   printf '%s\n' "read_verilog $(1)_timed.v" "link_design $(1)" "read_sdc $(4)" \
