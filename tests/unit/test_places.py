@@ -91,7 +91,7 @@ class InPlace(unittest.TestCase):
         (self.folder / "camera.v").write_text(chip.replace(old, new))
         said = (CASE / "camera.places").read_text().replace("source examples/in_place", f"source {self.folder}")
         target = system_of()
-        return places_proof.differences(target, read_places(self.text(said), target.system))[0]
+        return places_proof.differences(target, read_places(self.text(said), target.system))
 
     @unittest.skipUnless(shutil.which("yosys"), "yosys is not installed")
     def test_proof(self) -> None:
@@ -112,7 +112,7 @@ class InPlace(unittest.TestCase):
         said = (CASE / "camera.places").read_text()
         said = said.replace("before examples/in_place/camera_before.v", f"before {self.folder}/before.v")
         target = system_of()
-        found, _ = places_proof.differences(target, read_places(self.text(said), target.system))
+        found = places_proof.differences(target, read_places(self.text(said), target.system))
         self.assertEqual(found, ["mode of kept is tied to 2'b01 by the file of pins, and was not before"])
 
     # ---- the run

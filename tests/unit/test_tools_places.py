@@ -3,7 +3,6 @@ from __future__ import annotations
 
 import subprocess
 import unittest
-import unittest.mock
 
 from tests.unit.controllers import needs
 from tests.unit.test_tools_chips import NAMES, Chips
@@ -212,12 +211,16 @@ class Proofs(Placed):
             self.added(gate, gate.replace("notif0", "notif1"))
 
     def test_set_beside_a_reset(self) -> None:
-        """Yosys does not say which of both wins, so the tool says that it is open."""
+        """Yosys does not say which of both wins, so such a block has to be word by word what it was."""
         flip = "  reg it;\n  always @(posedge clk or negedge ce or negedge wen[0])\n"
         flip += "    if (!ce) it <= 1'b0; else if (!wen[0]) it <= 1'b1; else it <= d[0];\n  assign more = it;\n"
-        with unittest.mock.patch("vidlakost_tools.commands.places.tell") as tell:
-            self.added(flip, flip)
-        tell.assert_called_once_with("places: not compared: whether the set or the reset of it wins where both act")
+        same = ["soc: in use each memory, each flip-flop and each output has what it had"]
+        spaced = flip.replace("  reg it;", "  // it\n  reg it;").replace(" if", "\n if")
+        self.assertEqual(self.added(flip, spaced), same)
+        turned = flip.replace("if (!ce) it <= 1'b0; else ", "")
+        turned = turned.replace("else it <= d", "else if (!ce) it <= 1'b0; else it <= d")
+        told = "it has a set and a reset, and another text than before: which of both wins is not compared"
+        self.assertIn(f"soc: in use {told}", self.added(flip, turned))
 
     def test_first_values(self) -> None:
         """A flip-flop, a latch and a word begin with what they began with."""

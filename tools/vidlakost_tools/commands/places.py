@@ -77,9 +77,7 @@ def main(arguments: list[str]) -> int:
     if shutil.which("yosys") is None:
         tell("places: yosys is not on the PATH, so nothing is proved about the use of the chip")
         return 0
-    found, both = places_proof.differences(target, places)
-    if both:
-        tell(f"places: not compared: whether the set or the reset of {', '.join(both)} wins where both act")
+    found = places_proof.differences(target, places)
     told = [f"{target.name}: in use {line}" for line in found]
     print("\n".join(told or [f"{target.name}: in use each memory, each flip-flop and each output has what it had"]))
     return 1 if found else 0

@@ -1,11 +1,19 @@
-"""What the pairs of a proof of places don't show: with what value a flip-flop begins, and of which kind a part is."""
+"""What the pairs of a proof of places don't show: with what value a flip-flop begins, whether its set or its reset
+wins, and of which kind a part is."""
 from __future__ import annotations
 
 import dataclasses
 import json
 import pathlib
-from typing import Any, Mapping, Sequence
+import re
+from typing import Any, Iterable, Mapping, Sequence
 
+from vidlakost_tools.verilog.source_texts import blanked, with_included
+
+ALWAYS = re.compile(r"\balways(?:_ff)?\b")
+# what opens a statement of many, what ends one, and what goes on with it
+PART = re.compile(r"\b(?:(?P<opens>begin|case[xz]?|fork)|(?P<ends>end|endcase|join))\b|;")
+ELSE = re.compile(r"\s*else\b")
 # of a net the value of each bit with which it begins, in the order of its bits
 First = Sequence[str]
 
@@ -53,3 +61,28 @@ def other_beginnings(gold: Beginnings, gate: Beginnings, memories: Sequence[str]
 
 def shown(first: First) -> str:
     return f"{len(first)}'b{''.join(reversed(first))}"
+
+
+def block_at(text: str, begin: int) -> str:
+    """The `always` block that begins there."""
+    depth = 0
+    for match in PART.finditer(text, begin):
+        depth += (match["opens"] is not None) - (match["ends"] is not None)
+        if depth == 0 and not match["opens"] and not ELSE.match(text, match.end()):
+            return text[begin : match.end()]
+    return text[begin:]
+
+
+def blocks_of(files: list[str], name: str) -> list[list[str]]:
+    """The words of each block of the sources that sets a register of this name, in an order of their own."""
+    texts = [blanked(source)[0] for _, source in with_included(files)]
+    blocks = (block_at(text, match.start()) for text in texts for match in ALWAYS.finditer(text))
+    return sorted(block.split() for block in blocks if re.search(rf"(?<![\w$.]){re.escape(name)}\b[^;]*<=", block))
+
+
+def other_blocks(before: list[str], after: list[str], names: Iterable[str]) -> list[str]:
+    """The flip-flops with a set and a reset whose blocks are not word by word what they were: Yosys lets the reset win,
+    whatever its source says."""
+    pairs = ((name, blocks_of(before, name), blocks_of(after, name)) for name in names)
+    told = "has a set and a reset, and another text than before: which of both wins is not compared"
+    return [f"{name} {told}" for name, gold, gate in pairs if not gold or gold != gate]

@@ -15,7 +15,7 @@ from vidlakost_tools.chip.system import Placed
 from vidlakost_tools.collar.model import boxes
 from vidlakost_tools.collar.pins import Pin, literal
 from vidlakost_tools.in_place.place_list import Places
-from vidlakost_tools.in_place.places_first import beginnings_of, other_beginnings
+from vidlakost_tools.in_place.places_first import beginnings_of, other_beginnings, other_blocks
 from vidlakost_tools.in_place.sequencer import PlaceTarget
 from vidlakost_tools.in_place.text import box
 from vidlakost_tools.text import beside, shown, template
@@ -178,7 +178,7 @@ class Proof:
                 found.append(f"{self.named(port)} has another direction or width than before")
             elif [bit == "z" for bit in gate.ports[port][1]] != [bit == "z" for bit in bits]:
                 found.append(f"{self.named(port)} is not what it was")
-        found += self.other_beginnings()
+        found += [*self.other_beginnings(), *other_blocks(self.places.before, self.places.sources, self.both)]
         if found:
             return found
         sides = self.script("gold", [port for port in gold.ports if port in beside])
@@ -225,10 +225,8 @@ def is_tied(gold: Side, pin: Pin, placed: Placed, number: int) -> bool:
     return there is not None and bits == there[1]
 
 
-def differences(target: PlaceTarget, places: Places) -> tuple[list[str], list[str]]:
-    """What is another in use than it was, and the flip-flops of which it is open what they do while both their set and
-    their reset act."""
+def differences(target: PlaceTarget, places: Places) -> list[str]:
+    """What is another in use than it was."""
     refuse_misread([*places.before, *places.sources])
     with tempfile.TemporaryDirectory() as folder:
-        proof = Proof(target, places, pathlib.Path(folder))
-        return proof.differences(), list(proof.both)
+        return Proof(target, places, pathlib.Path(folder)).differences()
