@@ -39,7 +39,7 @@ use Rattle.bench.proofs.Inputs.{given_there}
 same_number : (n : ℕ) → nat_eq n n ≡ true
 same_number n = (Decides-eqb n n).1 refl
 
-has_rdata : (mo : ModuleTree) (d : Description) → mo.ports ≡ ports d → has_port (record { dir = Input; name = codes "rdata"; width = d.bits }) mo.ports ≡ true
+pub has_rdata : (mo : ModuleTree) (d : Description) → mo.ports ≡ ports d → has_port (record { dir = Input; name = codes "rdata"; width = d.bits }) mo.ports ≡ true
 has_rdata mo d e =
     ap (has_port (record { dir = Input; name = codes "rdata"; width = d.bits })) e
     ∙ ap (λ t. t || has_port (record { dir = Input; name = codes "rdata"; width = d.bits }) (outputs_of (ports d))) (same_number d.bits)
@@ -81,13 +81,13 @@ module _ (mo : ModuleTree) (march : List MarchElement) (d : Description) (test :
       agree ws f h zero = sym h
       agree ws f h (suc k) = f k
 
-there : (es : List Env) (t : ℕ) → t < length es → (e : Env) × (slice_get es t ≡ Some e) × (ports_in es t ≡ port_values e)
+pub there : (es : List Env) (t : ℕ) → t < length es → (e : Env) × (slice_get es t ≡ Some e) × (ports_in es t ≡ port_values e)
 there [] t h = absurd (omega arith)
 there (e ∷ es) zero h = (e, refl, refl)
 there (e ∷ es) (suc t) h = there es t (omega arith)
 
 -- the rule holds with other words that are the same
-same_rule : (march : List MarchElement) (d : Description) (v w : ℕ → ℕ) (t : ℕ) (q : PortValues) → ((k : ℕ) → v k ≡ w k) → PortRule march d v t q → PortRule march d w t q
+pub same_rule : (march : List MarchElement) (d : Description) (v w : ℕ → ℕ) (t : ℕ) (q : PortValues) → ((k : ℕ) → v k ≡ w k) → PortRule march d v t q → PortRule march d w t q
 same_rule march d v w t q same r = record {
   reset = r.reset;
   commands = r.commands;

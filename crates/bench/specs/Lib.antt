@@ -1,4 +1,6 @@
 pub mod Joint
 pub mod Endings
 pub mod Laws
+pub mod Memories
+pub mod Beside
 pub mod inner

@@ -1,5 +1,6 @@
 -- The text of a chip's self-tests, and its file.
 use Rattle.bist_app.proofs.Common.{◌≡◌, ◌∙◌, ◌≤◌, ◌<◌, ◌+◌, ◌++◌, ◌&&◌, ◌∷◌, [], ℕ, zero, suc, ◌⊎◌, inl, inr, true, false, not, All, List, length, map, take, get_or, Some, slice_get, Contains, refl, sym, ap, subst, arith, append-nil, append_assoc, add-one, MarchElement, Description, ModuleTree, SelfTest, ChipDescription, Seat, IsFirstRoom, FirstFit, last_group, end_of, TestUnit, lengths, ShowsAll, AllTested, AllShow, IsPlan, weights, Written, length-map, take_all, option_map}
+use Rattle.std.specs.List.{AllByRecursion}
 use Rattle.std.proofs.Math.Path.{ap₂}
 use Rattle.std.proofs.Math.Seq.{take-suc}
 use Rattle.std.proofs.lemmas.Bool.{le-leb}
@@ -15,7 +16,7 @@ use Rattle.chip_rtl.specs.TopFits.{AllFit}
 use Rattle.chip_rtl.specs.ChipFile.{IsPlanOf, EndsFile}
 use Rattle.chip_rtl.proofs.Whole.{counted}
 use Rattle.bist_app.specs.declared.units.UnitTable.{UnitTable}
-use Rattle.bist_app.specs.Chip.{IsChipTested, chip_line}
+use Rattle.bist_app.specs.Chip.{IsChipTested, ReadsFreely, chip_line}
 use Rattle.bist_app.specs.inner.UnitTables.{IsTableOf}
 use Rattle.bist_app.specs.inner.ChipParts.{IsRead, PutsSelfTest, AreSelfTests, PutSelfTests, CanStart, IsReady, MakesFile}
 use Rattle.bist_app.proofs.TakenNames.{all_differ}
@@ -42,6 +43,10 @@ shown_more [] (v ∷ us) m u all shows = absurd all
 shown_more (n ∷ ms) [] m u all shows = absurd all
 shown_more (n ∷ ms) (v ∷ us) m u all shows = (all.0, shown_more ms us m u all.1 shows)
 
+freely_more : (ms : List ModuleTree) (m : ModuleTree) → AllByRecursion ReadsFreely ms → ReadsFreely m → AllByRecursion ReadsFreely (ms ++ m ∷ [])
+freely_more [] m all reads = (reads, tt)
+freely_more (n ∷ ms) m all reads = (all.0, freely_more ms m all.1 reads)
+
 -- the element at a place, among what a function gives of a list
 at_place : {X Y : Type 0} (f : X → Y) (xs : List X) (ys : List Y) (i : ℕ) (x : X) (y : Y) → ys ≡ map f xs → i < length xs → y ≡ get_or ys i y → f (get_or xs i x) ≡ y
 at_place f xs ys i x y are within is =
@@ -59,6 +64,7 @@ test_more us i u march memory old new split m d h p =
       fit = fit_more h.trees p.tree h.fit p.fit;
       tested = subst (AllTested (h.trees ++ p.tree ∷ [])) (sym split) (tested_more h.trees (take i us) p.tree u h.tested test);
       shown = subst (AllShow (h.trees ++ p.tree ∷ [])) (sym split) (shown_more h.trees (take i us) p.tree u h.shown shows);
+      freely = freely_more h.trees p.tree h.freely p.freely;
       are = p.text ∙ ap (λ t. t ++ printed p.tree) h.are ∙ sym (printed_more h.trees p.tree);
     }
 
@@ -128,7 +134,7 @@ makes_file chip t groups old new name ds called are put given us ready fitted =
     let many : length us ≤ length t.memories.items = let n : length t.memories.items ≡ length us = ap length r.table.memories ∙ length-map us (λ (u : TestUnit). u.memory) in omega (arith, n) in
     let tests : AreSelfTests us old = subst (λ vs. AreSelfTests vs old) (take_all (length t.memories.items) us many) (put us r.table) in
     let file = ends us chip.budget tests.trees (sym r.table.memories) tests.are (plan chip t us groups r fitted) tests.tested tests.fit (all_differ chip.name us ready.names) in
-    (file.0, subst (λ ms. AllShow ms us) (sym file.1) tests.shown)
+    (file.0, subst (λ ms. AllShow ms us) (sym file.1) tests.shown, subst (AllByRecursion ReadsFreely) (sym file.1) tests.freely)
 
 -- ---- the starts
 
@@ -206,4 +212,4 @@ tests_table chip t budget ws groups ls text line outputs b w l f makes said out 
     said ∙ ap (λ n. chip_line n (suc (last_group groups)) (end_of groups ls)) many
     ∙ ap (λ x. chip_line (length us) (suc (last_group groups)) (end_of groups x)) (l ∙ r.table.lengths)
     ∙ ap (λ x. chip_line (length us) (suc (last_group x)) (end_of x (lengths us))) same in
-    record { text = text; file = file; shown = made.1; done_is = λ j. record { found = false; outputs = out j; line = lines j } }
+    record { text = text; file = file; shown = made.1; freely = made.2; done_is = λ j. record { found = false; outputs = out j; line = lines j } }

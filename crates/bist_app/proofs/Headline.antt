@@ -8,7 +8,13 @@ use Rattle.memory_desc.proofs.OneOutcome.{reads_one as one_memory}
 use Rattle.dynamic_core.specs.Items.{SpellsItems, ReadsItems}
 use Rattle.dynamic_core.proofs.ListExact.{list_one}
 use Rattle.bist_app.specs.Compile.{IsCompiled, LeavesCompile, DecidesCompile, compile_form}
+use Rattle.march_core.specs.March.{IsMarch}
+use Rattle.verilog_emit.proofs.OneTree.{text_formed}
+use Rattle.bench.proofs.Beside.{passes_beside}
+use Rattle.word_faults.proofs.Linked.{linked_fails}
+use Rattle.word_faults.proofs.Decoders.{decoder_fails}
 use Rattle.bist_app.specs.Headline.{Only, InputHas, IsCompilation, LeavesCompilation}
+use Rattle.bist_app.proofs.Listed.{each_fails}
 use Rattle.bist_app.proofs.Complete.{if_told}
 use Rattle.bist_app.proofs.Succeeding.{Succeeds, succeeds, not_refused, same_value}
 
@@ -27,6 +33,9 @@ pub memory_read : (files : Files) (words : Words) (position : ℕ) (d : Descript
 unfolding FileMemory GivesMemory
 memory_read files words position d (Ok bytes, gives, reads) = (reads.1, (bytes, gives.0, (gives.1, only_read (ReadsMemory bytes) d (one_memory bytes) reads.0)))
 memory_read files words position d (Err e, gives, same) = absurd (not_refused same)
+
+pub is_march : (files : Files) (name : List ℕ) (march : List MarchElement) → InputHas files name (λ bytes. Only (SpellsMarch bytes) march) → IsMarch march
+is_march files name march (bytes, told, (low, (spells, only))) = spells.1
 
 list_read : (files : Files) (words : Words) (items : List Item) → InputList (Some files) words 3 (Ok items) → InputHas files (word words 3) (λ bytes. Only (SpellsItems bytes) items)
 unfolding InputList GivesList
@@ -106,6 +115,7 @@ compilation : (words : Words) (files : Files) (old new : HostState) (n : ℕ) �
 compilation words files old new n s =
     let i = inputs files words s.done s.decides.0 in
     let c = i.compiled in
+    let forms = text_formed c.text c.tests.tree c.tests.is_text in
     let w = written words files new.files c.text c.bytes (module_not_report words s.form) (subst (λ outs. WritesInOrder words outs (Some files) new.files (Ok tt)) c.outputs s.writes) in (
       w.after,
       w.is_told,
@@ -126,6 +136,10 @@ compilation words files old new n s =
         module_text = (c.text, w.first, (c.tests.is_text, c.tests.one_tree));
         spells = (c.text, w.first, (c.tests.spells, c.tests.no_other));
         freely = (c.text, w.first, (c.tests.freely, c.tests.freely_no_other));
+        passes = passes_beside c.tests.tree i.march i.memory c.tests.self_test forms (is_march files (word words 1) i.march i.march_text) i.is_memory;
+        fails = each_fails files (word words 3) c.tests.tree i.march i.memory i.items c.tests.self_test forms i.is_memory i.list_text;
+        fails_linked = linked_fails i.march i.memory i.is_memory c.tests.tree c.tests.self_test forms;
+        fails_decoder = decoder_fails i.march i.memory (is_march files (word words 1) i.march i.march_text) i.is_memory c.tests.tree c.tests.self_test forms;
         report_text = (c.bytes, w.second, c.reports.report);
         escapes = s.done.found;
         found = c.reports.found;

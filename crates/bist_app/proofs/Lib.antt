@@ -9,6 +9,7 @@ pub mod DirectionWord
 pub mod Judging
 pub mod Decoding
 pub mod Listing
+pub mod Listed
 pub mod OneCommand
 pub mod PlaceWords
 pub mod SmallRooms
@@ -34,6 +35,7 @@ pub mod TakenNames
 pub mod ChipTexts
 pub mod ChipChecks
 pub mod OneChip
+pub mod ChipBeside
 pub mod TestedChip
 pub mod Conforming
 pub mod ReadTexts

@@ -8,10 +8,16 @@ use Rattle.memory_desc.proofs.OneOutcome.{reads_one as one_memory}
 use Rattle.chip_desc.specs.ChipTable.{Reads as ReadsChip}
 use Rattle.chip_desc.proofs.OneText.{reads_one as one_chip}
 use Rattle.bist_app.specs.Headline.{Only, InputHas}
+use Rattle.std.specs.Prelude.{zero, slice_get}
+use Rattle.march_core.specs.March.{IsMarch}
+use Rattle.chip_rtl.specs.ChipTree.{ChipTree}
+use Rattle.chip_rtl.specs.ChipTest.{ChipTest}
+use Rattle.bist_app.specs.ChipBeside.{EachUnitTests}
 use Rattle.bist_app.specs.Chip.{GivesUnit, GivesUnits, IsChipTested, LeavesChip, DecidesChip}
 use Rattle.bist_app.specs.TestedChip.{IsUnitOf, AreUnitsOf, IsTestedChip, LeavesTestedChip}
 use Rattle.bist_app.proofs.Complete.{if_told}
-use Rattle.bist_app.proofs.Headline.{only_read}
+use Rattle.bist_app.proofs.ChipBeside.{unit_tests}
+use Rattle.bist_app.proofs.Headline.{only_read, is_march}
 use Rattle.bist_app.proofs.Succeeding.{Succeeds, not_refused, same_value, succeeds}
 
 -- ---- the inputs
@@ -71,6 +77,23 @@ inputs files words done (Ok chip, first, (Ok us, second, (Ok _, own, tested))) =
     let c = chip_read files words chip first in
     record { chip = chip; is_chip = c.0; chip_text = c.1; units = us; unit_texts = units_of files 0 chip.units us second; tested = tested }
 
+-- ---- the tests
+
+one_unit : (files : Files) (ds : List UnitDescription) (us : List TestUnit) → AreUnitsOf files ds us → (i : ℕ) (u : TestUnit) → slice_get us i ≡ Some u → IsMarch u.march × IsMemory u.memory
+one_unit files [] [] are i u e = cc
+one_unit files [] (x ∷ us) are i u e = absurd are
+one_unit files (d ∷ ds) [] are i u e = absurd are
+one_unit files (d ∷ ds) (x ∷ us) are zero u e =
+    let same : x ≡ u = cc in
+    subst (λ (y : TestUnit). IsMarch y.march × IsMemory y.memory) same (is_march files d.march x.march are.0.march_text, are.0.is_memory)
+one_unit files (d ∷ ds) (x ∷ us) are (suc i) u e = one_unit files ds us are.1 i u e
+
+units_test : (files : Files) (ds : List UnitDescription) (us : List TestUnit) → AreUnitsOf files ds us → (c : ChipTree) (budget : ℕ) (groups : List ℕ) → ChipTest c us budget groups
+    → EachUnitTests c us groups
+units_test files ds us are c budget groups test i u g is_unit is_group =
+    let is = one_unit files ds us are i u is_unit in
+    unit_tests c us budget groups test i u g is_unit is_group is.0 is.1
+
 -- ---- the write
 
 record WritesOne (files : Files) (told : Option Files) (one : List ℕ) (text : List ℕ) : Type 0 where
@@ -111,6 +134,8 @@ tested_chip words files old new n s =
           is_written = w.is_written;
           file = t.file;
           shown = t.shown;
+          freely = t.freely;
+          beside = units_test files i.chip.units i.units i.unit_texts t.file.chip i.chip.budget t.file.groups t.file.tests;
           says = subst (λ (d : Done). Says old.said new.said d.line) t.done_is s.says;
           others = w.others;
         },

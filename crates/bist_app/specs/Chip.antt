@@ -7,6 +7,10 @@ use Rattle.self_test.specs.SelfTest.{module_name}
 use Rattle.chip_desc.specs.Chips.{ChipDescription, UnitDescription}
 use Rattle.chip_plan.specs.Groups.{last_group, end_of}
 use Rattle.chip_rtl.specs.ChipTest.{TestUnit, lengths}
+use Rattle.std.specs.List.{AllByRecursion}
+use Rattle.verilog_tree.specs.Plain.{ModuleTree}
+use Rattle.verilog_tree.specs.Spells.{FreelySpells}
+use Rattle.verilog_emit.specs.Printed.{printed}
 use Rattle.chip_rtl.specs.ChipLaws.{AllShow, memories}
 use Rattle.chip_rtl.specs.ChipFile.{ChipFile}
 use Rattle.bist_endings.specs.declared.ending.ChipRefusal.{ChipRefusal}
@@ -53,6 +57,10 @@ HasOwnNames chip ds (Err other) = ⊥
 
 -- ---- what is left
 
+-- the text of this module, read with operators that bind by precedence, is it and no other
+abbrev pub ReadsFreely : ModuleTree → Type 0
+ReadsFreely mo = FreelySpells (printed mo) mo × ((other : ModuleTree) → FreelySpells (printed mo) other → other ≡ mo)
+
 -- how many units there are, in how many groups they are tested, and the first cycle in which every test is over
 abbrev pub chip_line : ℕ → ℕ → ℕ → List ℕ
 chip_line units groups cycle = codes "chip units " ++ decimal units ++ codes " groups " ++ decimal groups
@@ -60,11 +68,12 @@ chip_line units groups cycle = codes "chip units " ++ decimal units ++ codes " g
 
 -- The file that the second word names has a text that spells one chip and no other. It has this name and the ports of these memories, and
 -- tests them within the budget, in the groups of the first fit, of which the line tells. Its modules show on `wdata` what each read expects
--- (and so does the chip), and behind the reset numbers where their registers are open at first.
+-- (and so does the chip), and behind the reset numbers where their registers are open at first. The text of each, read by precedence, is it alone.
 pub record IsChipTested (name : List ℕ) (us : List TestUnit) (budget : ℕ) (done : Done) : Type 0 where
   pub text : List ℕ
   pub file : ChipFile text name us budget
   pub shown : AllShow file.chip.units us
+  pub freely : AllByRecursion ReadsFreely file.chip.units
   pub done_is : done ≡ (record {
     found = false;
     outputs = (record { position = 2; bytes = text }) ∷ [];

@@ -1,11 +1,15 @@
 -- Trusted. What `compile` comes to where it ends with status 0 or 1 over told files: the answer of the top call, without the order of its checks.
-use Rattle.std.specs.Prelude.{◌≡◌, ◌≢◌, ◌≤◌, ℕ, Bool, List, length, Option, Some, IfSome, codes}
+use Rattle.std.specs.Prelude.{◌≡◌, ◌≢◌, ◌≤◌, ℕ, Bool, List, length, Option, Some, IfSome, codes, slice_index_or}
+use Rattle.std.specs.List.{AllByRecursion}
 use Rattle.bist_host.specs.Files.{Files, HostState, Says}
 use Rattle.march_core.specs.March.{MarchElement}
+use Rattle.array_sim.specs.Detection.{Detects}
 use Rattle.march_syntax.specs.Answers.{SpellsMarch}
 use Rattle.memory_desc.specs.Descriptions.{Description, IsMemory}
 use Rattle.memory_desc.specs.Described.{SpellsMemory}
 use Rattle.dynamic_core.specs.declared.item.Item.{Item}
+use Rattle.dynamic_core.specs.declared.item.Item.TheVariants.{Plain, Dyn}
+use Rattle.dynamic_core.specs.Detecting.{DetectsDyn}
 use Rattle.dynamic_core.specs.Items.{SpellsItems}
 use Rattle.verilog_tree.specs.Plain.{ModuleTree}
 use Rattle.verilog_tree.specs.Spells.{Spells, FreelySpells}
@@ -16,6 +20,9 @@ use Rattle.self_test.specs.Numbers.{ShowsNumbers}
 use Rattle.word_march.specs.Commands.{cycle_count}
 use Rattle.port_check.specs.declared.answer.PortAnswer.{PortAnswer}
 use Rattle.port_check.specs.Answers.{IsAnswer}
+use Rattle.bench.specs.Beside.{PassesBeside, FailsBeside}
+use Rattle.word_faults.specs.Dynamic.{FailsDynamic}
+use Rattle.word_faults.specs.Laws.{FailsEachLinked, FailsEachDecoder}
 use Rattle.report.specs.Report.{IsMixedReport, DetectsOf}
 use Rattle.report_lines.specs.Lines.{total_line}
 use Rattle.bist_endings.specs.Words.{Words, word}
@@ -37,14 +44,23 @@ FileHas files name P = (bytes : List ℕ) × (files name ≡ Some bytes) × P by
 abbrev pub InputHas : Files → List ℕ → (List ℕ → Type 0) → Type 0
 InputHas files name P = FileHas files name (λ bytes. (length bytes ≤ input_limit) × P bytes)
 
+-- Where the march detects this item, the module fails beside each memory with an instance of it; of a dynamic item, where the background 0 is the
+-- first of the memory's.
+abbrev pub FailsWhereDetected : ModuleTree → List MarchElement → Description → Item → Type 0
+FailsWhereDetected mo march d (Plain p) = Detects march p → FailsBeside mo march d p
+FailsWhereDetected mo march d (Dyn p) = slice_index_or d.backgrounds 0 1 ≡ 0 → DetectsDyn march p → FailsDynamic mo march d p
+
 -- The files MARCH, MEMORY and FAULTS were read as a march, a memory and a list, and spell no others. Now the bytes of VERILOG are the text of a
 -- module and of no other: its layout, with parentheses round each operator and begin and end round each body, where its names are legal and its
 -- literals hold their values. Read by the grammar, with all parentheses or with operators that bind by precedence, they are that module and no
 -- other. The module is a self-test of that memory by that march; `wdata` has what a read expects in the cycle of each; and where nothing is
 -- known of its registers at first, nor of `rdata` but where the answer of a read stands there, each output has a number behind the reset, and in
--- it `en`, `done` and `fail` have 0. The answer of its open run, by which `check` tells, is that it conforms, and no other. The bytes of REPORT
--- are the report of the list. Some item isn't detected exactly where the status is 1. How many there are and how many are detected was said, and
--- all other files are as before.
+-- it `en`, `done` and `fail` have 0. The answer of its open run, by which `check` tells, is that it conforms, and no other. Beside a memory of the
+-- description, whatever its registers and the memory hold at first, it ends without `fail` and every read is right, if nothing is planted there;
+-- and with `fail`, where that is an instance of an item that the march detects, in one cell or in cells of two words. So it does beside one with a
+-- linked fault at bits of three words, and beside one whose decoder has a fault, that the march detects. The bytes of REPORT are the report of the
+-- list. Some item isn't detected exactly where the status is 1. How many there are and how many are detected was said, and all other files are as
+-- before.
 pub record IsCompilation (words : Words) (files files' : Files) (said said' : Option (List ℕ)) (status : ℕ) : Type 0 where
   pub shape : HasForm compile_form words
   pub march : List MarchElement
@@ -62,6 +78,10 @@ pub record IsCompilation (words : Words) (files files' : Files) (said said' : Op
   pub module_text : FileHas files' (word words 4) (λ bytes. Only (IsTextOf bytes) tree)
   pub spells : FileHas files' (word words 4) (λ bytes. Only (Spells bytes) tree)
   pub freely : FileHas files' (word words 4) (λ bytes. Only (FreelySpells bytes) tree)
+  pub passes : PassesBeside tree march memory
+  pub fails : AllByRecursion (FailsWhereDetected tree march memory) items
+  pub fails_linked : FailsEachLinked tree march memory
+  pub fails_decoder : FailsEachDecoder tree march memory
   pub report_text : FileHas files' (word words 5) (λ bytes. IsMixedReport bytes march (Some memory) items)
   pub escapes : Bool
   pub found : SomeEscapes march items escapes

@@ -12,6 +12,7 @@ pub mod BenchFault
 pub mod BenchAll
 pub mod Check
 pub mod Chip
+pub mod ChipBeside
 pub mod TestedChip
 pub mod Compile
 pub mod InWord

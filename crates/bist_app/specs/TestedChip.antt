@@ -1,5 +1,6 @@
 -- Trusted. What `chip` comes to where it ends with status 0: the answer of the top call, without the order of its checks.
 use Rattle.std.specs.Prelude.{◌≡◌, ◌≢◌, ◌≤◌, ℕ, suc, List, [], ◌∷◌, length, Option, Some, Ok, IfSome, codes}
+use Rattle.std.specs.List.{AllByRecursion}
 use Rattle.bist_host.specs.Files.{Files, HostState, Says}
 use Rattle.march_syntax.specs.Answers.{SpellsMarch}
 use Rattle.memory_desc.specs.Descriptions.{IsMemory}
@@ -12,7 +13,8 @@ use Rattle.chip_rtl.specs.ChipLaws.{AllShow}
 use Rattle.chip_rtl.specs.ChipFile.{ChipFile}
 use Rattle.bist_endings.specs.Words.{Words, word}
 use Rattle.bist_app.specs.Forms.{HasForm}
-use Rattle.bist_app.specs.Chip.{chip_line, chip_form}
+use Rattle.bist_app.specs.Chip.{ReadsFreely, chip_line, chip_form}
+use Rattle.bist_app.specs.ChipBeside.{EachUnitTests}
 use Rattle.bist_app.specs.Headline.{InputHas, Only}
 
 -- the files that a unit names were read as its march and its memory, and spell no others
@@ -32,8 +34,10 @@ AreUnitsOf files (d ∷ ds) (u ∷ us) = IsUnitOf files d u × AreUnitsOf files 
 -- CHIPFILE was read as the description of a chip, and the files that it names as the marches and memories of its units. Now the bytes of VERILOG
 -- spell one chip and no other, which has the described name and tests these memories by their marches, whatever its registers hold at first
 -- and whatever words return, in the groups of the first fit within the described budget. Its modules show on `wdata` what each read expects, and
--- so does the chip; and behind the reset they show numbers where their registers are open at first. How many units and groups there are was
--- said, and the first cycle in which every test is over; and all other files are as before.
+-- so does the chip; and behind the reset they show numbers where their registers are open at first. The text of each module, read with operators
+-- that bind by precedence, is that module and no other. Beside the memory of a unit, whatever else the chip reads, that unit's bit of `fail` ends at
+-- 0 if nothing is planted there, and at 1 where that is an instance of a static primitive that its march detects. How many units and groups there
+-- are was said, and the first cycle in which every test is over; and all other files are as before.
 pub record IsTestedChip (words : Words) (files files' : Files) (said said' : Option (List ℕ)) : Type 0 where
   pub shape : HasForm chip_form words
   pub chip : ChipDescription
@@ -45,6 +49,8 @@ pub record IsTestedChip (words : Words) (files files' : Files) (said said' : Opt
   pub is_written : files' (word words 2) ≡ Some text
   pub file : ChipFile text chip.name units chip.budget
   pub shown : AllShow file.chip.units units
+  pub freely : AllByRecursion ReadsFreely file.chip.units
+  pub beside : EachUnitTests file.chip units file.groups
   pub says : Says said said' (chip_line (length units) (suc (last_group file.groups)) (end_of file.groups (lengths units)))
   pub others : (name : List ℕ) → name ≢ word words 2 → files' name ≡ files name
 

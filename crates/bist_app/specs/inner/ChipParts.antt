@@ -1,5 +1,6 @@
 -- Inner. For proofs and private contracts alone: what the parts of a chip's test make.
 use Rattle.std.specs.Prelude.{◌≡◌, ◌≤◌, ◌<◌, ◌++◌, ℕ, true, [], All, Contains, List, length, map, take}
+use Rattle.std.specs.List.{AllByRecursion}
 use Rattle.march_core.specs.March.{MarchElement}
 use Rattle.memory_desc.specs.Descriptions.{Description, IsMemory}
 use Rattle.verilog_tree.specs.Plain.{ModuleTree}
@@ -15,7 +16,7 @@ use Rattle.chip_rtl.specs.TopFits.{AllFit}
 use Rattle.chip_rtl.specs.ChipFile.{ChipFile}
 use Rattle.bist_app.specs.declared.units.UnitTable.{UnitTable}
 use Rattle.bist_app.specs.inner.UnitTables.{IsTableOf}
-use Rattle.bist_app.specs.Chip.{HasTakenName}
+use Rattle.bist_app.specs.Chip.{HasTakenName, ReadsFreely}
 
 -- the table has the units of the chip
 pub record IsRead (chip : ChipDescription) (t : UnitTable) (us : List TestUnit) : Type 0 where
@@ -35,6 +36,7 @@ pub record PutsSelfTest (march : List MarchElement) (d : Description) (old new :
   pub fit : fits tree ≡ true
   pub tests : SelfTest tree march d
   pub shows : ShowsAll tree march d
+  pub freely : ReadsFreely tree
   pub text : new ≡ old ++ printed tree
 
 -- the text is that of self-test modules of these units, one behind another
@@ -43,6 +45,7 @@ pub record AreSelfTests (us : List TestUnit) (text : List ℕ) : Type 0 where
   pub fit : AllFit trees
   pub tested : AllTested trees us
   pub shown : AllShow trees us
+  pub freely : AllByRecursion ReadsFreely trees
   pub are : text ≡ printed_units trees
 
 -- the same of the first units of a table
@@ -61,4 +64,4 @@ pub record CanStart (groups lengths : List ℕ) : Type 0 where
 -- in the groups of the first fit, the text is the chip's file
 abbrev pub MakesFile : ChipDescription → UnitTable → List ℕ → List ℕ → Type 0
 MakesFile chip t groups text = (us : List TestUnit) → IsReady chip t us → FirstFit chip.budget [] (weights us) groups
-    → (file : ChipFile text chip.name us chip.budget) × AllShow file.chip.units us
+    → (file : ChipFile text chip.name us chip.budget) × AllShow file.chip.units us × AllByRecursion ReadsFreely file.chip.units

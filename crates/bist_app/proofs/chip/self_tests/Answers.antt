@@ -1,7 +1,8 @@
-use Rattle.bist_app.proofs.Common.{◌++◌, ◌∙◌, ap, plain_module}
+use Rattle.bist_app.proofs.Common.{◌++◌, ◌∙◌, ap, refl, plain_module}
 use Rattle.chip_rtl.specs.ChipLaws.{ShowsAll}
 use Rattle.bist_app.specs.inner.ChipParts.{PutsSelfTest}
 use Rattle.bist_app.proofs.ChipTexts.{tests_more}
+use Rattle.bist_app.proofs.ReadTexts.{layout_reads}
 use Rattle.bist_app.proofs.chip.self_tests.Goals as goal
 
 pub loop-unit-preserved : goal.loop-unit-preserved
@@ -11,6 +12,7 @@ loop-unit-preserved c =
       tree = plain_module c.in_ok-module.module;
       fit = c.in_ok-module.ensures.fits;
       tests = c.in_ok-module.ensures.self_test;
+      freely = layout_reads _ (plain_module c.in_ok-module.module) c.in_ok-module.ensures.layout refl;
       shows = (c.in_ok-module.ensures.expected, c.in_ok-module.ensures.numbers);
       text = c.in_ok-put.ensures.ok ∙ ap (λ t. c.loop-unit.out.items ++ t) (c.deref.ensures.value ∙ c.in_ok-text.ensures.form);
     } in

@@ -1,0 +1,51 @@
+-- Trusted. A chip beside the memory of one of its units, whatever this and the registers hold at first, and whatever the other units read: how the
+-- test of that unit ends.
+use Rattle.std.specs.Prelude.{◌≡◌, ◌+◌, ◌<◌, ◌≤◌, ◌^◌, ◌%◌, ℕ, zero, suc, Bool, true, false, List, [], ◌∷◌, length, Some, None, slice_get}
+use Rattle.fault_core.specs.Primitive.{IsPrimitive}
+use Rattle.array_sim.specs.Detection.{Detects}
+use Rattle.verilog_tree.specs.Meaning.{Env}
+use Rattle.memory_desc.specs.Descriptions.{Description}
+use Rattle.word_march.specs.PortRule.{PortValues}
+use Rattle.word_device.specs.declared.device.Planted.{Planted}
+use Rattle.word_device.specs.Chips.{FitsMemory, closed_words}
+use Rattle.word_device.specs.Ports.{shape_of}
+use Rattle.word_device.specs.Joint.{command_on}
+use Rattle.bench.specs.Joint.{nothing}
+use Rattle.bench.specs.Memories.{Behaviour, Memory, cycle_answer, memory_at, words_with}
+use Rattle.bench.specs.Beside.{HasWords}
+use Rattle.chip_plan.specs.Groups.{start_of}
+use Rattle.chip_rtl.specs.ChipTree.{ChipTree}
+use Rattle.chip_rtl.specs.Together.{ChipCycle, ChipHistory}
+use Rattle.chip_rtl.specs.ChipTest.{TestUnit, OneReset, test_length, lengths, unit_values, words_of}
+
+-- the outputs of unit i by cycle; nothing stands there behind the last
+abbrev pub unit_ports : ℕ → List ChipCycle → ℕ → PortValues
+unit_ports i [] t = nothing
+unit_ports i (c ∷ cs) zero = unit_values i c
+unit_ports i (c ∷ cs) (suc t) = unit_ports i cs t
+
+-- a history of the chip with one reset, in which the word on `rdata` of unit i is what this memory answered in the cycle before
+pub record IsBeside {S : Type 0} (b : Behaviour S) (c : ChipTree) (i : ℕ) (d : Description) (m : Memory S) (cycles : List ChipCycle) : Type 0 where
+  pub registers : ℕ → Env
+  pub inputs : List Env
+  pub reset : OneReset inputs
+  pub history : ChipHistory c registers inputs cycles
+  pub answers : (t : ℕ) → suc t < length cycles → words_of inputs i (suc t)
+      ≡ cycle_answer b (shape_of d) (memory_at b (shape_of d) m (unit_ports i cycles) t) (command_on (unit_ports i cycles t)) % 2 ^ d.bits
+
+-- from the cycle on in which the test is over that starts in cycle s, bit i of `fail` is this
+abbrev pub UnitEnds : {S : Type 0} → Bool → Behaviour S → ChipTree → ℕ → TestUnit → ℕ → Memory S → Type 0
+UnitEnds failed b c i u s m =
+    (cycles : List ChipCycle) → IsBeside b c i u.memory m cycles
+    → (t : ℕ) → s + test_length u ≤ t → t < length cycles → (unit_ports i cycles t).fail ≡ failed
+
+-- the test passes every sound memory, and fails one with an instance of a primitive that the unit's march detects, at any place
+pub record UnitTests (c : ChipTree) (i : ℕ) (u : TestUnit) (s : ℕ) : Type 0 where
+  pub passes : (m : Memory (List ℕ)) → HasWords u.memory m → UnitEnds false (words_with None) c i u s m
+  pub fails : (m : Memory (List ℕ)) (p : Planted) → HasWords u.memory m → IsPrimitive p.prim → Detects u.march p.prim
+      → FitsMemory p u.memory.words u.memory.bits → UnitEnds true (words_with (Some p)) c i u s (record m { state = closed_words p m.state })
+
+-- each unit's does, from the start of its group on
+abbrev pub EachUnitTests : ChipTree → List TestUnit → List ℕ → Type 0
+EachUnitTests c us groups =
+    (i : ℕ) (u : TestUnit) (g : ℕ) → slice_get us i ≡ Some u → slice_get groups i ≡ Some g → UnitTests c i u (start_of groups (lengths us) g)

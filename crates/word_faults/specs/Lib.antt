@@ -1,0 +1,4 @@
+pub mod Linked
+pub mod Decoders
+pub mod Dynamic
+pub mod Laws

@@ -1,0 +1,6 @@
+//! Laws of memories whose fault no box has planted: a linked fault at bits of three words, or a fault of the address decoder. It never runs.
+#![tactic(auto)]
+
+mod laws;
+
+pub use laws::{decoder_fails, dynamic_fails, linked_fails};
