@@ -33,7 +33,7 @@ ROWS: List[Tuple[List[str], int, str, str]] = [
     ),
     (["tf.list"], 0, "length 5n, shortest:", "design: 5n after"),
     (["stuck.list", "--decoder"], 0, "length 5n, shortest:", "design: "),
-    (["stuck.list", "--decoder"], 0, "decoder total 5 covered 5 escapes 0", "design: "),
+    (["stuck.list", "--decoder"], 0, "decoder total 6 covered 6 escapes 0", "design: "),
     (["none.list", "--decoder"], 0, "judge total 0 covered 0 escapes 0", "design: "),
     (["pause.list"], 0, "length 5n+2D, shortest:", "design: "),
     (["tf.list", "--behind", "c.m"], 0, "length 10n, 0 more than c.m, shortest:", "design: "),

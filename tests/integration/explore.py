@@ -125,7 +125,8 @@ def questions(bench: Bench, served: Served) -> None:
     verdicts = served.ask("judge", {"march": MATS, "list": "TF\n"})["report"]["verdicts"]
     found = {row["primitive"]: row["covered"] for row in verdicts if row["class"] == "AF"}
     bench.is_so(
-        len(found) == 5 and [it for it in found if not found[it]] == ["both and"], f"of the decoder is told {found}"
+        len(found) == 6 and [it for it in found if not found[it]] == ["both and", "both own"],
+        f"of the decoder is told {found}",
     )
     traced = served.ask("trace", {"march": MATS, "primitive": "both and"})
     bench.is_so(traced["steps"][-1]["reaches"] == [1] and "sim" not in traced, f"a wrong decoder is traced as {traced}")

@@ -27,11 +27,12 @@ REPORT = (
 )
 DECODER = (
     "march {any(w0);any(r0,w1);any(r1)}\ncovered none 0\ncovered none 1\ncovered other\n"
-    "escape both and x 0 y 1 content 00 directions udu\ncovered both or\ntotal 5 covered 4 escapes 1\n"
+    "escape both and x 0 y 1 content 00 directions udu\ncovered both or\n"
+    "escape both own x 0 y 1 content 00 directions udu\ntotal 6 covered 4 escapes 2\n"
 )
 IN_WORD = (
     "march {any(w0);up(r0,w1);any(r1)}\nmemory t words 4 bits 2 backgrounds 2 commands 32\n"
-    "escape <0w1;0/1/-> CFds aggressor 0 victim 1 content 00\napart 1\ntotal 1 covered 0 escapes 1\n"
+    "escape <0w1;0/1/-> CFds aggressor 0 victim 1 content 00 reading before\napart 1\ntotal 1 covered 0 escapes 1\n"
 )
 # of each kind one line again and again, since a reader asks for as many as there are; a cell that holds 1 is never
 # disturbed

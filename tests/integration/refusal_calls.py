@@ -278,7 +278,7 @@ REFUSALS: List[Call] = [
         prints="usage",
         says="vidlakost: error: 'cmpile' is no command; did you mean 'compile'?",
     ),
-    Call("./vidlakost decoder c.m out", prints="total 5 covered 5 escapes 0"),
+    Call("./vidlakost decoder c.m out", prints="total 6 covered 6 escapes 0"),
     Call(
         "./vidlakost decoder stray.m out",
         status=3,

@@ -76,7 +76,7 @@ CALLS: List[Call] = [
     ),
     Call(
         "tools/trace inside.report --memory t.mem",
-        prints="<0w1;0/1/-> CFds aggressor 0 victim 1: acts in background 0, element 1, and the same operation",
+        prints="<0w1;0/1/-> CFds aggressor 0 victim 1 reading before: acts in background 0, element 1, and the same operation",
     ),
     Call("tools/trace inside.report --memory t.mem --steps", prints="  background 2 element 0  w0   01  01\n"),
     Call(

@@ -46,7 +46,7 @@ def searches(bench: Bench, served: Served) -> None:
     bench.is_so(told["ended"]["lines"] == ["judge total 2 covered 2 escapes 0"], f"it is told {told}")
     bench.is_so(told["ended"]["isWhole"], f"it is told {told}")
     told = heard(served, served.ask("find", {**SEARCH, "decoder": True}))
-    bench.is_so(told["ended"]["lines"][1] == "decoder total 5 covered 5 escapes 0", f"with a decoder it is told {told}")
+    bench.is_so(told["ended"]["lines"][1] == "decoder total 6 covered 6 escapes 0", f"with a decoder it is told {told}")
     told = heard(served, served.ask("find", {**SEARCH, "march": MARCH, "letter": "C"}))
     extended = "length 10n, 0 more than march C, shortest"
     bench.is_so(told["ended"]["length"].startswith(extended), f"extended it is {told}")

@@ -6,7 +6,7 @@ import unittest
 from typing import List, Sequence
 
 from vidlakost_tools.design.backgrounds import Columns, Couples, Trial, codes_of, found, ones
-from vidlakost_tools.texts.in_word import CONTENTS, WordVerdict, steps_of
+from vidlakost_tools.texts.in_word import CONTENTS, READINGS, WordVerdict, steps_of
 from vidlakost_tools.texts.march import elements_of
 from vidlakost_tools.texts.memory import Memory, logarithmic, with_backgrounds
 
@@ -31,12 +31,12 @@ def memory(bits: int, backgrounds: Sequence[int]) -> Memory:
 
 
 def plainly(march: str, name: str, bits: int, backgrounds: Sequence[int]) -> bool:
-    """Whether a coupling is covered at all two bits, from each content, step by step."""
+    """Whether a coupling is covered at all two bits, from each content and in each reading, step by step."""
     elements, held = elements_of(march), memory(bits, backgrounds)
     return all(
-        list(steps_of(WordVerdict(name, "CF", one, other, content), elements, held))[-1].differs
+        list(steps_of(WordVerdict(name, "CF", one, other, content, reading), elements, held))[-1].differs
         for one, other in itertools.permutations(range(bits), 2)
-        for content in CONTENTS
+        for content, reading in itertools.product(CONTENTS, READINGS)
     )
 
 

@@ -28,8 +28,8 @@ class Reports(unittest.TestCase):
 
     def test_a_report(self) -> None:
         report = self.read(DECODER)
-        self.assertEqual([verdict.covered for verdict in report.verdicts], [True, True, True, False, True])
-        self.assertEqual(report.escapes, [DecoderVerdict("both and", 0, 1, "00", "udu")])
+        self.assertEqual([verdict.covered for verdict in report.verdicts], [True, True, True, False, True, False])
+        self.assertEqual(report.escapes, [DecoderVerdict(name, 0, 1, "00", "udu") for name in ("both and", "both own")])
         self.assertEqual(report.covered, 4)
 
     def test_what_is_none(self) -> None:
@@ -40,7 +40,7 @@ class Reports(unittest.TestCase):
             ("escape both and x 0 y 1 content 00 directions udu", "escape both and"),
             ("directions udu", "directions ud"),
             ("x 0 y 1", "x 1 y 1"),
-            ("escapes 1", "escapes 2"),
+            ("escapes 2", "escapes 1"),
             ("march {any(w0)", "march {any(w0"),
         ):
             self.assertRaises(ToolError, self.read, DECODER.replace(old, new))
@@ -49,7 +49,8 @@ class Reports(unittest.TestCase):
 class Decoders(unittest.TestCase):
     def test_what_an_address_reaches(self) -> None:
         reached = {name: DecoderVerdict(name, 1, 0, "00", "u").reached(1) for name in decoder.NAMES}
-        self.assertEqual(reached, {"none 0": [], "none 1": [], "other": [0], "both and": [1, 0], "both or": [1, 0]})
+        both = {name: [1, 0] for name in ("both and", "both or", "both own")}
+        self.assertEqual(reached, {"none 0": [], "none 1": [], "other": [0], **both})
         self.assertEqual(DecoderVerdict("other", 1, 0, "00", "u").reached(0), [0])
 
     def test_what_a_read_answers(self) -> None:
@@ -59,6 +60,7 @@ class Decoders(unittest.TestCase):
             ("other", "0101"),
             ("both and", "0001"),
             ("both or", "0111"),
+            ("both own", "0011"),
         ):
             verdict = DecoderVerdict(name, 0, 1, "00", "u")
             told = [verdict.answer(list(cells), 0) for cells in itertools.product((0, 1), repeat=2)]
@@ -70,6 +72,8 @@ class Decoders(unittest.TestCase):
         self.assertFalse(passes("both and", 0, "00", mats, "uuu"))
         self.assertFalse(passes("both or", 0, "00", mats, "udu"))
         self.assertTrue(passes("both and", 1, "00", mats, "uuu"))
+        self.assertTrue(passes("both own", 0, "11", "{any(w1);any(r1,w0);any(r0)}", "udu"))
+        self.assertFalse(passes("both own", 0, "00", mats, "uuu"))
 
     def test_a_pause_leaves_the_cells(self) -> None:
         self.assertTrue(passes("other", 0, "01", "{any(w1);del;any(r1)}", "uuu"))

@@ -11,7 +11,7 @@ from vidlakost_tools.design.instances import Instance, decoder_instances, instan
 from vidlakost_tools.design.parts import Limits, Part, Parts, length, opened, parts_of, shorter, text_of, trimmed
 from vidlakost_tools.design.reach import can_cover
 from vidlakost_tools.design.survivors import Survivors
-from vidlakost_tools.texts.decoder import DecoderVerdict
+from vidlakost_tools.texts.decoder import NAMES, DecoderVerdict
 from vidlakost_tools.texts.faults import Array, read_primitive
 from vidlakost_tools.texts.linked import LinkVerdict
 from vidlakost_tools.texts.march import Element, elements_of
@@ -91,7 +91,7 @@ class Surviving(unittest.TestCase):
             elements = elements_of(march)
             plainly = {
                 name
-                for name in ("none 0", "none 1", "other", "both and", "both or")
+                for name in NAMES
                 for x, content, way in itertools.product((0, 1), ("00", "01", "10", "11"), directions(elements))
                 if not list(DecoderVerdict(name, x, 1 - x, content, way).steps(elements))[-1].differs
             }

@@ -16,7 +16,7 @@ MEMORY = parse_memory("memory 1\nname duo\nwords 2\nbits 2\n")
 REPORT = f"""march {MARCH}
 memory duo words 2 bits 2 backgrounds 2 commands 16
 covered <0;0/1/-> CFst
-escape <0w1;0/1/-> CFds aggressor 0 victim 1 content 00
+escape <0w1;0/1/-> CFds aggressor 0 victim 1 content 00 reading behind
 apart 3
 total 2 covered 1 escapes 1
 """
@@ -32,11 +32,17 @@ class Reports(unittest.TestCase):
     def test_a_report(self) -> None:
         report = self.read(REPORT)
         self.assertEqual(
-            report.verdicts, [WordVerdict("<0;0/1/->", "CFst"), WordVerdict("<0w1;0/1/->", "CFds", 0, 1, "00")]
+            report.verdicts, [WordVerdict("<0;0/1/->", "CFst"), WordVerdict("<0w1;0/1/->", "CFds", 0, 1, "00", "behind")]
         )
         self.assertEqual((report.apart, report.total), (3, (2, 1, 1)))
         self.assertEqual(report.classes, {"CFst": (1, 1), "CFds": (1, 0)})
         self.assertEqual(report.memory["bits"], 2)
+
+    def test_one_bit(self) -> None:
+        text = f"march {MARCH}\nmemory duo words 2 bits 1 backgrounds 1 commands 8\napart 3\nno two bits 2\n"
+        report = self.read(text + "total 0 covered 0 escapes 0\n")
+        self.assertEqual((report.apart, report.unpaired, report.total), (3, 2, (0, 0, 0)))
+        self.assertRaises(ToolError, self.read, text.replace("no two bits 2\n", "") + "total 0 covered 0 escapes 0\n")
 
     def test_what_is_none(self) -> None:
         for old, new in (
@@ -46,6 +52,9 @@ class Reports(unittest.TestCase):
             ("victim 1", "victim 0"),
             ("victim 1", "victim 2"),
             ("content 00", "content 0"),
+            ("reading behind", "reading beside"),
+            (" reading behind", ""),
+            ("apart 3\n", "apart 3\nno two bits 2\n"),
             ("escape <0w1;0/1/-> CFds", "escape <0w1/0/-> TF"),
             ("covered <", "covers <"),
             ("march {any(w0)", "march {all(w0)"),
@@ -79,6 +88,14 @@ class Couples(unittest.TestCase):
         # w0 on both bits, where both hold 0: behind it the victim holds 1, which the read tells
         steps = self.steps("<0w0;0/1/->", 1, 0, "00")
         self.assertEqual(steps, [("", "00", False), ("w0", "01", True), ("r0", "01", False)])
+
+    def test_two_readings(self) -> None:
+        # both bits go from 0 to 1: behind the write the other bit holds 1
+        for primitive, acts in (("<0;0w1/0/->", (True, False)), ("<1;0w1/0/->", (False, True)), ("<0w1;1/0/->", (False, True))):
+            for reading, wanted in zip(in_word.READINGS, acts):
+                verdict = WordVerdict(primitive, "CF", 1, 0, "00", reading)
+                steps = list(in_word.steps_of(verdict, elements_of(MARCH), MEMORY))
+                self.assertEqual(steps[3].acts, wanted, (primitive, reading))
 
     def test_states_alone_act_before_the_test(self) -> None:
         self.assertEqual(self.steps("<1;0/1/->", 1, 0, "10")[0], ("", "11", True))

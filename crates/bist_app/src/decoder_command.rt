@@ -30,10 +30,10 @@ fn plan_decoder(alloc: Global, march: &March) -> Result<Effects, Refusal>
     ensures outputs { IfOk result (λ plan. IsDecoderDone march.now (done_of plan)) }
 {
     let report = report_decoder(alloc, march)?;
-    let line = total_text(alloc, 5, report.covered)?;
+    let line = total_text(alloc, 6, report.covered)?;
     let outputs = one_output(alloc, REPORT, report.bytes)?;
     Ok(Effects {
-        found: report.covered < 5,
+        found: report.covered < 6,
         outputs,
         line,
     })

@@ -14,7 +14,7 @@ use Rattle.cell_machine.specs.Pairs.{pair_of}
 use Rattle.pair_tracker.specs.Pairs.{ops_run, sides_run}
 use Rattle.pair_tracker.proofs.Projection.{right_first}
 use Rattle.decoder_faults.specs.declared.fault.Wired.{Wired}
-use Rattle.decoder_faults.specs.declared.fault.Wired.TheVariants.{And, Or}
+use Rattle.decoder_faults.specs.declared.fault.Wired.TheVariants.{And, Or, Own}
 use Rattle.decoder_faults.specs.declared.fault.DecoderFault.{DecoderFault}
 use Rattle.decoder_faults.specs.declared.fault.DecoderFault.TheVariants.{NoCell, OtherCell, BothCells, TakenCell}
 use Rattle.decoder_faults.specs.declared.pair.SideReach.{SideReach}
@@ -36,16 +36,22 @@ reach_is fault s q (op ∷ ops) =
 abbrev IsPlain : SideReach → Type 0
 IsPlain (Neither answer) = ⊥
 IsPlain (One s) = Unit {0}
-IsPlain (Both wired) = Unit {0}
+IsPlain (Both own wired) = Unit {0}
 
 read_written : (reach : SideReach) → IsPlain reach → (q : Pair) (bit : Bool) → pair_read reach (pair_written reach q bit) ≡ bit
 read_written (Neither answer) plain q bit = absurd plain
 read_written (One A) plain q bit = refl
 read_written (One V) plain q bit = refl
-read_written (Both And) plain q true = refl
-read_written (Both And) plain q false = refl
-read_written (Both Or) plain q true = refl
-read_written (Both Or) plain q false = refl
+read_written (Both A And) plain q true = refl
+read_written (Both A And) plain q false = refl
+read_written (Both A Or) plain q true = refl
+read_written (Both A Or) plain q false = refl
+read_written (Both A Own) plain q bit = refl
+read_written (Both V And) plain q true = refl
+read_written (Both V And) plain q false = refl
+read_written (Both V Or) plain q true = refl
+read_written (Both V Or) plain q false = refl
+read_written (Both V Own) plain q bit = refl
 
 -- the cells with what was written last, if anything was
 abbrev pair_left : SideReach → Pair → Option Bool → Pair
@@ -57,7 +63,7 @@ left_on reach q bit None = refl
 left_on (Neither answer) q bit (Some other) = refl
 left_on (One A) q bit (Some other) = refl
 left_on (One V) q bit (Some other) = refl
-left_on (Both wired) q bit (Some other) = refl
+left_on (Both own wired) q bit (Some other) = refl
 
 later_none : (o : Option Bool) → later None o ≡ o
 later_none None = refl
@@ -228,7 +234,7 @@ other_ends (Some s) left (Some bit) q reads held =
 
 -- both cells at x, and cell y at y
 both_x_first : (wired : Wired) (s : Bool) (left : Option Bool)
-    → Ends (BothCells wired) (later (Some s) left) (in_turn (tested (Both wired) (Some s) left) (tested (One V) (Some s) left) (pair_of s s)) (does_show wired true (turned (Some s) left))
+    → Ends (BothCells wired) (later (Some s) left) (in_turn (tested (Both A wired) (Some s) left) (tested (One V) (Some s) left) (pair_of s s)) (does_show wired true (turned (Some s) left))
 both_x_first And true None = (refl, refl)
 both_x_first And true (Some true) = (refl, refl)
 both_x_first And true (Some false) = tt
@@ -241,9 +247,15 @@ both_x_first Or true (Some false) = tt
 both_x_first Or false None = (refl, refl)
 both_x_first Or false (Some true) = tt
 both_x_first Or false (Some false) = (refl, refl)
+both_x_first Own true None = (refl, refl)
+both_x_first Own true (Some true) = (refl, refl)
+both_x_first Own true (Some false) = tt
+both_x_first Own false None = (refl, refl)
+both_x_first Own false (Some true) = tt
+both_x_first Own false (Some false) = (refl, refl)
 
 both_y_first : (wired : Wired) (s : Bool) (left : Option Bool)
-    → Ends (BothCells wired) (later (Some s) left) (in_turn (tested (One V) (Some s) left) (tested (Both wired) (Some s) left) (pair_of s s)) (does_show wired false (turned (Some s) left))
+    → Ends (BothCells wired) (later (Some s) left) (in_turn (tested (One V) (Some s) left) (tested (Both A wired) (Some s) left) (pair_of s s)) (does_show wired false (turned (Some s) left))
 both_y_first And true None = (refl, refl)
 both_y_first And true (Some true) = (refl, refl)
 both_y_first And true (Some false) = tt
@@ -256,11 +268,17 @@ both_y_first Or true (Some false) = (refl, refl)
 both_y_first Or false None = (refl, refl)
 both_y_first Or false (Some true) = tt
 both_y_first Or false (Some false) = (refl, refl)
+both_y_first Own true None = (refl, refl)
+both_y_first Own true (Some true) = (refl, refl)
+both_y_first Own true (Some false) = (refl, refl)
+both_y_first Own false None = (refl, refl)
+both_y_first Own false (Some true) = (refl, refl)
+both_y_first Own false (Some false) = (refl, refl)
 
 -- the reaches in the order of the visits
 abbrev both_order : Wired → Bool → Option Bool → Option Bool → Pair → Option Pair
-both_order wired true read left q = in_turn (tested (Both wired) read left) (tested (One V) read left) q
-both_order wired false read left q = in_turn (tested (One V) read left) (tested (Both wired) read left) q
+both_order wired true read left q = in_turn (tested (Both A wired) read left) (tested (One V) read left) q
+both_order wired false read left q = in_turn (tested (One V) read left) (tested (Both A wired) read left) q
 
 both_read : (wired : Wired) (x_first s : Bool) (left : Option Bool)
     → Ends (BothCells wired) (later (Some s) left) (both_order wired x_first (Some s) left (pair_of s s)) (does_show wired x_first (turned (Some s) left))
@@ -361,25 +379,26 @@ sweep_says (NoCell answer) x_first ops last next q scanned held = go x_first
     go false = subst (λ o. Ends (NoCell answer) (later last (written_last ops)) o (has_read (not answer) ops)) (sym (sides_are (NoCell answer) V A q ops)) (ends false)
 sweep_says (TakenCell answer wired) x_first ops last next q scanned held = go x_first
   where
-    both_same : (w : Wired) (bit : Bool) → pair_read (Both w) (pair_of bit bit) ≡ bit
+    both_same : (w : Wired) (bit : Bool) → pair_read (Both V w) (pair_of bit bit) ≡ bit
     both_same And true = refl
     both_same And false = refl
     both_same Or true = refl
     both_same Or false = refl
+    both_same Own bit = refl
 
-    plain : (bit : Bool) → last ≡ Some bit → pair_read (Both wired) q ≡ bit
+    plain : (bit : Bool) → last ≡ Some bit → pair_read (Both V wired) q ≡ bit
     plain bit e =
         let h : (q.a ≡ bit) × (q.v ≡ bit) = subst (λ l. Held (TakenCell answer wired) l q) e held in
-        ap (pair_read (Both wired)) (same_cells q bit h.0 h.1) ∙ both_same wired bit
+        ap (pair_read (Both V wired)) (same_cells q bit h.0 h.1) ∙ both_same wired bit
 
-    after : (l left : Option Bool) → Held (TakenCell answer wired) l q → Held (TakenCell answer wired) (later l left) (pair_left (Both wired) q left)
+    after : (l left : Option Bool) → Held (TakenCell answer wired) l q → Held (TakenCell answer wired) (later l left) (pair_left (Both V wired) q left)
     after l None h = h
     after l (Some bit) h = (refl, refl)
 
-    ends : (b : Bool) → Ends (TakenCell answer wired) (later last (written_last ops)) (none_order answer (Both wired) b ops q) (has_read (not answer) ops)
+    ends : (b : Bool) → Ends (TakenCell answer wired) (later last (written_last ops)) (none_order answer (Both V wired) b ops q) (has_read (not answer) ops)
     ends b =
-        none_ends (TakenCell answer wired) (later last (written_last ops)) answer b (Both wired) q (pair_left (Both wired) q (written_last ops)) ops
-        (plain_runs (Both wired) tt q last next ops scanned plain) (after last (written_last ops) held)
+        none_ends (TakenCell answer wired) (later last (written_last ops)) answer b (Both V wired) q (pair_left (Both V wired) q (written_last ops)) ops
+        (plain_runs (Both V wired) tt q last next ops scanned plain) (after last (written_last ops) held)
 
     go : (b : Bool) → Ends (TakenCell answer wired) (later last (written_last ops)) (sides_run (machine_of (TakenCell answer wired)) q (sides_by b) ops) (has_read (not answer) ops)
     go true = subst (λ o. Ends (TakenCell answer wired) (later last (written_last ops)) o (has_read (not answer) ops)) (sym (sides_are (TakenCell answer wired) A V q ops)) (ends true)

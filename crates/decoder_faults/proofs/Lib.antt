@@ -9,3 +9,4 @@ pub mod Classic
 pub mod Among
 pub mod Lines
 pub mod TakenCells
+pub mod Books

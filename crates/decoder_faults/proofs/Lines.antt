@@ -57,11 +57,15 @@ line_has k true n = record {
     others z zx zy false off = (λ e. zx (omega arith), λ e. zx (omega arith))
 
 pub lines_detected : (march : List MarchElement) → DetectsAmong march OtherCell → DetectsStuckLines march
-lines_detected march among size k false directions content more allowed len =
+lines_detected march among size k false directions content (z, inside, on) allowed len =
     let some : 0 < 2 ^ k = pow_pos k in
+    let high : 2 ^ k ≤ z = above k z on in
+    let more : 2 ^ k < size = omega arith in
     among size directions (stuck_line k false) (apart_by k false) content allowed
     (record { x_within = more; y_within = omega arith; apart = λ e. (let clash : 2 ^ k ≡ 0 = e in omega arith) }) (line_has k false size) len
-lines_detected march among size k true directions content more allowed len =
+lines_detected march among size k true directions content (z, inside, on) allowed len =
     let some : 0 < 2 ^ k = pow_pos k in
+    let high : 2 ^ k ≤ z = above k z on in
+    let more : 2 ^ k < size = omega arith in
     among size directions (stuck_line k true) (apart_by k true) content allowed
     (record { x_within = omega arith; y_within = more; apart = λ e. (let clash : 0 ≡ 2 ^ k = e in omega arith) }) (line_has k true size) len

@@ -1,6 +1,5 @@
 -- A march detects a fault of the address decoder exactly where one of its elements catches it alone, with x below y and with x above y.
 use Rattle.std.proofs.Common.{◌≡◌, ℕ, Bool, true, false, not, cond, ◌&&◌, ◌||◌, Option, Some, None, is_some, List, [], ◌∷◌, length, refl, ap, sym, subst, ◌∙◌}
-use Rattle.fault_core.specs.Primitive.{same_bit}
 use Rattle.march_core.specs.declared.operation.Order.{Order}
 use Rattle.march_core.specs.declared.operation.Order.TheVariants.{Up, Down, Any}
 use Rattle.march_core.specs.inner.Scan.{scan_of}
@@ -18,7 +17,7 @@ use Rattle.pair_tracker.proofs.Projection.{scan_parts}
 use Rattle.decoder_faults.specs.declared.fault.Wired.{Wired}
 use Rattle.decoder_faults.specs.declared.fault.DecoderFault.{DecoderFault}
 use Rattle.decoder_faults.specs.declared.fault.DecoderFault.TheVariants.{NoCell, OtherCell, BothCells, TakenCell}
-use Rattle.decoder_faults.specs.Conditions.{turned_by, shown_bit, is_x_first, has_read, does_show, catches, some_element}
+use Rattle.decoder_faults.specs.Conditions.{turned_by, does_tell, is_x_first, has_read, does_show, catches, some_element}
 use Rattle.decoder_faults.specs.inner.Pairs.{machine_of}
 use Rattle.decoder_faults.proofs.Elements.{Held, caught_by, Ends, sides_by, sweep_ends}
 use Rattle.pair_tracker.proofs.Passing.{all_between}
@@ -133,9 +132,9 @@ shows_twice wired below order None = none order
 shows_twice wired true Up (Some bit) = refl
 shows_twice wired true Down (Some bit) = refl
 shows_twice wired true Any (Some bit) = refl
-shows_twice wired false Up (Some bit) = or_false (not (same_bit bit (shown_bit wired)))
+shows_twice wired false Up (Some bit) = or_false (not (does_tell wired bit))
 shows_twice wired false Down (Some bit) = refl
-shows_twice wired false Any (Some bit) = or_false (not (same_bit bit (shown_bit wired)))
+shows_twice wired false Any (Some bit) = or_false (not (does_tell wired bit))
 
 element_passes : (fault : DecoderFault) (below : Bool) (e : MarchElement) → passes_in fault below e Upward || passes_in fault below e Downward ≡ not (catches fault below e)
 element_passes (NoCell answer) below e = same_twice (order_of e) (has_read (not answer) (ops_of e))

@@ -25,7 +25,8 @@ seen at cells = pair_at cells at.x at.y
 abbrev pub placed : AddressPair → SideReach → Reach
 placed at (Neither answer) = no_cell answer
 placed at (One s) = one_cell (place_of at.x at.y s)
-placed at (Both wired) = two_cells wired at.x at.y
+placed at (Both A wired) = two_cells wired at.x at.y
+placed at (Both V wired) = two_cells wired at.y at.x
 
 pub x_reaches : (fault : DecoderFault) (at : AddressPair) → reach_of_x fault at ≡ placed at (side_reach fault A)
 x_reaches (NoCell answer) at = refl
@@ -77,7 +78,8 @@ read_seen : (at : AddressPair) (reach : SideReach) (cells : List Bool) → read_
 read_seen at (Neither answer) cells = refl
 read_seen at (One A) cells = refl
 read_seen at (One V) cells = refl
-read_seen at (Both wired) cells = refl
+read_seen at (Both A wired) cells = refl
+read_seen at (Both V wired) cells = refl
 
 pub answer_seen : (at : AddressPair) (reach : SideReach) (cells : List Bool) (act : Act)
     → answer_through (placed at reach) cells act ≡ pair_reply reach (seen at cells) act
@@ -95,7 +97,12 @@ write_seen at n fits (One A) cells bit size =
     both_bits _ _ _ _ (get_or-set_same cells at.x bit false (rw size fits.x_within)) (get_or-set_other cells at.x at.y bit false (λ e. fits.apart (sym e)))
 write_seen at n fits (One V) cells bit size =
     both_bits _ _ _ _ (get_or-set_other cells at.y at.x bit false fits.apart) (get_or-set_same cells at.y bit false (rw size fits.y_within))
-write_seen at n fits (Both wired) cells bit size =
+write_seen at n fits (Both V wired) cells bit size =
+    let next : List Bool = slice_set cells at.y bit in
+    both_bits _ _ _ _
+    (get_or-set_same next at.x bit false (rw (length-set cells at.y bit, size) fits.x_within))
+    (get_or-set_other next at.x at.y bit false (λ e. fits.apart (sym e)) ∙ get_or-set_same cells at.y bit false (rw size fits.y_within))
+write_seen at n fits (Both A wired) cells bit size =
     let next : List Bool = slice_set cells at.x bit in
     both_bits _ _ _ _
     (get_or-set_other next at.y at.x bit false fits.apart ∙ get_or-set_same cells at.x bit false (rw size fits.x_within))
@@ -113,7 +120,9 @@ write_leaves : (at : AddressPair) (reach : SideReach) (cells : List Bool) (bit :
 write_leaves at (Neither answer) cells bit z zx zy = refl
 write_leaves at (One A) cells bit z zx zy = get_or-set_other cells at.x z bit false zx
 write_leaves at (One V) cells bit z zx zy = get_or-set_other cells at.y z bit false zy
-write_leaves at (Both wired) cells bit z zx zy =
+write_leaves at (Both V wired) cells bit z zx zy =
+    get_or-set_other (slice_set cells at.y bit) at.x z bit false zx ∙ get_or-set_other cells at.y z bit false zy
+write_leaves at (Both A wired) cells bit z zx zy =
     get_or-set_other (slice_set cells at.x bit) at.y z bit false zy ∙ get_or-set_other cells at.x z bit false zx
 
 pub act_leaves : (at : AddressPair) (reach : SideReach) (cells : List Bool) (act : Act) (z : ℕ) → z ≢ at.x → z ≢ at.y

@@ -4,7 +4,7 @@ use Rattle.fault_core.specs.declared.primitive.Act.{Act}
 use Rattle.fault_core.specs.declared.primitive.Act.TheVariants.{Write, Read}
 use Rattle.fault_core.specs.Cells.{cell}
 use Rattle.decoder_faults.specs.declared.fault.Wired.{Wired}
-use Rattle.decoder_faults.specs.declared.fault.Wired.TheVariants.{And, Or}
+use Rattle.decoder_faults.specs.declared.fault.Wired.TheVariants.{And, Or, Own}
 use Rattle.decoder_faults.specs.declared.fault.DecoderFault.{DecoderFault}
 use Rattle.decoder_faults.specs.declared.fault.DecoderFault.TheVariants.{NoCell, OtherCell, BothCells, TakenCell}
 
@@ -19,7 +19,7 @@ pub record FitsPair (at : AddressPair) (size : ℕ) : Type 0 where
   pub y_within : at.y < size
   pub apart : at.x ≢ at.y
 
--- the cells that an address reaches: none, where a read answers this bit; one; or two, where a read answers both at once
+-- the cells that an address reaches: none, where a read answers this bit; one; or two, its own and then another
 pub data Reach : Type 0 where
   no_cell : Bool → Reach
   one_cell : ℕ → Reach
@@ -38,7 +38,7 @@ reach_of_x (TakenCell answer wired) at = no_cell answer
 
 -- what address y reaches
 abbrev pub reach_of_y : DecoderFault → AddressPair → Reach
-reach_of_y (TakenCell answer wired) at = two_cells wired at.x at.y
+reach_of_y (TakenCell answer wired) at = two_cells wired at.y at.x
 reach_of_y fault at = one_cell at.y
 
 -- the decoder with the fault: an address reaches its own cell, unless it is one of the two
@@ -46,9 +46,11 @@ unfoldable pub reach_of : DecoderFault → AddressPair → Decoder
 reach_of fault at address =
     if address == at.x then reach_of_x fault at else if address == at.y then reach_of_y fault at else one_cell address
 
+-- what a read answers of two cells, of which the first is the address's own
 abbrev pub wired_bit : Wired → Bool → Bool → Bool
-wired_bit And a b = a && b
-wired_bit Or a b = a || b
+wired_bit And own other = own && other
+wired_bit Or own other = own || other
+wired_bit Own own other = own
 
 -- a write writes each cell that it reaches
 abbrev pub write_through : Reach → List Bool → Bool → List Bool

@@ -17,9 +17,13 @@ stuck_cell k true address = if line_of k address then address else address + 2 ^
 abbrev pub stuck_line : ℕ → Bool → Decoder
 stuck_line k bit address = one_cell (stuck_cell k bit address)
 
+-- an address of the array needs the line
+abbrev pub NeedsLine : ℕ → ℕ → Type 0
+NeedsLine size k = (address : ℕ) × (address < size) × (line_of k address ≡ true)
+
 -- a stuck line is caught in every array whose addresses need it, from every content, in every choice of directions
 abbrev pub DetectsStuckLines : List MarchElement → Type 0
 DetectsStuckLines march =
     (size k : ℕ) (bit : Bool) (directions : List Direction) (content : List Bool)
-    → 2 ^ k < size → IsTrue (is_direction march directions) → length content ≡ size
+    → NeedsLine size k → IsTrue (is_direction march directions) → length content ≡ size
     → IsCaught march directions (stuck_line k bit) content

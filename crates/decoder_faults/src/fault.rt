@@ -5,6 +5,8 @@ pub enum Wired {
     And,
     /// 1 where either cell holds 1.
     Or,
+    /// What the address's own cell holds.
+    Own,
 }
 
 /// A fault of the address decoder, of two different addresses x and y. All other addresses reach their own cells.

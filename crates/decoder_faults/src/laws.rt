@@ -1,8 +1,15 @@
-//! A law of these faults, the contract of a function that does nothing.
+//! Laws of these faults, the contracts of functions that do nothing.
+ghost use Rattle.decoder_faults.specs.Books.{AreOfBooks};
 ghost use Rattle.decoder_faults.specs.TakenCells.{AreAsNoCell};
 
 /// A march detects `TakenCell` exactly where it detects `NoCell` with the same answer: the two are told by reads of
 /// address x, which reaches no cell in both.
 pub fn taken_cells_are_as_none()
     ensures { AreAsNoCell }
+{}
+
+/// The faults are the four of the books: x reaches no cell, and no address cell x; both addresses reach cell y, and none cell x; x reaches
+/// both cells, and both addresses cell y; x reaches no cell, and y both.
+pub fn decoder_faults_are_of_books()
+    ensures { AreOfBooks }
 {}

@@ -21,4 +21,4 @@ mod search;
 
 pub use escape::{DecoderEscape, least_decoder_escape};
 pub use fault::{DecoderFault, Wired};
-pub use laws::taken_cells_are_as_none;
+pub use laws::{decoder_faults_are_of_books, taken_cells_are_as_none};

@@ -21,7 +21,8 @@ enum SideReach {
     /// None, and a read answers this bit.
     Neither(bool),
     One(Side),
-    Both(Wired),
+    /// Both, of which this one is its own.
+    Both(Side, Wired),
 }
 
 fn side_reach(fault: DecoderFault, on: Side) -> SideReach
@@ -31,11 +32,11 @@ fn side_reach(fault: DecoderFault, on: Side) -> SideReach
         Side::A => match fault {
             DecoderFault::NoCell(answer) => SideReach::Neither(answer),
             DecoderFault::OtherCell => SideReach::One(Side::V),
-            DecoderFault::BothCells(wired) => SideReach::Both(wired),
+            DecoderFault::BothCells(wired) => SideReach::Both(Side::A, wired),
             DecoderFault::TakenCell(answer, _) => SideReach::Neither(answer),
         },
         Side::V => match fault {
-            DecoderFault::TakenCell(_, wired) => SideReach::Both(wired),
+            DecoderFault::TakenCell(_, wired) => SideReach::Both(Side::V, wired),
             DecoderFault::NoCell(_) | DecoderFault::OtherCell | DecoderFault::BothCells(_) => {
                 SideReach::One(Side::V)
             }
@@ -43,12 +44,13 @@ fn side_reach(fault: DecoderFault, on: Side) -> SideReach
     }
 }
 
-fn wired_bit(wired: Wired, a: bool, b: bool) -> bool
-    ensures { result ≡ wired_bit wired a b }
+fn wired_bit(wired: Wired, own: bool, other: bool) -> bool
+    ensures { result ≡ wired_bit wired own other }
 {
     match wired {
-        Wired::And => a && b,
-        Wired::Or => a || b,
+        Wired::And => own && other,
+        Wired::Or => own || other,
+        Wired::Own => own,
     }
 }
 
@@ -60,7 +62,7 @@ impl SideReach {
             SideReach::Neither(_) => pair,
             SideReach::One(Side::A) => Pair { a: bit, ..pair },
             SideReach::One(Side::V) => Pair { v: bit, ..pair },
-            SideReach::Both(_) => Pair { a: bit, v: bit },
+            SideReach::Both(_, _) => Pair { a: bit, v: bit },
         }
     }
 
@@ -71,7 +73,8 @@ impl SideReach {
             SideReach::Neither(answer) => answer,
             SideReach::One(Side::A) => pair.a,
             SideReach::One(Side::V) => pair.v,
-            SideReach::Both(wired) => wired_bit(wired, pair.a, pair.v),
+            SideReach::Both(Side::A, wired) => wired_bit(wired, pair.a, pair.v),
+            SideReach::Both(Side::V, wired) => wired_bit(wired, pair.v, pair.a),
         }
     }
 

@@ -8,7 +8,7 @@ use Rattle.decoder_faults.specs.Escapes.{IsVerdict}
 use Rattle.report_lines.specs.Listed.{CountsOf, AreLinesOf}
 use Rattle.report_lines.proofs.Listed.{Tells, counted, lines_of}
 use Rattle.decoder_report.specs.declared.judged.JudgedFault.{JudgedFault}
-use Rattle.decoder_report.specs.Report.{IsLine, DetectsOfFive, IsDecoderReport}
+use Rattle.decoder_report.specs.Report.{IsLine, DetectsOfSix, IsDecoderReport}
 use Rattle.decoder_report.specs.inner.Judged.{IsJudged, AreJudged, fault_of, is_none, is_covered, line_by, judged_line, judged_lines, covered_count, report_text}
 
 tells : (march : List MarchElement) (j : JudgedFault) → IsJudged march j → Tells (DetectsDecoder march) (fault_of j) (is_covered j)
@@ -26,7 +26,7 @@ line march j = go j.fault j.escape
     go fault None h = inl (h, refl)
     go fault (Some e) h = inr (h.2, _, (e, h.0, h.1, refl), refl)
 
-pub detected : (march : List MarchElement) (js : List JudgedFault) → AreJudged march js → DetectsOfFive march (covered_count js)
+pub detected : (march : List MarchElement) (js : List JudgedFault) → AreJudged march js → DetectsOfSix march (covered_count js)
 detected march js h =
     subst (λ fs. CountsOf (DetectsDecoder march) fs (covered_count js)) h.in_order (counted (DetectsDecoder march) fault_of is_covered (IsJudged march) (tells march) js h.each)
 

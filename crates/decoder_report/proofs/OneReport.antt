@@ -55,4 +55,4 @@ pub text_one : (march : List MarchElement) (text other : List ℕ) → IsDecoder
 text_one march text other r q =
     let lines = lines_one (IsLine march) (one_line march) fault_order r.lines q.lines r.are_lines q.are_lines in
     let covered = counts_one (DetectsDecoder march) fault_order r.covered q.covered r.detects q.detects in
-    r.is ∙ (λ j. march_line march ++ lines j ++ total_line 5 (covered j)) ∙ sym q.is
+    r.is ∙ (λ j. march_line march ++ lines j ++ total_line 6 (covered j)) ∙ sym q.is

@@ -1,7 +1,7 @@
 -- Trusted. The report of the faults of the address decoder: the march, a line for each fault, and the total. Every line ends with a line feed.
 use Rattle.std.specs.Prelude.{◌≡◌, ◌++◌, ℕ, true, false, List, [], ◌∷◌, length, codes, decimal}
 use Rattle.march_core.specs.March.{MarchElement}
-use Rattle.decoder_faults.specs.declared.fault.Wired.TheVariants.{And, Or}
+use Rattle.decoder_faults.specs.declared.fault.Wired.TheVariants.{And, Or, Own}
 use Rattle.decoder_faults.specs.declared.fault.DecoderFault.{DecoderFault}
 use Rattle.decoder_faults.specs.declared.fault.DecoderFault.TheVariants.{NoCell, OtherCell, BothCells, TakenCell}
 use Rattle.decoder_faults.specs.declared.escape.DecoderEscape.{DecoderEscape}
@@ -12,7 +12,7 @@ use Rattle.report_lines.specs.Listed.{CountsOf, AreLinesOf, IsVerdictLine}
 
 -- the faults in their order; a taken cell has the verdict of no cell, and no line
 unfoldable pub fault_order : List DecoderFault
-fault_order = NoCell false ∷ NoCell true ∷ OtherCell ∷ BothCells And ∷ BothCells Or ∷ []
+fault_order = NoCell false ∷ NoCell true ∷ OtherCell ∷ BothCells And ∷ BothCells Or ∷ BothCells Own ∷ []
 
 -- the name of a fault
 abbrev pub fault_text : DecoderFault → List ℕ
@@ -21,6 +21,7 @@ fault_text (NoCell true) = codes "none 1"
 fault_text OtherCell = codes "other"
 fault_text (BothCells And) = codes "both and"
 fault_text (BothCells Or) = codes "both or"
+fault_text (BothCells Own) = codes "both own"
 fault_text (TakenCell answer wired) = codes "taken"
 
 -- the two addresses of the fault
@@ -40,13 +41,13 @@ abbrev pub IsLine : List MarchElement → DecoderFault → List ℕ → Type 0
 IsLine march fault line = IsVerdictLine (fault_text fault) (DetectsDecoder march fault) (IsEscapeText march fault) line
 
 -- so many of the faults does the march detect
-abbrev pub DetectsOfFive : List MarchElement → ℕ → Type 0
-DetectsOfFive march covered = CountsOf (DetectsDecoder march) fault_order covered
+abbrev pub DetectsOfSix : List MarchElement → ℕ → Type 0
+DetectsOfSix march covered = CountsOf (DetectsDecoder march) fault_order covered
 
 -- the bytes are the report of the march
 pub record IsDecoderReport (text : List ℕ) (march : List MarchElement) : Type 0 where
   pub lines : List ℕ
   pub covered : ℕ
   pub are_lines : AreLinesOf (IsLine march) fault_order lines
-  pub detects : DetectsOfFive march covered
-  pub is : text ≡ march_line march ++ lines ++ total_line 5 covered
+  pub detects : DetectsOfSix march covered
+  pub is : text ≡ march_line march ++ lines ++ total_line 6 covered

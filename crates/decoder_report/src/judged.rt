@@ -21,11 +21,11 @@ fn judge_one(march: &March, fault: DecoderFault) -> JudgedFault
     }
 }
 
-/// The five faults of a report with their verdicts, in their order.
+/// The six faults of a report with their verdicts, in their order.
 #[tactic(auto, unfolding(crate::specs::Report::fault_order))]
-pub(crate) fn judge_faults(march: &March) -> [JudgedFault; 5]
+pub(crate) fn judge_faults(march: &March) -> [JudgedFault; 6]
     ensures judged { AreJudged march.now result }
-    ensures count { length result ≡ 5 }
+    ensures count { length result ≡ 6 }
 {
     [
         judge_one(march, DecoderFault::NoCell(false)),
@@ -33,6 +33,7 @@ pub(crate) fn judge_faults(march: &March) -> [JudgedFault; 5]
         judge_one(march, DecoderFault::OtherCell),
         judge_one(march, DecoderFault::BothCells(Wired::And)),
         judge_one(march, DecoderFault::BothCells(Wired::Or)),
+        judge_one(march, DecoderFault::BothCells(Wired::Own)),
     ]
 }
 

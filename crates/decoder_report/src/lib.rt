@@ -5,8 +5,8 @@
 //! use march_syntax::read_march;
 //!
 //! let report = report_decoder(rt.alloc(), &read_march(b"{any(w0);up(r0,w1);down(r1,w0)}")?)?;
-//! assert!(rt; report.covered == 5);
-//! assert!(rt; report.bytes.as_slice().ends_with(b"covered both or\ntotal 5 covered 5 escapes 0\n"));
+//! assert!(rt; report.covered == 6);
+//! assert!(rt; report.bytes.as_slice().ends_with(b"covered both own\ntotal 6 covered 6 escapes 0\n"));
 //! ```
 //!
 //! It never decides by itself what is covered, and speaks of no fault of the cells.

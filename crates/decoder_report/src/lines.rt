@@ -18,6 +18,7 @@ fn fault_name(fault: DecoderFault) -> &'static [u8]
         DecoderFault::OtherCell => b"other",
         DecoderFault::BothCells(Wired::And) => b"both and",
         DecoderFault::BothCells(Wired::Or) => b"both or",
+        DecoderFault::BothCells(Wired::Own) => b"both own",
         DecoderFault::TakenCell(_, _) => b"taken",
     }
 }

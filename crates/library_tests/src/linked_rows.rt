@@ -9,7 +9,9 @@ m = $w0
 > linked m r
 1 total 600 covered 0 escapes 600
 r begins march {any(w0)}\nescape LF1 <0w1/0/-> <0w0/1/-> a none b none v 0 content 000 directions u\nescape LF1 <0w1/0/-> <0r0/1/1> a none b none v 0 content 000 directions u\n
+# in the last one each has an aggressor of its own, the first's at the lower address
 r ends
+| escape LF3 <1;1r1/0/1> <1;0r0/1/1> a 0 b 1 v 2 content 000 directions u
 | kind LF1 total 12 covered 0 escapes 12
 | kind LF2aa total 240 covered 0 escapes 240
 | kind LF2av total 48 covered 0 escapes 48

@@ -9,3 +9,4 @@ pub mod Both
 pub mod Places
 pub mod Testing
 pub mod Choosing
+pub mod Alone

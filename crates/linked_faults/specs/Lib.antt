@@ -1,4 +1,5 @@
 pub mod Linking
+pub mod Alone
 pub mod Kinds
 pub mod Detection
 pub mod Escapes

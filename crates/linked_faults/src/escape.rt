@@ -1,6 +1,7 @@
 ghost use Rattle.std.specs.Prelude.{◌≡◌, ◌<◌, ◌≤◌, ℕ, None, MatchOption, length};
 ghost use Rattle.march_core.specs.March.{IsMarch};
 ghost use Rattle.linked_faults.specs.Linking.{FitsSpots, IsLinked, NeverBoth, HaveSpots};
+ghost use Rattle.linked_faults.specs.Alone.{AreAsOne};
 ghost use Rattle.linked_faults.specs.Escapes.{three_number, IsVerdict, IsVerdictAt};
 ghost use Rattle.linked_faults.specs.inner.Searching.{choice, placed, spots_in, NoneBefore, NoneIn, IsLeastIn, IsFirstFound};
 
@@ -22,12 +23,13 @@ pub struct LinkEscape {
 
 /// None exactly where the linked fault is caught at every three cells, in every array of at least three, from every
 /// content and for every choice of directions. For each single size from 3 the verdict is the same. Else the least
-/// array of three cells that passes. Where the two are linked, no act is both's. All
-/// places that two primitives can have are those of some three cells.
+/// array of three cells that passes. Where the two are linked, no act is both's, and each act and pause does what one of
+/// the two does alone. All places that two primitives can have are those of some three cells.
 pub fn least_linked_escape(march: &March, link: &Link) -> Option<LinkEscape>
     ensures verdict { IsVerdict march.now link.now result }
     ensures each_size { (size : ℕ) → 3 ≤ size → IsVerdictAt size march.now link.now result }
     ensures one_acts { IsLinked link.now → NeverBoth link.now }
+    ensures as_one { IsLinked link.now → AreAsOne link.now }
     ensures places { HaveSpots link.now }
 {
     march.known();

@@ -6,18 +6,19 @@ use Rattle.fault_core.specs.Primitive.{Primitive}
 use Rattle.cell_machine.specs.declared.pair.Pair.{Pair}
 use Rattle.cell_machine.specs.Pairs.{pair_of}
 use Rattle.march_core.specs.March.{MarchElement}
+use Rattle.word_coupling.specs.declared.reading.Reading.{Reading}
 use Rattle.word_coupling.specs.declared.ends.EndTable.{EndTable}
 use Rattle.word_coupling.specs.inner.Couples.{run_march}
 use Rattle.word_coupling.specs.Escapes.{content_number}
 use Rattle.word_coupling.specs.inner.Searching.{end_from, AreEnds, IsTable, passes_by, IsLeastContent}
 
-pub table_is : (p : Primitive) (march : List MarchElement) (t : EndTable)
-    → AreEnds p (pair_of false false) march t.in_00 → AreEnds p (pair_of false true) march t.in_01
-    → AreEnds p (pair_of true false) march t.in_10 → AreEnds p (pair_of true true) march t.in_11 → IsTable p march t
-table_is p march t e00 e01 e10 e11 background pair = go background.a background.v
+pub table_is : (r : Reading) (p : Primitive) (march : List MarchElement) (t : EndTable)
+    → AreEnds r p (pair_of false false) march t.in_00 → AreEnds r p (pair_of false true) march t.in_01
+    → AreEnds r p (pair_of true false) march t.in_10 → AreEnds r p (pair_of true true) march t.in_11 → IsTable r p march t
+table_is r p march t e00 e01 e10 e11 background pair = go background.a background.v
   where
     go : (a v : Bool)
-        → end_from (if a then (if v then t.in_11 else t.in_10) else (if v then t.in_01 else t.in_00)) pair ≡ run_march p (pair_of a v) march pair
+        → end_from (if a then (if v then t.in_11 else t.in_10) else (if v then t.in_01 else t.in_00)) pair ≡ run_march r p (pair_of a v) march pair
     go true true = e11 pair
     go true false = e10 pair
     go false true = e01 pair

@@ -15,6 +15,7 @@ use Rattle.word_device.proofs.Catching.{Ready}
 use Rattle.word_device.proofs.Running.{Settles, instance_settles}
 use Rattle.word_device.proofs.Marching.{begun, begun_ready, differs_shown}
 use Rattle.word_device.proofs.Joint.{joint_ends}
+use Rattle.word_coupling.specs.declared.reading.Reading.TheVariants.{Before}
 use Rattle.word_coupling.specs.Words.{in_word, is_wrong, is_caught}
 use Rattle.word_coupling.specs.Joint.{HasDetectedInWord, FailsInWord, JointFailsInWord}
 
@@ -35,16 +36,17 @@ later bits (Some o) steps i ws d =
     record { number = suc d.number; op = d.op; reply = d.reply; is_op = d.is_op; is_read = d.is_read; is_reply = d.is_reply; differs = d.differs }
 
 -- what is caught has a reply that differs
-caught_differs : (bits : ℕ) (i : Planted) (steps : List (Option WordOp)) (ws : List ℕ) → is_caught bits i steps ws ≡ true
+caught_differs : (bits : ℕ) (i : Planted) (steps : List (Option WordOp)) (ws : List ℕ) → is_caught Before bits i steps ws ≡ true
     → SomeReplyDiffers bits steps (replies (Some i) ws steps)
+unfolding words_after
 caught_differs bits i [] ws caught = cc
 caught_differs bits i (None ∷ steps) ws caught = later bits None steps (Some i) ws (caught_differs bits i steps (words_paused (Some i) ws) caught)
 caught_differs bits i (Some o ∷ steps) ws caught =
     go (λ there. later bits (Some o) steps (Some i) ws (caught_differs bits i steps (words_after (Some i) ws o) there))
     (is_wrong bits o (reply_to (Some i) ws o)) refl caught
   where
-    go : (is_caught bits i steps (words_after (Some i) ws o) ≡ true → SomeReplyDiffers bits (Some o ∷ steps) (replies (Some i) ws (Some o ∷ steps)))
-        → (b : Bool) → is_wrong bits o (reply_to (Some i) ws o) ≡ b → (b || is_caught bits i steps (words_after (Some i) ws o)) ≡ true
+    go : (is_caught Before bits i steps (words_after (Some i) ws o) ≡ true → SomeReplyDiffers bits (Some o ∷ steps) (replies (Some i) ws (Some o ∷ steps)))
+        → (b : Bool) → is_wrong bits o (reply_to (Some i) ws o) ≡ b → (b || is_caught Before bits i steps (words_after (Some i) ws o)) ≡ true
         → SomeReplyDiffers bits (Some o ∷ steps) (replies (Some i) ws (Some o ∷ steps))
     go rest false is there = rest there
     go rest true is here =
@@ -61,8 +63,8 @@ in_word_differs march d p word agg vic chip has =
     let start : List ℕ = rested (shape_of d) (Some i) chip.words chip.idle in
     let ready : Ready i d.words start =
     begun_ready d i chip.words chip.idle has.primitive has.places.word_within (record { size = has.words; closed = has.closed }) in
-    let caught : is_caught d.bits i (word_steps march d) start ≡ true =
-    ap (is_caught d.bits i (word_steps march d)) (sym ready.closed) ∙ has.detected word agg vic start has.places ready.size in
+    let caught : is_caught Before d.bits i (word_steps march d) start ≡ true =
+    ap (is_caught Before d.bits i (word_steps march d)) (sym ready.closed) ∙ has.detected word agg vic start has.places ready.size in
     subst
     (λ (q : Option Planted). SomeReplyDiffers d.bits (word_steps march d) (replies q (rested (shape_of d) q chip.words chip.idle) (word_steps march d)))
     (sym has.planted) (caught_differs d.bits i (word_steps march d) start caught)

@@ -9,3 +9,5 @@ pub mod Verdicts
 pub mod Failing
 pub mod Passing
 pub mod Reports
+pub mod Alike
+pub mod Chips

@@ -18,6 +18,7 @@ use Rattle.word_device.proofs.Core.{replies, operations}
 use Rattle.word_device.proofs.Running.{Settles, instance_settles}
 use Rattle.word_device.proofs.Marching.{begun, right_shown}
 use Rattle.word_device.proofs.Joint.{joint_rights}
+use Rattle.word_coupling.specs.declared.reading.Reading.TheVariants.{Before}
 use Rattle.word_coupling.specs.declared.judging.WordEscape.{WordEscape}
 use Rattle.word_coupling.specs.Words.{in_word, is_wrong, is_caught}
 use Rattle.word_coupling.specs.Joint.{HasEscapeInWord, JointPassesInWord}
@@ -39,17 +40,18 @@ neither true t h = cc
 neither false t h = (refl, h)
 
 -- what is not caught has the replies that are expected
-passed_replies : (bits : ℕ) (i : Planted) (steps : List (Option WordOp)) (ws : List ℕ) → is_caught bits i steps ws ≡ false
+passed_replies : (bits : ℕ) (i : Planted) (steps : List (Option WordOp)) (ws : List ℕ) → is_caught Before bits i steps ws ≡ false
     → (j : ℕ) (o : WordOp) → slice_get (operations steps) j ≡ Some o → o.write ≡ false → Replied bits (Some i) steps ws j o
+unfolding words_after
 passed_replies bits i [] ws passed j o is_op read = cc
 passed_replies bits i (None ∷ steps) ws passed j o is_op read = passed_replies bits i steps (words_paused (Some i) ws) passed j o is_op read
 passed_replies bits i (Some x ∷ steps) ws passed zero o is_op read =
     let same : x ≡ o = cc in
-    let parts = neither (is_wrong bits x (reply_to (Some i) ws x)) (is_caught bits i steps (words_after (Some i) ws x)) passed in
+    let parts = neither (is_wrong bits x (reply_to (Some i) ws x)) (is_caught Before bits i steps (words_after (Some i) ws x)) passed in
     let own : x.write ≡ false = ap (λ (y : WordOp). y.write) same ∙ read in
     (reply_to (Some i) ws x, refl, right_low bits x (reply_to (Some i) ws x) parts.0 own ∙ ap (λ (y : WordOp). y.word) same)
 passed_replies bits i (Some x ∷ steps) ws passed (suc j) o is_op read =
-    let parts = neither (is_wrong bits x (reply_to (Some i) ws x)) (is_caught bits i steps (words_after (Some i) ws x)) passed in
+    let parts = neither (is_wrong bits x (reply_to (Some i) ws x)) (is_caught Before bits i steps (words_after (Some i) ws x)) passed in
     passed_replies bits i steps (words_after (Some i) ws x) parts.1 j o is_op read
 
 -- ---- a primitive of two cells over a pause
@@ -95,8 +97,8 @@ escape_right march d m p word e chip has =
     let size : length chip.words ≡ d.words = ap length has.closed ∙ length-closed_words i has.content ∙ has.words in
     let settles : Settles chip.planted d.words =
     subst (λ (q : Option Planted). Settles q d.words) (sym has.planted) (instance_settles i d.words has.primitive has.within) in
-    let passed : is_caught d.bits i (word_steps march d) start ≡ false =
-    not_caught (is_caught d.bits i (word_steps march d) start) (has.escape.passes word has.content has.within has.words has.holds) in
+    let passed : is_caught Before d.bits i (word_steps march d) start ≡ false =
+    not_caught (is_caught Before d.bits i (word_steps march d) start) (has.escape.passes word has.content has.within has.words has.holds) in
     let still : rested (shape_of d) (Some i) start chip.idle ≡ start =
     begun_closed d i start chip.idle (no_retention p has.primitive has.two_cell) (closed_twice i has.content has.primitive inside) in
     let begins : begun d chip ≡ start =

@@ -1,6 +1,6 @@
 -- The words of a memory with an instance in one word are those of a good memory, but for the victim's bit.
 use Rattle.std.proofs.Common.{◌≡◌, ◌≢◌, ◌<◌, ◌^◌, ◌%◌, ℕ, Bool, true, false, not, ◌&&◌, ◌||◌, Option, Some, None, List, length, refl, ap, sym, subst, ◌∙◌, eq-eqb}
-use Rattle.std.specs.Prelude.{if◌then◌else◌, ◌==◌, slice_set, slice_index, unwrap_or}
+use Rattle.std.specs.Prelude.{if◌then◌else◌, ◌==◌, slice_set, slice_index, unwrap_or, is_some}
 use Rattle.std.proofs.Math.Nat.{mod-eq_of_lt}
 use Rattle.std.proofs.lemmas.Bool.{ne_eqb}
 use Rattle.std.proofs.lemmas.List.{get_or-set_same, get_or-set_other, set-set, set_comm, set-get_or, length-set}
@@ -16,9 +16,11 @@ use Rattle.word_device.specs.declared.device.Planted.{Planted}
 use Rattle.word_device.specs.Chips.{has_bit, with_bit, bit_in, with_bit_in, agg_bit_holds, bits_hold, closed_words, falls_on, falls_on_agg, matches, plain_words, answered, paused_words, words_after, reply_to}
 use Rattle.word_device.proofs.Lanes.{with_bit_same}
 use Rattle.word_device.proofs.Core.{length_stepped}
+use Rattle.word_coupling.specs.declared.reading.Reading.{Reading}
+use Rattle.word_coupling.specs.declared.reading.Reading.TheVariants.{Before, Behind}
 use Rattle.word_coupling.specs.declared.couple.PairOp.{PairOp}
-use Rattle.word_coupling.specs.Words.{in_word, is_wrong}
-use Rattle.word_coupling.specs.inner.Couples.{act_with, couple_acts, plain_couple, couple_after, victim_reply, is_misread}
+use Rattle.word_coupling.specs.Words.{in_word, found_in, words_by, is_wrong}
+use Rattle.word_coupling.specs.inner.Couples.{act_with, couple_acts, plain_couple, found_pair, couple_after, victim_reply, is_misread}
 use Rattle.word_coupling.proofs.Bits.{with_bit_other, with_bit_kept, with_bit_twice, low_same}
 
 -- a bit of the word
@@ -42,14 +44,15 @@ op_at agg vic o = record { write = o.write; bits = pair_of (has_bit o.word agg) 
 read_word : (w vic : ℕ) (good : List ℕ) (v : Bool) → w < length good → slice_index (stored w vic good v) w ≡ with_bit (slice_index good w) vic v
 read_word w vic good v inside = get_or-set_same good w (with_bit (slice_index good w) vic v) 0 inside
 
-vic_bit : (w vic : ℕ) (good : List ℕ) (v : Bool) → w < length good → bit_in (stored w vic good v) (bit_place w vic) ≡ v
-vic_bit w vic good v inside =
-    ap (λ (x : ℕ). has_bit x vic) (read_word w vic good v inside) ∙ with_bit_same (slice_index good w) vic v
+-- a bit of the word that is set, and another one
+bit_set : (w i : ℕ) (words : List ℕ) (b : Bool) → w < length words → bit_in (with_bit_in words (bit_place w i) b) (bit_place w i) ≡ b
+bit_set w i words b inside =
+    ap (λ (x : ℕ). has_bit x i) (read_word w i words b inside) ∙ with_bit_same (slice_index words w) i b
 
-agg_bit : (w agg vic : ℕ) (good : List ℕ) (v : Bool) → agg ≢ vic → w < length good
-    → bit_in (stored w vic good v) (bit_place w agg) ≡ has_bit (slice_index good w) agg
-agg_bit w agg vic good v apart inside =
-    ap (λ (x : ℕ). has_bit x agg) (read_word w vic good v inside) ∙ with_bit_other (slice_index good w) vic agg v apart
+pub bit_set_other : (w i j : ℕ) (words : List ℕ) (b : Bool) → j ≢ i → w < length words
+    → bit_in (with_bit_in words (bit_place w i) b) (bit_place w j) ≡ bit_in words (bit_place w j)
+bit_set_other w i j words b apart inside =
+    ap (λ (x : ℕ). has_bit x j) (read_word w i words b inside) ∙ with_bit_other (slice_index words w) i j b apart
 
 -- the last of two bits stands
 stored_twice : (w vic : ℕ) (good : List ℕ) (v c : Bool) → w < length good
@@ -77,14 +80,20 @@ pub record Shows (w agg vic : ℕ) (good : List ℕ) (pair : Pair) : Type 0 wher
   pub apart : agg ≢ vic
   pub agg_is : has_bit (slice_index good w) agg ≡ pair.a
 
+-- the states hold as in the two bits of any words
+holds_by : (p : Primitive) (w agg vic : ℕ) (words : List ℕ) (pair : Pair) → bit_in words (bit_place w vic) ≡ pair.v
+    → bit_in words (bit_place w agg) ≡ pair.a → bits_hold (in_word p w agg vic) words ≡ pair_holds p pair
+holds_by p w agg vic words pair on_vic on_agg =
+    ap (λ b. same_bit b p.vic.state && agg_bit_holds p.agg (Some (bit_place w agg)) words) on_vic
+    ∙ ap (λ b. same_bit pair.v p.vic.state && b) (agg_state p.agg (bit_place w agg) words pair.a on_agg)
+
+stored_agg : (w agg vic : ℕ) (good : List ℕ) (pair : Pair) → Shows w agg vic good pair → bit_in (stored w vic good pair.v) (bit_place w agg) ≡ pair.a
+stored_agg w agg vic good pair s = bit_set_other w vic agg good pair.v s.apart s.inside ∙ s.agg_is
+
 holds_same : (p : Primitive) (w agg vic : ℕ) (good : List ℕ) (pair : Pair) → Shows w agg vic good pair
     → bits_hold (in_word p w agg vic) (stored w vic good pair.v) ≡ pair_holds p pair
 holds_same p w agg vic good pair s =
-    let words : List ℕ = stored w vic good pair.v in
-    let rest : Bool = agg_bit_holds p.agg (Some (bit_place w agg)) words in
-    ap (λ b. same_bit b p.vic.state && rest) (vic_bit w vic good pair.v s.inside)
-    ∙ ap (λ b. same_bit pair.v p.vic.state && b)
-    (agg_state p.agg (bit_place w agg) words pair.a (agg_bit w agg vic good pair.v s.apart s.inside ∙ s.agg_is))
+    holds_by p w agg vic (stored w vic good pair.v) pair (bit_set w vic good pair.v s.inside) (stored_agg w agg vic good pair s)
 
 -- a victim that is set, where it is
 set_victim : (w vic : ℕ) (good : List ℕ) (pair : Pair) (c : Bool) → w < length good → (b : Bool)
@@ -150,18 +159,18 @@ agg_falls_here : (agg : Option Sense) (w bit word : ℕ) (write : Bool)
 agg_falls_here None w bit word write = refl
 agg_falls_here (Some sense) w bit word write = falls_here sense.act w bit word write
 
-matches_here : (p : Primitive) (w agg vic : ℕ) (good : List ℕ) (pair : Pair) (write : Bool) (word : ℕ) → Shows w agg vic good pair
-    → matches (in_word p w agg vic) (stored w vic good pair.v) (op_of write w word) ≡ couple_acts p pair (op_at agg vic (op_of write w word))
+matches_here : (p : Primitive) (w agg vic : ℕ) (words : List ℕ) (pair : Pair) (write : Bool) (word : ℕ)
+    → bits_hold (in_word p w agg vic) words ≡ pair_holds p pair
+    → matches (in_word p w agg vic) words (op_of write w word) ≡ couple_acts p pair (op_at agg vic (op_of write w word))
 unfolding matches couple_acts
-matches_here p w agg vic good pair write word s =
+matches_here p w agg vic words pair write word same =
     let i : Planted = in_word p w agg vic in
-    let words : List ℕ = stored w vic good pair.v in
     let o : WordOp = op_of write w word in
     let on_vic : Bool = has_this_act p.vic.act (act_with write (has_bit word vic)) in
     let on_agg : Bool = has_this_act (agg_act_of p.agg) (act_with write (has_bit word agg)) in
     ap (λ b. (b || falls_on_agg p.agg (Some (bit_place w agg)) o) && bits_hold i words) (falls_here p.vic.act w vic word write)
     ∙ ap (λ b. (on_vic || b) && bits_hold i words) (agg_falls_here p.agg w agg word write)
-    ∙ ap (λ b. (on_vic || on_agg) && b) (holds_same p w agg vic good pair s)
+    ∙ ap (λ b. (on_vic || on_agg) && b) same
 
 -- the plain part
 written_here : (w vic : ℕ) (good : List ℕ) (word : ℕ) → w < length good → stored w vic (slice_set good w word) (has_bit word vic) ≡ slice_set good w word
@@ -188,31 +197,86 @@ shows_plain w agg vic good pair true word s =
       agg_is = ap (λ (x : ℕ). has_bit x agg) (get_or-set_same good w word 0 s.inside);
     }
 
-next_here : (p : Primitive) (w agg vic : ℕ) (good : List ℕ) (pair : Pair) (write : Bool) (word : ℕ) → Shows w agg vic good pair
-    → words_after (Some (in_word p w agg vic)) (stored w vic good pair.v) (op_of write w word)
-    ≡ stored w vic (plain_words good (op_of write w word)) (couple_after p pair (op_at agg vic (op_of write w word))).v
-unfolding words_after couple_after
-next_here p w agg vic good pair write word s =
+-- the states are found so in the two bits
+found_holds : (r : Reading) (p : Primitive) (w agg vic : ℕ) (good : List ℕ) (pair : Pair) (write : Bool) (word : ℕ) → Shows w agg vic good pair
+    → bits_hold (in_word p w agg vic) (found_in r (in_word p w agg vic) (stored w vic good pair.v) (op_of write w word))
+    ≡ pair_holds p (found_pair r p pair (op_at agg vic (op_of write w word)))
+unfolding found_pair
+found_holds Before p w agg vic good pair write word s = holds_same p w agg vic good pair s
+found_holds Behind p w agg vic good pair write word s = go (is_some p.vic.act)
+  where
+    o : WordOp
+    o = op_of write w word
+
+    words : List ℕ
+    words = stored w vic good pair.v
+
+    next : List ℕ
+    next = plain_words words o
+
+    plain : Pair
+    plain = plain_couple pair (op_at agg vic o)
+
+    shows : Shows w agg vic (plain_words good o) plain
+    shows = shows_plain w agg vic good pair write word s
+
+    is_next : next ≡ stored w vic (plain_words good o) plain.v
+    is_next = plain_here w agg vic good pair write word s
+
+    inside : w < length next
+    inside =
+        subst (λ (ws : List ℕ). w < length ws) (sym is_next)
+        (subst (λ (n : ℕ). w < n) (sym (length-set (plain_words good o) w (with_bit (slice_index (plain_words good o) w) vic plain.v))) shows.inside)
+
+    next_vic : bit_in next (bit_place w vic) ≡ plain.v
+    next_vic = ap (λ (ws : List ℕ). bit_in ws (bit_place w vic)) is_next ∙ bit_set w vic (plain_words good o) plain.v shows.inside
+
+    next_agg : bit_in next (bit_place w agg) ≡ plain.a
+    next_agg = ap (λ (ws : List ℕ). bit_in ws (bit_place w agg)) is_next ∙ stored_agg w agg vic (plain_words good o) plain shows
+
+    at : Bool → BitPlace
+    at b = if b then bit_place w vic else bit_place w agg
+
+    go : (b : Bool)
+        → bits_hold (in_word p w agg vic) (with_bit_in next (at b) (bit_in words (at b)))
+        ≡ pair_holds p (if b then pair_of plain.a pair.v else pair_of pair.a plain.v)
+    go true =
+        let was : Bool = bit_in words (bit_place w vic) in
+        holds_by p w agg vic (with_bit_in next (bit_place w vic) was) (pair_of plain.a pair.v)
+        (bit_set w vic next was inside ∙ bit_set w vic good pair.v s.inside)
+        (bit_set_other w vic agg next was s.apart inside ∙ next_agg)
+    go false =
+        let was : Bool = bit_in words (bit_place w agg) in
+        holds_by p w agg vic (with_bit_in next (bit_place w agg) was) (pair_of pair.a plain.v)
+        (bit_set_other w agg vic next was (λ e. s.apart (sym e)) inside ∙ next_vic)
+        (bit_set w agg next was inside ∙ stored_agg w agg vic good pair s)
+
+next_here : (r : Reading) (p : Primitive) (w agg vic : ℕ) (good : List ℕ) (pair : Pair) (write : Bool) (word : ℕ) → Shows w agg vic good pair
+    → words_by r (in_word p w agg vic) (stored w vic good pair.v) (op_of write w word)
+    ≡ stored w vic (plain_words good (op_of write w word)) (couple_after r p pair (op_at agg vic (op_of write w word))).v
+unfolding couple_after
+next_here r p w agg vic good pair write word s =
     let i : Planted = in_word p w agg vic in
     let words : List ℕ = stored w vic good pair.v in
     let o : WordOp = op_of write w word in
-    let own : Bool = couple_acts p pair (op_at agg vic o) in
+    let found : Pair = found_pair r p pair (op_at agg vic o) in
+    let own : Bool = couple_acts p found (op_at agg vic o) in
     let next : List ℕ = plain_words good o in
     let plain : Pair = plain_couple pair (op_at agg vic o) in
     let shows : Shows w agg vic next plain = shows_plain w agg vic good pair write word s in
     let set_in : List ℕ → List ℕ = λ (ws : List ℕ). if own then with_bit_in ws (bit_place w vic) p.after else ws in
     ap (λ (b : Bool). closed_words i (if b then with_bit_in (plain_words words o) (bit_place w vic) p.after else plain_words words o))
-    (matches_here p w agg vic good pair write word s)
+    (matches_here p w agg vic (found_in r i words o) found write word (found_holds r p w agg vic good pair write word s))
     ∙ ap (λ (ws : List ℕ). closed_words i (set_in ws)) (plain_here w agg vic good pair write word s)
     ∙ ap (closed_words i) (set_victim w vic next plain p.after shows.inside own)
     ∙ closed_same p w agg vic next (if own then with_victim plain p.after else plain) (with_set w agg vic next plain p.after own shows)
 
-shows_here : (p : Primitive) (w agg vic : ℕ) (good : List ℕ) (pair : Pair) (write : Bool) (word : ℕ) → Shows w agg vic good pair
-    → Shows w agg vic (plain_words good (op_of write w word)) (couple_after p pair (op_at agg vic (op_of write w word)))
+shows_here : (r : Reading) (p : Primitive) (w agg vic : ℕ) (good : List ℕ) (pair : Pair) (write : Bool) (word : ℕ) → Shows w agg vic good pair
+    → Shows w agg vic (plain_words good (op_of write w word)) (couple_after r p pair (op_at agg vic (op_of write w word)))
 unfolding couple_after
-shows_here p w agg vic good pair write word s =
+shows_here r p w agg vic good pair write word s =
     let o : WordOp = op_of write w word in
-    let own : Bool = couple_acts p pair (op_at agg vic o) in
+    let own : Bool = couple_acts p (found_pair r p pair (op_at agg vic o)) (op_at agg vic o) in
     let plain : Pair = plain_couple pair (op_at agg vic o) in
     shows_closed p w agg vic (plain_words good o) (if own then with_victim plain p.after else plain)
     (with_set w agg vic (plain_words good o) plain p.after own (shows_plain w agg vic good pair write word s))
@@ -233,7 +297,7 @@ reply_here p w agg vic good pair word s =
     let words : List ℕ = stored w vic good pair.v in
     let own : Bool = couple_acts p pair (op_at agg vic (op_of false w word)) in
     ap (λ (b : Bool). if b then answered p.answer (bit_place w vic) (slice_index words w) else slice_index words w)
-    (matches_here p w agg vic good pair false word s)
+    (matches_here p w agg vic words pair false word (holds_same p w agg vic good pair s))
     ∙ ap (λ (x : ℕ). if own then answered p.answer (bit_place w vic) x else x) (read_word w vic good pair.v s.inside)
     ∙ answered_here own p.answer (slice_index good w) w vic pair.v
 
@@ -249,30 +313,30 @@ wrong_here p bits w agg vic good pair false word s fits low right =
     ∙ ap not (low_same bits word vic shown fits low)
 
 -- what an operation on the word makes of the memory is what it makes of the two bits
-pub record Here (p : Primitive) (bits w agg vic : ℕ) (good : List ℕ) (pair : Pair) (o : WordOp) : Type 0 where
-  pub next : words_after (Some (in_word p w agg vic)) (stored w vic good pair.v) o ≡ stored w vic (words_after None good o) (couple_after p pair (op_at agg vic o)).v
-  pub shows : Shows w agg vic (words_after None good o) (couple_after p pair (op_at agg vic o))
+pub record Here (r : Reading) (p : Primitive) (bits w agg vic : ℕ) (good : List ℕ) (pair : Pair) (o : WordOp) : Type 0 where
+  pub next : words_by r (in_word p w agg vic) (stored w vic good pair.v) o ≡ stored w vic (words_after None good o) (couple_after r p pair (op_at agg vic o)).v
+  pub shows : Shows w agg vic (words_after None good o) (couple_after r p pair (op_at agg vic o))
   pub wrong : is_wrong bits o (reply_to (Some (in_word p w agg vic)) (stored w vic good pair.v) o) ≡ is_misread p pair (op_at agg vic o)
 
-here_at : (p : Primitive) (bits w agg vic : ℕ) (good : List ℕ) (pair : Pair) (write : Bool) (word : ℕ) → Shows w agg vic good pair
+here_at : (r : Reading) (p : Primitive) (bits w agg vic : ℕ) (good : List ℕ) (pair : Pair) (write : Bool) (word : ℕ) → Shows w agg vic good pair
     → word < 2 ^ bits → vic < bits → (write ≡ false → reply_to None good (op_of write w word) ≡ word)
-    → Here p bits w agg vic good pair (op_of write w word)
+    → Here r p bits w agg vic good pair (op_of write w word)
 unfolding words_after reply_to
-here_at p bits w agg vic good pair write word s fits low right =
+here_at r p bits w agg vic good pair write word s fits low right =
     record {
-      next = next_here p w agg vic good pair write word s;
-      shows = shows_here p w agg vic good pair write word s;
+      next = next_here r p w agg vic good pair write word s;
+      shows = shows_here r p w agg vic good pair write word s;
       wrong = wrong_here p bits w agg vic good pair write word s fits low
           (λ e. sym (ap (λ (b : Bool). if b then 0 else slice_index good w) e) ∙ right e);
     }
 
-pub here : (p : Primitive) (bits w agg vic : ℕ) (good : List ℕ) (pair : Pair) (o : WordOp) → w ≡ o.index → Shows w agg vic good pair
+pub here : (r : Reading) (p : Primitive) (bits w agg vic : ℕ) (good : List ℕ) (pair : Pair) (o : WordOp) → w ≡ o.index → Shows w agg vic good pair
     → o.word < 2 ^ bits → vic < bits → (o.write ≡ false → reply_to None good o ≡ o.word)
-    → Here p bits w agg vic good pair o
-here p bits w agg vic good pair o on s fits low right =
+    → Here r p bits w agg vic good pair o
+here r p bits w agg vic good pair o on s fits low right =
     subst
-    (λ (k : ℕ). (o.write ≡ false → reply_to None good (op_of o.write k o.word) ≡ o.word) → Here p bits w agg vic good pair (op_of o.write k o.word))
-    on (here_at p bits w agg vic good pair o.write o.word s fits low) right
+    (λ (k : ℕ). (o.write ≡ false → reply_to None good (op_of o.write k o.word) ≡ o.word) → Here r p bits w agg vic good pair (op_of o.write k o.word))
+    on (here_at r p bits w agg vic good pair o.write o.word s fits low) right
 
 -- ---- an operation elsewhere
 
@@ -310,8 +374,8 @@ kept_away w good o off = go o.write
     go true = get_or-set_other good o.index w o.word 0 off
 
 -- it leaves the two bits, and a read of it is right
-pub record Away (p : Primitive) (bits w agg vic : ℕ) (good : List ℕ) (pair : Pair) (o : WordOp) : Type 0 where
-  pub next : words_after (Some (in_word p w agg vic)) (stored w vic good pair.v) o ≡ stored w vic (words_after None good o) pair.v
+pub record Away (r : Reading) (p : Primitive) (bits w agg vic : ℕ) (good : List ℕ) (pair : Pair) (o : WordOp) : Type 0 where
+  pub next : words_by r (in_word p w agg vic) (stored w vic good pair.v) o ≡ stored w vic (words_after None good o) pair.v
   pub shows : Shows w agg vic (words_after None good o) pair
   pub right : is_wrong bits o (reply_to (Some (in_word p w agg vic)) (stored w vic good pair.v) o) ≡ false
 
@@ -324,14 +388,14 @@ shows_away w agg vic good pair o off s =
       agg_is = ap (λ (x : ℕ). has_bit x agg) (kept_away w good o off) ∙ s.agg_is;
     }
 
-next_away : (p : Primitive) (w agg vic : ℕ) (good : List ℕ) (pair : Pair) (o : WordOp) → w ≢ o.index → Shows w agg vic good pair → pair_close p pair ≡ pair
-    → words_after (Some (in_word p w agg vic)) (stored w vic good pair.v) o ≡ stored w vic (words_after None good o) pair.v
+next_away : (r : Reading) (p : Primitive) (w agg vic : ℕ) (good : List ℕ) (pair : Pair) (o : WordOp) → w ≢ o.index → Shows w agg vic good pair → pair_close p pair ≡ pair
+    → words_by r (in_word p w agg vic) (stored w vic good pair.v) o ≡ stored w vic (words_after None good o) pair.v
 unfolding words_after
-next_away p w agg vic good pair o off s closed =
+next_away r p w agg vic good pair o off s closed =
     let i : Planted = in_word p w agg vic in
     let words : List ℕ = stored w vic good pair.v in
     ap (λ (b : Bool). closed_words i (if b then with_bit_in (plain_words words o) (bit_place w vic) p.after else plain_words words o))
-    (matches_away p w agg vic words o off)
+    (matches_away p w agg vic (found_in r i words o) o off)
     ∙ ap (closed_words i) (plain_away w vic good pair.v o off)
     ∙ closed_same p w agg vic (plain_words good o) pair (shows_away w agg vic good pair o off s)
     ∙ ap (λ (q : Pair). stored w vic (plain_words good o) q.v) closed
@@ -356,12 +420,12 @@ right_away p bits w agg vic good v o off fits right =
         get_or-set_other good w o.index (with_bit (slice_index good w) vic v) 0 (λ h. off (sym h)) ∙ good_read in
         ap not (eq-eqb (slice_index (stored w vic good v) o.index % 2 ^ bits) o.word (ap (λ (x : ℕ). x % 2 ^ bits) read ∙ mod-eq_of_lt fits))
 
-pub away : (p : Primitive) (bits w agg vic : ℕ) (good : List ℕ) (pair : Pair) (o : WordOp) → w ≢ o.index → Shows w agg vic good pair → pair_close p pair ≡ pair
+pub away : (r : Reading) (p : Primitive) (bits w agg vic : ℕ) (good : List ℕ) (pair : Pair) (o : WordOp) → w ≢ o.index → Shows w agg vic good pair → pair_close p pair ≡ pair
     → o.word < 2 ^ bits → (o.write ≡ false → reply_to None good o ≡ o.word)
-    → Away p bits w agg vic good pair o
-away p bits w agg vic good pair o off s closed fits right =
+    → Away r p bits w agg vic good pair o
+away r p bits w agg vic good pair o off s closed fits right =
     record {
-      next = next_away p w agg vic good pair o off s closed;
+      next = next_away r p w agg vic good pair o off s closed;
       shows = shows_away w agg vic good pair o off s;
       right = right_away p bits w agg vic good pair.v o off fits right;
     }

@@ -11,9 +11,10 @@ use Rattle.memory_desc.specs.Descriptions.{Description, IsMemory}
 use Rattle.word_march.specs.Commands.{word_steps}
 use Rattle.word_device.specs.Chips.{with_bit, closed_words}
 use Rattle.word_device.proofs.Lanes.{with_bit_same}
+use Rattle.word_coupling.specs.declared.reading.Reading.{Reading}
 use Rattle.word_coupling.specs.declared.ends.EndTable.{EndTable}
 use Rattle.word_coupling.specs.declared.judging.WordEscape.{WordEscape}
-use Rattle.word_coupling.specs.Words.{in_word, is_caught, AreBits, IsCaughtInWord, DetectsInWord}
+use Rattle.word_coupling.specs.Words.{in_word, is_caught, AreBits, IsCaughtInWord, DetectsBy}
 use Rattle.word_coupling.specs.inner.Couples.{bits_at, behind, run_march, run_test, passes}
 use Rattle.word_coupling.specs.Escapes.{Holds, IsWordEscape, IsLeastWordEscape}
 use Rattle.word_coupling.specs.inner.Searching.{end_in, IsTable, run_by, passes_by, PassesBy, IsLeastBeside}
@@ -24,18 +25,18 @@ use Rattle.word_coupling.proofs.Whole.{caught_is}
 
 -- ---- the table stands for the march
 
-by_table : (p : Primitive) (march : List MarchElement) (t : EndTable) → IsTable p march t → (agg vic : ℕ) (bs : List ℕ) (pair : Pair)
-    → run_by (end_in t) agg vic bs pair ≡ run_test p march agg vic bs pair
-by_table p march t table agg vic [] pair = refl
-by_table p march t table agg vic (b ∷ bs) pair =
-    ap (λ (r : Option Pair). behind r (run_by (end_in t) agg vic bs)) (table (bits_at agg vic b) pair)
-    ∙ behind_same (run_by (end_in t) agg vic bs) (run_test p march agg vic bs) (λ q. by_table p march t table agg vic bs q)
-    (run_march p (bits_at agg vic b) march pair)
+by_table : (r : Reading) (p : Primitive) (march : List MarchElement) (t : EndTable) → IsTable r p march t → (agg vic : ℕ) (bs : List ℕ) (pair : Pair)
+    → run_by (end_in t) agg vic bs pair ≡ run_test r p march agg vic bs pair
+by_table r p march t table agg vic [] pair = refl
+by_table r p march t table agg vic (b ∷ bs) pair =
+    ap (λ (z : Option Pair). behind z (run_by (end_in t) agg vic bs)) (table (bits_at agg vic b) pair)
+    ∙ behind_same (run_by (end_in t) agg vic bs) (run_test r p march agg vic bs) (λ q. by_table r p march t table agg vic bs q)
+    (run_march r p (bits_at agg vic b) march pair)
 
-passes_same : (p : Primitive) (march : List MarchElement) (t : EndTable) → IsTable p march t → (backgrounds : List ℕ) (agg vic : ℕ) (content : Pair)
-    → passes_by (end_in t) p backgrounds agg vic content ≡ passes p march backgrounds agg vic content
+passes_same : (r : Reading) (p : Primitive) (march : List MarchElement) (t : EndTable) → IsTable r p march t → (backgrounds : List ℕ) (agg vic : ℕ) (content : Pair)
+    → passes_by (end_in t) p backgrounds agg vic content ≡ passes r p march backgrounds agg vic content
 unfolding passes_by passes
-passes_same p march t table backgrounds agg vic content = ap is_some (by_table p march t table agg vic backgrounds (pair_close p content))
+passes_same r p march t table backgrounds agg vic content = ap is_some (by_table r p march t table agg vic backgrounds (pair_close p content))
 
 -- ---- words with this content at two bits
 
@@ -60,21 +61,21 @@ words_hold d e apart =
 
 -- ---- escapes of the words are those of the two bits
 
-module _ (p : Primitive) (march : List MarchElement) (d : Description) (t : EndTable) (is : IsPrimitive p) (is_march : IsMarch march) (m : IsMemory d)
-    (table : IsTable p march t) where
+module _ (r : Reading) (p : Primitive) (march : List MarchElement) (d : Description) (t : EndTable) (is : IsPrimitive p) (is_march : IsMarch march) (m : IsMemory d)
+    (table : IsTable r p march t) where
   -- what the test says of words in which the two bits hold a content
   caught_at : (e : WordEscape) → e.agg < d.bits → e.vic < d.bits → e.agg ≢ e.vic → (word : ℕ) (content : List ℕ) → word < d.words → length content ≡ d.words
       → Holds content word e
-      → is_caught d.bits (in_word p word e.agg e.vic) (word_steps march d) (closed_words (in_word p word e.agg e.vic) content)
+      → is_caught r d.bits (in_word p word e.agg e.vic) (word_steps march d) (closed_words (in_word p word e.agg e.vic) content)
       ≡ not (passes_by (end_in t) p d.backgrounds e.agg e.vic e.content)
   caught_at e low_agg low_vic apart word content inside size holds =
       let bits : AreBits d word e.agg e.vic = record { word_within = inside; agg_within = low_agg; vic_within = low_vic; apart = apart } in
       let seen : seen_in word e.agg e.vic content ≡ e.content = ap₂ (λ (x y : Bool). pair_of x y) holds.agg holds.vic in
-      caught_is p march d word e.agg e.vic content is is_march m bits size
-      ∙ ap (λ (c : Pair). not (passes p march d.backgrounds e.agg e.vic c)) seen
-      ∙ ap not (sym (passes_same p march t table d.backgrounds e.agg e.vic e.content))
+      caught_is r p march d word e.agg e.vic content is is_march m bits size
+      ∙ ap (λ (c : Pair). not (passes r p march d.backgrounds e.agg e.vic c)) seen
+      ∙ ap not (sym (passes_same r p march t table d.backgrounds e.agg e.vic e.content))
 
-  escape_of : (e : WordEscape) → PassesBy (end_in t) p d.bits d.backgrounds e → IsWordEscape march d p e
+  escape_of : (e : WordEscape) → PassesBy (end_in t) p d.bits d.backgrounds e → IsWordEscape r march d p e
   escape_of e by =
       record {
         agg_within = by.agg_within;
@@ -85,7 +86,7 @@ module _ (p : Primitive) (march : List MarchElement) (d : Description) (t : EndT
             cc (right, caught);
       }
 
-  passes_of : (e : WordEscape) → IsWordEscape march d p e → PassesBy (end_in t) p d.bits d.backgrounds e
+  passes_of : (e : WordEscape) → IsWordEscape r march d p e → PassesBy (end_in t) p d.bits d.backgrounds e
   passes_of e escape =
       record {
         agg_within = escape.agg_within;
@@ -107,9 +108,9 @@ module _ (p : Primitive) (march : List MarchElement) (d : Description) (t : EndT
 
   pub least_is : (vic : ℕ) (e : WordEscape) → IsLeastBeside (end_in t) p d.bits d.backgrounds vic e
       → ((f : WordEscape) → PassesBy (end_in t) p d.bits d.backgrounds f → f.vic < vic → ⊥)
-      → IsLeastWordEscape march d p e × (DetectsInWord march d p → ⊥)
+      → IsLeastWordEscape r march d p e × (DetectsBy r march d p → ⊥)
   least_is vic e beside before =
-      let escape : IsWordEscape march d p e = escape_of e beside.passes in
+      let escape : IsWordEscape r march d p e = escape_of e beside.passes in
       let low = m.words_low in
       let here = beside.vic_is in (
         record {
@@ -132,14 +133,14 @@ module _ (p : Primitive) (march : List MarchElement) (d : Description) (t : EndT
             (length-words_with d e m)),
       )
 
-  pub none_is : (n : ℕ) → d.bits ≤ n → ((f : WordEscape) → PassesBy (end_in t) p d.bits d.backgrounds f → f.vic < n → ⊥) → DetectsInWord march d p
+  pub none_is : (n : ℕ) → d.bits ≤ n → ((f : WordEscape) → PassesBy (end_in t) p d.bits d.backgrounds f → f.vic < n → ⊥) → DetectsBy r march d p
   none_is n all before word agg vic content bits size = go (passes_by (end_in t) p d.backgrounds agg vic (seen_in word agg vic content)) refl
     where
       e : WordEscape
       e = record { agg = agg; vic = vic; content = seen_in word agg vic content }
 
       go : (b : Bool) → passes_by (end_in t) p d.backgrounds agg vic (seen_in word agg vic content) ≡ b
-          → IsCaughtInWord march d (in_word p word agg vic) content
+          → IsCaughtInWord r march d (in_word p word agg vic) content
       go true passes =
           let low = bits.vic_within in
           absurd (before e (record { agg_within = bits.agg_within; vic_within = bits.vic_within; apart = bits.apart; passes = passes }) (omega arith))

@@ -5,21 +5,24 @@ use Rattle.cell_machine.specs.declared.pair.Pair.{Pair}
 use Rattle.march_core.specs.March.{MarchElement}
 use Rattle.memory_desc.specs.Descriptions.{Description}
 use Rattle.word_device.specs.Chips.{has_bit}
+use Rattle.word_coupling.specs.declared.reading.Reading.{Reading}
+use Rattle.word_coupling.specs.declared.reading.Reading.TheVariants.{Before, Behind}
 use Rattle.word_coupling.specs.declared.judging.WordEscape.{WordEscape}
-use Rattle.word_coupling.specs.Words.{in_word, IsCaughtInWord, DetectsInWord}
+use Rattle.word_coupling.specs.declared.judging.FoundEscape.{FoundEscape}
+use Rattle.word_coupling.specs.Words.{in_word, IsCaughtInWord, DetectsBy, DetectsInWord}
 
 -- the two bits of a word hold the escape's content
 pub record Holds (content : List ℕ) (word : ℕ) (e : WordEscape) : Type 0 where
   pub agg : has_bit (slice_index content word) e.agg ≡ e.content.a
   pub vic : has_bit (slice_index content word) e.vic ≡ e.content.v
 
--- no read differs, whichever word it is, and whatever its other bits and the other words hold
-pub record IsWordEscape (march : List MarchElement) (d : Description) (p : Primitive) (e : WordEscape) : Type 0 where
+-- in this reading no read differs, whichever word it is, and whatever its other bits and the other words hold
+pub record IsWordEscape (reading : Reading) (march : List MarchElement) (d : Description) (p : Primitive) (e : WordEscape) : Type 0 where
   pub agg_within : e.agg < d.bits
   pub vic_within : e.vic < d.bits
   pub apart : e.agg ≢ e.vic
   pub passes : (word : ℕ) (content : List ℕ) → word < d.words → length content ≡ d.words → Holds content word e
-      → IsCaughtInWord march d (in_word p word e.agg e.vic) content → ⊥
+      → IsCaughtInWord reading march d (in_word p word e.agg e.vic) content → ⊥
 
 -- contents in their order: 00, 01, 10, 11, the aggressor's digit first
 abbrev pub content_number : Pair → ℕ
@@ -31,11 +34,22 @@ IsNoGreater e f =
     (e.vic < f.vic)
     ⊎ ((e.vic ≡ f.vic) × ((e.agg < f.agg) ⊎ ((e.agg ≡ f.agg) × (content_number e.content ≤ content_number f.content))))
 
-pub record IsLeastWordEscape (march : List MarchElement) (d : Description) (p : Primitive) (e : WordEscape) : Type 0 where
-  pub escape : IsWordEscape march d p e
-  pub least : (f : WordEscape) → IsWordEscape march d p f → IsNoGreater e f
+pub record IsLeastWordEscape (reading : Reading) (march : List MarchElement) (d : Description) (p : Primitive) (e : WordEscape) : Type 0 where
+  pub escape : IsWordEscape reading march d p e
+  pub least : (f : WordEscape) → IsWordEscape reading march d p f → IsNoGreater e f
 
--- nothing exactly where the test catches the primitive at every two bits of every word; else the least escape
-abbrev pub IsWordVerdict : List MarchElement → Description → Primitive → Option WordEscape → Type 0
+-- in one reading: nothing exactly where the test catches the primitive at every two bits of every word; else the least escape
+abbrev pub IsVerdictBy : Reading → List MarchElement → Description → Primitive → Option WordEscape → Type 0
+IsVerdictBy reading march d p None = DetectsBy reading march d p
+IsVerdictBy reading march d p (Some e) = IsLeastWordEscape reading march d p e × (DetectsBy reading march d p → ⊥)
+
+-- the least escape of the first reading that has one
+pub record IsFirstEscape (march : List MarchElement) (d : Description) (p : Primitive) (f : FoundEscape) : Type 0 where
+  pub least : IsLeastWordEscape f.reading march d p f.at
+  pub lacks : DetectsBy f.reading march d p → ⊥
+  pub first : f.reading ≡ Behind → DetectsBy Before march d p
+
+-- nothing exactly where the test detects the primitive in each reading
+abbrev pub IsWordVerdict : List MarchElement → Description → Primitive → Option FoundEscape → Type 0
 IsWordVerdict march d p None = DetectsInWord march d p
-IsWordVerdict march d p (Some e) = IsLeastWordEscape march d p e × (DetectsInWord march d p → ⊥)
+IsWordVerdict march d p (Some f) = IsFirstEscape march d p f

@@ -1,5 +1,6 @@
 pub mod Words
 pub mod Escapes
 pub mod Joint
+pub mod Alike
 pub mod Report
 pub mod inner

@@ -2,8 +2,9 @@ ghost use Rattle.std.specs.Prelude.{◌≡◌, ◌<◌, length};
 ghost use Rattle.march_core.specs.March.{element_at};
 ghost use Rattle.cell_machine.specs.Pairs.{pair_holds, side_holds, agg_act_of, pair_close};
 ghost use Rattle.word_device.specs.Chips.{has_bit};
-ghost use Rattle.word_coupling.specs.inner.Couples.{bits_at, pair_op, act_with, couple_acts, couple_after, victim_reply, is_misread, run_op, run_ops, run_element, run_march, run_test, passes};
+ghost use Rattle.word_coupling.specs.inner.Couples.{bits_at, pair_op, act_with, couple_acts, plain_couple, found_pair, couple_after, victim_reply, is_misread, run_op, run_ops, run_element, run_march, run_test, passes};
 
+use crate::reading::Reading;
 use cell_machine::{Pair, Side, close, do_states_hold, own_act, pause};
 use fault_core::{Act, Prim};
 use march_core::{March, Op};
@@ -61,13 +62,38 @@ fn does_act(prim: &Prim, pair: Pair, op: PairOp) -> bool
         && do_states_hold(prim, pair)
 }
 
+/// The plain part of an operation.
+fn plain_couple(pair: Pair, op: PairOp) -> Pair
+    ensures { result ≡ plain_couple pair op }
+{
+    if op.write { op.bits } else { pair }
+}
+
+/// The two bits in which an operation finds the states.
+#[tactic(auto, unfolding(crate::specs::inner::Couples::found_pair))]
+fn found_pair(reading: Reading, prim: &Prim, pair: Pair, op: PairOp) -> Pair
+    ensures { result ≡ found_pair reading prim.now pair op }
+{
+    let plain = plain_couple(pair, op);
+    match reading {
+        Reading::Before => pair,
+        Reading::Behind => {
+            if prim.vic().act.is_some() {
+                Pair { v: pair.v, ..plain }
+            } else {
+                Pair { a: pair.a, ..plain }
+            }
+        }
+    }
+}
+
 /// The two bits behind an operation.
 #[tactic(auto, unfolding(crate::specs::inner::Couples::couple_after))]
-fn couple_after(prim: &Prim, pair: Pair, op: PairOp) -> Pair
-    ensures { result ≡ couple_after prim.now pair op }
+fn couple_after(reading: Reading, prim: &Prim, pair: Pair, op: PairOp) -> Pair
+    ensures { result ≡ couple_after reading prim.now pair op }
 {
-    let mut next = if op.write { op.bits } else { pair };
-    if does_act(prim, pair, op) {
+    let mut next = plain_couple(pair, op);
+    if does_act(prim, found_pair(reading, prim, pair, op), op) {
         next.v = prim.after();
     }
     close(prim, next)
@@ -94,28 +120,29 @@ fn is_misread(prim: &Prim, pair: Pair, op: PairOp) -> bool
 }
 
 /// The two bits behind an operation, unless a read is wrong.
-fn run_op(prim: &Prim, pair: Pair, op: PairOp) -> Option<Pair>
-    ensures { result ≡ run_op prim.now pair op }
+fn run_op(reading: Reading, prim: &Prim, pair: Pair, op: PairOp) -> Option<Pair>
+    ensures { result ≡ run_op reading prim.now pair op }
 {
     if is_misread(prim, pair, op) {
         return None;
     }
-    Some(couple_after(prim, pair, op))
+    Some(couple_after(reading, prim, pair, op))
 }
 
 /// The two bits behind these operations in a background, unless a read is wrong.
-fn run_ops(prim: &Prim, background: Pair, ops: &[Op], start: Pair) -> Option<Pair>
-    ensures { result ≡ run_ops prim.now background ops.now start }
+fn run_ops(reading: Reading, prim: &Prim, background: Pair, ops: &[Op], start: Pair) -> Option<Pair>
+    ensures { result ≡ run_ops reading prim.now background ops.now start }
 {
     let mut pair = start;
     for op in ops {
-        pair = run_op(prim, pair, pair_op(background, *op))?;
+        pair = run_op(reading, prim, pair, pair_op(background, *op))?;
     }
     Some(pair)
 }
 
 /// The two bits behind an element, unless a read is wrong.
 fn run_element(
+    reading: Reading,
     prim: &Prim,
     background: Pair,
     march: &March,
@@ -123,21 +150,27 @@ fn run_element(
     start: Pair,
 ) -> Option<Pair>
     requires { element < length march.now }
-    ensures { result ≡ run_element prim.now background (element_at march.now element) start }
+    ensures { result ≡ run_element reading prim.now background (element_at march.now element) start }
 {
     if march.is_pause(element) {
         return Some(pause(prim, start));
     }
-    run_ops(prim, background, march.ops(element), start)
+    run_ops(reading, prim, background, march.ops(element), start)
 }
 
 /// The two bits behind the march in a background, unless a read is wrong.
-pub(crate) fn run_march(prim: &Prim, background: Pair, march: &March, start: Pair) -> Option<Pair>
-    ensures { result ≡ run_march prim.now background march.now start }
+pub(crate) fn run_march(
+    reading: Reading,
+    prim: &Prim,
+    background: Pair,
+    march: &March,
+    start: Pair,
+) -> Option<Pair>
+    ensures { result ≡ run_march reading prim.now background march.now start }
 {
     let mut pair = start;
     for element in 0..march.len() {
-        pair = run_element(prim, background, march, element, pair)?;
+        pair = run_element(reading, prim, background, march, element, pair)?;
     }
     Some(pair)
 }

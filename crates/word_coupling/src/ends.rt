@@ -2,6 +2,7 @@ ghost use Rattle.std.specs.Prelude.{◌≡◌};
 ghost use Rattle.word_coupling.specs.inner.Searching.{end_from, ends_in, end_in, AreEnds, IsTable};
 
 use crate::couple::run_march;
+use crate::reading::Reading;
 use cell_machine::Pair;
 use fault_core::Prim;
 use march_core::March;
@@ -25,26 +26,32 @@ pub(crate) struct EndTable {
 }
 
 /// Where a march leads in a background that has these two bits.
-fn ends_of(prim: &Prim, march: &March, background: Pair) -> Ends
-    ensures { AreEnds prim.now background march.now result }
+fn ends_of(reading: Reading, prim: &Prim, march: &March, background: Pair) -> Ends
+    ensures { AreEnds reading prim.now background march.now result }
 {
     Ends {
-        from_00: run_march(prim, background, march, Pair { a: false, v: false }),
-        from_01: run_march(prim, background, march, Pair { a: false, v: true }),
-        from_10: run_march(prim, background, march, Pair { a: true, v: false }),
-        from_11: run_march(prim, background, march, Pair { a: true, v: true }),
+        from_00: run_march(
+            reading,
+            prim,
+            background,
+            march,
+            Pair { a: false, v: false },
+        ),
+        from_01: run_march(reading, prim, background, march, Pair { a: false, v: true }),
+        from_10: run_march(reading, prim, background, march, Pair { a: true, v: false }),
+        from_11: run_march(reading, prim, background, march, Pair { a: true, v: true }),
     }
 }
 
 /// Where a march leads in each background.
-pub(crate) fn table_of(prim: &Prim, march: &March) -> EndTable
-    ensures { IsTable prim.now march.now result }
+pub(crate) fn table_of(reading: Reading, prim: &Prim, march: &March) -> EndTable
+    ensures { IsTable reading prim.now march.now result }
 {
     EndTable {
-        in_00: ends_of(prim, march, Pair { a: false, v: false }),
-        in_01: ends_of(prim, march, Pair { a: false, v: true }),
-        in_10: ends_of(prim, march, Pair { a: true, v: false }),
-        in_11: ends_of(prim, march, Pair { a: true, v: true }),
+        in_00: ends_of(reading, prim, march, Pair { a: false, v: false }),
+        in_01: ends_of(reading, prim, march, Pair { a: false, v: true }),
+        in_10: ends_of(reading, prim, march, Pair { a: true, v: false }),
+        in_11: ends_of(reading, prim, march, Pair { a: true, v: true }),
     }
 }
 

@@ -1,11 +1,12 @@
 ghost use Rattle.std.specs.Prelude.{◌≡◌, ◌≢◌, ◌<◌, MatchOption, false, IsTrue};
 ghost use Rattle.cell_machine.specs.declared.pair.Pair.{Pair};
 ghost use Rattle.fault_core.specs.Primitive.{has_aggressor};
-ghost use Rattle.word_coupling.specs.Escapes.{IsWordVerdict, content_number};
+ghost use Rattle.word_coupling.specs.Escapes.{IsVerdictBy, IsWordVerdict, content_number};
 ghost use Rattle.word_coupling.specs.inner.Searching.{end_in, run_by, passes_by, IsLeastContent, NoneAt, IsLeastAt, NoneBeside, IsLeastBeside};
 
 use crate::couple::bits_at;
 use crate::ends::{EndTable, end_in, table_of};
+use crate::reading::Reading;
 use cell_machine::{Pair, close};
 use fault_core::Prim;
 use march_core::March;
@@ -17,6 +18,13 @@ pub struct WordEscape {
     pub agg: u8,
     pub vic: u8,
     pub content: Pair,
+}
+
+/// Such bits, and the reading in which they pass.
+#[derive(Clone, Copy)]
+pub struct FoundEscape {
+    pub reading: Reading,
+    pub at: WordEscape,
 }
 
 /// The two bits behind the whole test, unless a read is wrong.
@@ -107,13 +115,12 @@ fn least_beside(table: &EndTable, prim: &Prim, memory: &Memory, vic: u8) -> Opti
     None
 }
 
-/// The verdict on a primitive of two cells whose cells are two bits of one word, for the whole test of a memory: none exactly where every
-/// two bits of every word are caught from every content. Else the least escape: by the victim's bit, the aggressor's and their content.
-pub fn judge_in_word(march: &March, memory: &Memory, prim: &Prim) -> Option<WordEscape>
+/// The verdict in one reading.
+fn judge_by(reading: Reading, march: &March, memory: &Memory, prim: &Prim) -> Option<WordEscape>
     requires { IsTrue (has_aggressor prim.now) }
-    ensures { IsWordVerdict march.now memory.now prim.now result }
+    ensures { IsVerdictBy reading march.now memory.now prim.now result }
 {
-    let table = table_of(prim, march);
+    let table = table_of(reading, prim, march);
     march.known();
     prim.known();
     for vic in 0..memory.bits() {
@@ -122,4 +129,26 @@ pub fn judge_in_word(march: &March, memory: &Memory, prim: &Prim) -> Option<Word
         }
     }
     None
+}
+
+/// The verdict on a primitive of two cells whose cells are two bits of one word, for the whole test of a memory: none exactly where every
+/// two bits of every word are caught from every content, in each reading. Else the least escape of the first reading that has one: by the
+/// victim's bit, the aggressor's and their content. In a word of one bit there is nothing to catch.
+pub fn judge_in_word(march: &March, memory: &Memory, prim: &Prim) -> Option<FoundEscape>
+    requires { IsTrue (has_aggressor prim.now) }
+    ensures { IsWordVerdict march.now memory.now prim.now result }
+{
+    if let Some(at) = judge_by(Reading::Before, march, memory, prim) {
+        return Some(FoundEscape {
+            reading: Reading::Before,
+            at,
+        });
+    }
+    match judge_by(Reading::Behind, march, memory, prim) {
+        Some(at) => Some(FoundEscape {
+            reading: Reading::Behind,
+            at,
+        }),
+        None => None,
+    }
 }

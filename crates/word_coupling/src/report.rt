@@ -2,11 +2,12 @@
 
 ghost use Rattle.std.specs.Prelude.{◌≡◌, ◌++◌, IfOk, OnOk, codes};
 ghost use Rattle.std.specs.List.{flat_map};
-ghost use Rattle.word_coupling.specs.Report.{word_escape_text, apart_line, ReportsInWord};
+ghost use Rattle.word_coupling.specs.Report.{word_escape_text, reading_text, apart_line, unpaired_line, ReportsInWord};
 ghost use Rattle.word_coupling.specs.inner.Judged.{judged_line, in_word_text};
 
-use crate::judged::{JudgedCoupling, count_covered, judge_couplings};
+use crate::judged::{JudgedCoupling, count_couplings, count_covered, judge_couplings};
 use crate::judging::WordEscape;
+use crate::reading::Reading;
 use bist_bits::NoMemory;
 use bist_text::{put, put_number_between};
 use dynamic_core::Item;
@@ -33,15 +34,26 @@ fn write_escape(out: &mut Vec<u8>, escape: &WordEscape) -> Result<(), NoMemory>
     write_content(out, &[escape.content.a, escape.content.v])
 }
 
+/// What an escape's line ends with.
+fn reading_words(reading: Reading) -> &'static [u8]
+    ensures { result.now ≡ reading_text reading }
+{
+    match reading {
+        Reading::Before => b" reading before",
+        Reading::Behind => b" reading behind",
+    }
+}
+
 /// Appends the line of a coupling, without its end.
 fn write_coupling(out: &mut Vec<u8>, judged: &JudgedCoupling) -> Result<(), NoMemory>
     ensures { OnOk result (out.new.items ++ codes "\n" ≡ out.old.items ++ judged_line judged.now) }
 {
     match &judged.escape {
         None => write_prim(out, b"covered ", &judged.prim),
-        Some(escape) => {
+        Some(found) => {
             write_prim(out, b"escape ", &judged.prim)?;
-            write_escape(out, escape)
+            write_escape(out, &found.at)?;
+            put(out, reading_words(found.reading))
         }
     }
 }
@@ -64,21 +76,33 @@ fn write_apart(out: &mut Vec<u8>, count: usize) -> Result<(), NoMemory>
     put_number_between(out, b"apart ", count as u64, b"\n")
 }
 
-/// The report of judged couplings, of a list with so many other primitives.
+/// Appends how many couplings there are, where a word has no two bits.
+fn write_unpaired(out: &mut Vec<u8>, memory: &Memory, count: usize) -> Result<(), NoMemory>
+    ensures { OnOk result (out.new.items ≡ out.old.items ++ unpaired_line memory.now count) }
+{
+    if memory.bits() != 1 {
+        return Ok(());
+    }
+    put_number_between(out, b"no two bits ", count as u64, b"\n")
+}
+
+/// The report of judged couplings, of a list with so many other primitives, and so many couplings.
 fn write_judged(
     alloc: Global,
     march: &March,
     memory: &Memory,
     apart: usize,
+    couplings: usize,
     judged: &[JudgedCoupling],
 ) -> Result<Vec<u8>, NoMemory>
-    ensures { IfOk result (λ text. text.items ≡ in_word_text march.now memory.now apart judged.now) }
+    ensures { IfOk result (λ text. text.items ≡ in_word_text march.now memory.now apart couplings judged.now) }
 {
     let mut out = Vec::new(alloc);
     write_march(alloc, &mut out, march)?;
     write_memory(&mut out, march, Some(memory))?;
     write_couplings(&mut out, judged)?;
     write_apart(&mut out, apart)?;
+    write_unpaired(&mut out, memory, couplings)?;
     write_total(&mut out, judged.len(), count_covered(judged))?;
     Ok(out)
 }
@@ -95,10 +119,11 @@ pub fn report_in_word(
     let judged = judge_couplings(alloc, march, memory, items)?;
     let verdicts = judged.as_slice();
     let covered = count_covered(verdicts);
-    let apart = items.len() - verdicts.len();
+    let couplings = count_couplings(items);
+    let apart = items.len() - couplings;
     Ok(InWordReport {
         found: covered < verdicts.len(),
-        bytes: write_judged(alloc, march, memory, apart, verdicts)?,
+        bytes: write_judged(alloc, march, memory, apart, couplings, verdicts)?,
         line: total_text(alloc, verdicts.len(), covered)?,
     })
 }

@@ -18,7 +18,7 @@ use Rattle.word_device.specs.Chips.{has_bit}
 use Rattle.word_device.proofs.Catching.{has_bit_solid}
 use Rattle.word_device.proofs.Lanes.{lane, lane_set, lane_cell, length-lane, has_bit-zero}
 use Rattle.decoder_faults.specs.declared.fault.Wired.{Wired}
-use Rattle.decoder_faults.specs.declared.fault.Wired.TheVariants.{And, Or}
+use Rattle.decoder_faults.specs.declared.fault.Wired.TheVariants.{And, Or, Own}
 use Rattle.decoder_faults.specs.declared.fault.DecoderFault.{DecoderFault}
 use Rattle.decoder_faults.specs.Decoding.{AddressPair, FitsPair, HasFault, Decoder, Reach, no_cell, one_cell, two_cells, wired_bit, write_through, read_through, act_through, answer_through}
 use Rattle.decoder_faults.specs.Detection.{cells_behind, is_wrong_there, IsCaught, DetectsDecoder}
@@ -60,6 +60,7 @@ bits_of Or x y = ap (λ (n : ℕ). n == 1) (bit_at_or x y 0) ∙ of_max (bit_at 
     of_max (suc zero) (suc zero) h k = refl
     of_max (suc (suc a)) c h k = absurd (omega (arith, h))
     of_max a (suc (suc c)) h k = absurd (omega (arith, k))
+bits_of Own x y = refl
 
 write_as : (reach : Reach) (ws : List ℕ) (word : ℕ) (bit : Bool) → has_bit word 0 ≡ bit → lane first_bit (write_words reach ws word) ≡ write_through reach (lane first_bit ws) bit
 unfolding first_bit

@@ -4,7 +4,7 @@ use Rattle.verilog_tree.specs.Plain.{ModuleTree}
 use Rattle.march_core.specs.March.{MarchElement}
 use Rattle.memory_desc.specs.Descriptions.{Description}
 use Rattle.decoder_faults.specs.declared.fault.Wired.{Wired}
-use Rattle.decoder_faults.specs.declared.fault.Wired.TheVariants.{And, Or}
+use Rattle.decoder_faults.specs.declared.fault.Wired.TheVariants.{And, Or, Own}
 use Rattle.decoder_faults.specs.declared.fault.DecoderFault.{DecoderFault}
 use Rattle.decoder_faults.specs.Decoding.{AddressPair, FitsPair, Decoder, Reach, no_cell, one_cell, two_cells, HasFault}
 use Rattle.bench.specs.Memories.{Behaviour, Memory}
@@ -16,11 +16,13 @@ write_words (no_cell answer) words word = words
 write_words (one_cell c) words word = slice_set words c word
 write_words (two_cells wired c e) words word = slice_set (slice_set words c word) e word
 
+-- what a read answers of two words, of which the first is the address's own
 abbrev pub wired_words : Wired → ℕ → ℕ → ℕ
-wired_words And x y = bit_and x y
-wired_words Or x y = bit_or x y
+wired_words And own other = bit_and own other
+wired_words Or own other = bit_or own other
+wired_words Own own other = own
 
--- a read answers the word that it reaches; of two, bit by bit, what both together answer; and where it reaches none, this bit in each place
+-- a read answers the word that it reaches; of two, what both together answer; and where it reaches none, this bit in each place
 abbrev pub read_words : ℕ → Reach → List ℕ → ℕ
 read_words bits (no_cell answer) words = if answer then 2 ^ bits - 1 else 0
 read_words bits (one_cell c) words = slice_index words c

@@ -106,7 +106,7 @@ def in_word_rows(report: InWordReport) -> Iterator[str]:
     for verdict in report.escapes:
         bits = (
             f"aggressor at bit {verdict.aggressor}, victim at bit {verdict.victim}, which hold {verdict.content[0]} and"
-            f" {verdict.content[1]}"
+            f" {verdict.content[1]}, in the reading {verdict.reading}"
         )
         yield "<tr>" + marked(code(verdict.primitive)) + cell(verdict.kind) + cell(bits) + "</tr>"
 
@@ -148,7 +148,7 @@ def page(reports: Sequence[Report | InWordReport]) -> str:
     parts = [f"<h1>{title}</h1>", *about(reports)]
     notes = [INSIDE if isinstance(report, InWordReport) else BETWEEN for report in reports]
     if any(isinstance(report, InWordReport) and report.memory["bits"] == 1 for report in reports):
-        notes.append("A word of one bit has no two bits, so nothing escapes there.")
+        notes.append("A word of one bit has no two bits, so nothing is judged there.")
     parts += [
         f'<p class="small">{" ".join(" ".join(notes).split())}</p>',
         f"<table><tr><th>Class</th>{''.join(heads)}</tr>",

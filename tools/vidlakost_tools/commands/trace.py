@@ -76,7 +76,8 @@ Told = Iterator[Tuple[str, str, bool, List[str]]]
 def inside_word(report: InWordReport, memory: Memory) -> Told:
     for verdict in report.escapes:
         why, steps = in_word.reason(verdict, report.elements, memory)
-        said = f"{verdict.primitive} {verdict.kind} aggressor {verdict.aggressor} victim {verdict.victim}: {why}"
+        bits = f"aggressor {verdict.aggressor} victim {verdict.victim} reading {verdict.reading}"
+        said = f"{verdict.primitive} {verdict.kind} {bits}: {why}"
         yield verdict.primitive, said, steps[-1].differs, [in_word.shown(step, memory) for step in steps]
 
 

@@ -9,7 +9,7 @@ import random
 from typing import Dict, List, Sequence, Tuple
 
 from vidlakost_tools.texts.faults import Primitive, read_primitive
-from vidlakost_tools.texts.in_word import CONTENTS, Couple
+from vidlakost_tools.texts.in_word import CONTENTS, READINGS, Couple
 from vidlakost_tools.texts.march import Element
 from vidlakost_tools.texts.memory import Memory, logarithmic
 
@@ -37,32 +37,36 @@ def behind_march(couple: Couple, elements: Sequence[Element], background: str) -
 
 
 class Columns:
-    """What a march covers at two bits. A column is what one bit holds in the backgrounds, the first of them lowest."""
+    """What a march covers at two bits. A column is what one bit holds in the backgrounds, the first of them lowest. Each
+    primitive stands once for each reading, and is covered where it is in both."""
 
     def __init__(self, elements: Sequence[Element], names: Sequence[str]):
         primitives = [it for it in map(read_primitive, names) if it.aggressor is not None]
-        self.everything = (1 << len(primitives)) - 1
-        self.begun: Left = tuple(self.held(primitives, content) for content in CONTENTS)
+        self.number, self.everything = len(primitives), (1 << len(primitives)) - 1
+        read = [(primitive, reading) for reading in READINGS for primitive in primitives]
+        self.begun: Left = tuple(self.held(read, content) for content in CONTENTS)
         self.behind = {
-            digits: [self.after(primitives, elements, content, digits) for content in CONTENTS] for digits in CONTENTS
+            digits: [self.after(read, elements, content, digits) for content in CONTENTS] for digits in CONTENTS
         }
         self.known: Dict[Tuple[int, int, int], Left] = {(0, 0, 0): self.begun}
 
     @staticmethod
-    def held(primitives: Sequence[Primitive], content: str) -> int:
+    def held(read: Sequence[Tuple[Primitive, str]], content: str) -> int:
         """The primitives that may begin with a content: all but those that it makes act at once."""
         found = 0
-        for place, primitive in enumerate(primitives):
+        for place, (primitive, reading) in enumerate(read):
             for first in CONTENTS:
-                couple = Couple(primitive, first)
+                couple = Couple(primitive, first, reading)
                 couple.close()
                 found |= (couple.shown() == content) << place
         return found
 
     @staticmethod
-    def after(primitives: Sequence[Primitive], elements: Sequence[Element], content: str, background: str) -> Left:
+    def after(
+        read: Sequence[Tuple[Primitive, str]], elements: Sequence[Element], content: str, background: str
+    ) -> Left:
         """For each content, the primitives that leave it after a march that begins with another one."""
-        ends = [behind_march(Couple(primitive, content), elements, background) for primitive in primitives]
+        ends = [behind_march(Couple(primitive, content, reading), elements, background) for primitive, reading in read]
         return tuple(sum((end == content) << place for place, end in enumerate(ends)) for content in CONTENTS)
 
     def left(self, count: int, aggressor: int, victim: int) -> Left:
@@ -83,7 +87,7 @@ class Columns:
         """What is covered at two bits, with either of them as the aggressor."""
         left = 0
         for mask in (*self.left(count, one, other), *self.left(count, other, one)):
-            left |= mask
+            left |= mask | mask >> self.number
         return self.everything & ~left
 
 

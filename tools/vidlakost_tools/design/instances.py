@@ -66,8 +66,10 @@ class DecoderInstance:
         if self.name.startswith("none"):
             return 1 - int(self.name[-1]) in reads
         turns = operations[:1] == (READ,) and left_by(operations, due) != due
+        if self.name == "other":
+            return turns
         shows = {"both and": 1, "both or": 0}.get(self.name)
-        return turns and (shows is None or due == shows or self.is_lower != down)
+        return turns and (due == shows or self.is_lower != down)
 
 
 def left_by(operations: Sequence[str], due: int) -> int:
@@ -112,7 +114,11 @@ def linked_instances(name: str, first: str, second: str) -> list[Instance]:
     return made
 
 
+# two cells that answer together, or the address's own alone
+BOTH = ("both and", "both or", "both own")
+
+
 def decoder_instances() -> list[DecoderInstance]:
     """The instances of a wrong decoder."""
     made = [DecoderInstance(name) for name in ("none 0", "none 1", "other")]
-    return made + [DecoderInstance(name, lower) for name in ("both and", "both or") for lower in (True, False)]
+    return made + [DecoderInstance(name, lower) for name in BOTH for lower in (True, False)]

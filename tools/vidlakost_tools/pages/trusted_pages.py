@@ -4,7 +4,7 @@ from __future__ import annotations
 
 import hashlib
 import re
-from typing import Tuple
+from typing import Iterator, List, NamedTuple, Tuple
 
 from vidlakost_tools.pages.spec_graph import Clause, Graph
 from vidlakost_tools.pages.spec_reader import Definition, Key
@@ -145,11 +145,17 @@ def index_lines(graph: Graph, keys: list[Key]) -> list[str]:
     return made
 
 
-def index_page(graph: Graph) -> str:
+def index_page(graph: Graph, promises: str) -> str:
     headline, others = headline_and_others(graph)
+    known = {*headline, *others}
+    further = [key for key in below(graph, promised(graph, promises)) if key not in known]
     made = [INDEX_TITLE] + clause_lines(clauses_of(graph, RUN, HEADLINE)[0])
-    made += ["## The headline", ""] + table(graph, headline) + [""] + index_lines(graph, headline)
-    made += ["## The other clauses of the top call", ""] + table(graph, others) + [""] + index_lines(graph, others)
+    for title, keys in (
+        ("The headline", headline),
+        ("The other clauses of the top call", others),
+        ("The other clauses that the promises name", further),
+    ):
+        made += [f"## {title}", ""] + table(graph, keys) + [""] + index_lines(graph, keys)
     return "\n".join(made).rstrip() + "\n"
 
 
@@ -158,28 +164,63 @@ def index_page(graph: Graph) -> str:
 CLAIM = re.compile(r"`(\w+(?:::\w+)+)`(?: \((`\w+`(?:, `\w+`)*)\))?")
 
 
-def wrong_claims(graph: Graph, page: str) -> list[str]:
-    """The lines of a page's list of calls that name a call or a clause that does not exist, and what is wrong. A name
-    alone is that of a call in the crate of its line."""
-    calls: dict[str, set[str]] = {}
-    for clause in graph.clauses:
-        calls.setdefault(clause.call, set()).add(clause.name)
-    wrong = []
+class Claim(NamedTuple):
+    """What a line of a page's list names: calls, each with its clauses or with none; and the calls that are named alone,
+    beside these."""
+
+    number: int
+    calls: List[Tuple[str, List[str]]]
+    alone: List[str]
+
+    def crates(self) -> set[str]:
+        return {call.split("::")[0] for call, _ in self.calls}
+
+    def is_beside(self, call: str, name: str) -> bool:
+        return call.split("::")[0] in self.crates() and call.rsplit("::", 1)[-1] == name
+
+
+def claims_of(page: str) -> Iterator[Claim]:
+    """The lines of a page's list of calls."""
     before, heading, listed = page.rpartition("## Each call\n")
     for number, line in enumerate(listed.splitlines(), before.count("\n") + 2 if heading else 1):
         begun = line.split(": ", 1)[0] if line.startswith("- ") else ""
-        found = list(CLAIM.finditer(begun))
-        if begun and not found:
-            wrong.append(f"{number}: names no call")
-        for call, clauses in (one.groups() for one in found):
-            names = re.findall(r"\w+", clauses or "")
-            if call not in calls:
-                wrong.append(f"{number}: there is no public call {call}")
-            wrong += [f"{number}: {call} has no clause {name}" for name in names if name not in calls.get(call, names)]
-        crates = {one[1].split("::")[0] for one in found}
-        beside = {call.rsplit("::", 1)[-1] for call in calls if call.split("::")[0] in crates}
-        alone = re.findall(r"`(\w+)`", CLAIM.sub("", begun)) if found else []
+        calls = [(one[1], re.findall(r"\w+", one[2] or "")) for one in CLAIM.finditer(begun)]
+        if begun:
+            yield Claim(number, calls, re.findall(r"`(\w+)`", CLAIM.sub("", begun)) if calls else [])
+
+
+def promised(graph: Graph, page: str) -> list[Clause]:
+    """The clauses that a page's list names; all of a call that is named without any."""
+    claims = list(claims_of(page))
+
+    def is_promised(clause: Clause) -> bool:
+        return any(
+            any(clause.call == call and (not names or clause.name in names) for call, names in claim.calls)
+            or any(claim.is_beside(clause.call, name) for name in claim.alone)
+            for claim in claims
+        )
+
+    return [clause for clause in graph.clauses if is_promised(clause)]
+
+
+def wrong_claims(graph: Graph, page: str) -> list[str]:
+    """The lines of a page's list of calls that name a call or a clause that does not exist, and what is wrong. A name
+    alone is that of a call in the crate of its line."""
+    clauses: dict[str, set[str]] = {}
+    for clause in graph.clauses:
+        clauses.setdefault(clause.call, set()).add(clause.name)
+    wrong = []
+    for claim in claims_of(page):
+        if not claim.calls:
+            wrong.append(f"{claim.number}: names no call")
+        for call, names in claim.calls:
+            if call not in clauses:
+                wrong.append(f"{claim.number}: there is no public call {call}")
+            known = clauses.get(call, set(names))
+            wrong += [f"{claim.number}: {call} has no clause {name}" for name in names if name not in known]
         wrong += [
-            f"{number}: there is no public call {name} beside {found[0][1]}" for name in alone if name not in beside
+            f"{claim.number}: there is no public call {name} beside {claim.calls[0][0]}"
+            for name in claim.alone
+            if not any(claim.is_beside(call, name) for call in clauses)
         ]
     return wrong

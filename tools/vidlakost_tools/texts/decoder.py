@@ -15,13 +15,13 @@ from vidlakost_tools.tool import ToolError
 
 # the class of all of them, as the literature calls it, and their names in the order of a report
 CLASS = "AF"
-NAMES = ("none 0", "none 1", "other", "both and", "both or")
+NAMES = ("none 0", "none 1", "other", "both and", "both or", "both own")
 MEANS = "faults of the address decoder"
 VERDICT = re.compile(
     f"(?P<verdict>covered|escape) (?P<name>{'|'.join(NAMES)})"
     "(?: x (?P<x>[01]) y (?P<y>[01]) content (?P<content>[01]{2}) directions (?P<directions>[ud]{1,64}))?"
 )
-TOTAL = re.compile("total 5 covered ([0-5]) escapes ([0-5])")
+TOTAL = re.compile("total 6 covered ([0-6]) escapes ([0-6])")
 
 
 @dataclasses.dataclass
@@ -73,11 +73,11 @@ class DecoderVerdict:
         return [self.x, self.y] if self.name.startswith("both") else []
 
     def answer(self, cells: list[int], address: int) -> int:
-        """The answer of a read."""
+        """The answer of a read; the address's own cell is the first that is reached."""
         held = [cells[cell] for cell in self.reached(address)]
         if not held:
             return int(self.name[-1])
-        return min(held) if self.name == "both and" else max(held)
+        return {"both and": min(held), "both or": max(held)}.get(self.name, held[0])
 
     def steps(self, elements: list[Element]) -> Iterator[Step]:
         """The steps of a march up to the first read that differs. The cell of a step is the address; it acts at x."""
@@ -178,8 +178,6 @@ def reason(verdict: DecoderVerdict, elements: list[Element]) -> tuple[str, list[
     turning = [(count, turned(element)) for count, element in enumerate(elements) if turned(element)]
     if not turning:
         return "no element begins with a read of a bit and leaves the other, so x and y always answer alike", steps
-    told = [
-        f"in element {count} y comes first, and the {end} of both cells is what {read} of x expects"
-        for count, read in turning
-    ]
+    shows = "its own cell holds" if end == "own" else f"the {end} of both cells is"
+    told = [f"in element {count} y comes first, and {shows} what {read} of x expects" for count, read in turning]
     return "; ".join(told), steps

@@ -17,23 +17,28 @@ from vidlakost_tools.tool import ToolError
 
 ESCAPE = re.compile(
     rf"escape {ITEM} aggressor (?P<aggressor>[0-9]{{1,2}}) victim (?P<victim>[0-9]{{1,2}}) content"
-    r" (?P<content>[01]{2})"
+    r" (?P<content>[01]{2}) reading (?P<reading>before|behind)"
 )
 APART = re.compile(f"apart (?P<apart>{COUNT})")
+# the line of a memory with one bit a word
+UNPAIRED = re.compile(f"no two bits (?P<unpaired>{COUNT})")
 # what two bits can hold, the aggressor's digit first
 CONTENTS = ("00", "01", "10", "11")
+# where a write of the word finds the state of a bit beside the act: as it was before the write, or as it leaves it
+READINGS = ("before", "behind")
 
 
 @dataclasses.dataclass
 class WordVerdict:
-    """A line on a coupling. For an escape it has the numbers of two bits, and what they hold, the aggressor's digit
-    first."""
+    """A line on a coupling. For an escape it has the numbers of two bits, what they hold, the aggressor's digit first,
+    and the reading in which it escapes."""
 
     primitive: str
     kind: str
     aggressor: int = 0
     victim: int = 0
     content: str = ""
+    reading: str = READINGS[0]
 
     @property
     def covered(self) -> bool:
@@ -42,7 +47,12 @@ class WordVerdict:
     def as_object(self) -> dict[str, object]:
         made: dict[str, object] = {"primitive": self.primitive, "class": self.kind, "covered": self.covered}
         if not self.covered:
-            made["escape"] = {"aggressor": self.aggressor, "victim": self.victim, "content": self.content}
+            made["escape"] = {
+                "aggressor": self.aggressor,
+                "victim": self.victim,
+                "content": self.content,
+                "reading": self.reading,
+            }
         return made
 
 
@@ -58,6 +68,8 @@ class InWordReport:
     memory: Shape
     verdicts: list[WordVerdict]
     apart: int
+    # how many couplings no word has two bits for
+    unpaired: int = 0
 
     @property
     def escapes(self) -> list[WordVerdict]:
@@ -84,13 +96,14 @@ class InWordReport:
             "verdicts": [verdict.as_object() for verdict in self.verdicts],
             "classes": classes,
             "apart": self.apart,
+            "no_two_bits": self.unpaired,
             "total": dict(zip(("primitives", "covered", "escapes"), self.total)),
         }
 
 
 def is_in_word(path: Path) -> bool:
     """Whether a file has the line of a report of `inword` that no other report has."""
-    return any(APART.fullmatch(line) for line in lines_of(read_text(path))[-2:-1])
+    return any(APART.fullmatch(line) for line in lines_of(read_text(path))[-3:-1])
 
 
 def verdict_of(line: str, bits: int) -> WordVerdict | None:
@@ -103,7 +116,8 @@ def verdict_of(line: str, bits: int) -> WordVerdict | None:
         return None
     aggressor, victim = int(match["aggressor"]), int(match["victim"])
     within = max(aggressor, victim) < bits and read_primitive(match["primitive"]).aggressor is not None
-    return WordVerdict(match["primitive"], match["kind"], aggressor, victim, match["content"]) if within else None
+    made = WordVerdict(match["primitive"], match["kind"], aggressor, victim, match["content"], match["reading"])
+    return made if within else None
 
 
 def read_in_word(path: Path) -> InWordReport:
@@ -115,14 +129,17 @@ def read_in_word(path: Path) -> InWordReport:
 
     if len(lines) < 4 or not re.fullmatch(r"march [{}();,a-z0-9]+", lines[0]):
         refuse(1, "the first line is no march, or others are missing")
-    shape, apart, total = SHAPE.fullmatch(lines[1]), APART.fullmatch(lines[-2]), TOTAL.fullmatch(lines[-1])
+    shape, total = SHAPE.fullmatch(lines[1]), TOTAL.fullmatch(lines[-1])
     if shape is None:
         refuse(2, "the second line is not the line of a memory")
-    if apart is None or total is None:
+    unpaired = UNPAIRED.fullmatch(lines[-2]) if shape["bits"] == "1" else None
+    last = -2 if unpaired is None else -3
+    apart = APART.fullmatch(lines[last])
+    if apart is None or total is None or (unpaired is None) == (shape["bits"] == "1"):
         refuse(len(lines), "the last lines are not `apart` and the total")
     memory: Shape = {key: value if key == "name" else int(value) for key, value in shape.groupdict().items()}
     verdicts = []
-    for count, line in enumerate(lines[2:-2], 3):
+    for count, line in enumerate(lines[2:last], 3):
         verdict = verdict_of(line, int(shape["bits"]))
         if verdict is None:
             refuse(count, "a report has no such line")
@@ -131,7 +148,8 @@ def read_in_word(path: Path) -> InWordReport:
         elements = elements_of(lines[0][len("march ") :])
     except ToolError as error:
         refuse(1, error)
-    report = InWordReport(lines[0][len("march ") :], elements, memory, verdicts, int(apart["apart"]))
+    left = int(unpaired["unpaired"]) if unpaired else 0
+    report = InWordReport(lines[0][len("march ") :], elements, memory, verdicts, int(apart["apart"]), left)
     if report.total != (int(total["count"]), int(total["covered"]), int(total["escapes"])):
         refuse(len(lines), "the total does not fit the lines above")
     return report
@@ -168,19 +186,27 @@ class WordStep:
 
 class Couple:
     """Two bits of one word with an instance of a coupling, by the definition. An operation on the word is one on both
-    bits. The word is written first, and then the victim goes wrong."""
+    bits. The word is written first, and then the victim goes wrong. In the reading `behind` a write finds the bit that
+    the primitive's operation isn't on as it leaves it."""
 
-    def __init__(self, primitive: Primitive, content: str):
+    def __init__(self, primitive: Primitive, content: str, reading: str = READINGS[0]):
         if primitive.aggressor is None:
             raise ToolError("a primitive of one cell is no coupling")
         self.primitive, self.aggressor = primitive, primitive.aggressor
         self.a, self.v = int(content[0]), int(content[1])
+        self.is_behind = reading == READINGS[1]
 
     def shown(self) -> str:
         return f"{self.a}{self.v}"
 
-    def holds(self) -> bool:
-        return (self.a, self.v) == (self.aggressor.state, self.primitive.victim.state)
+    def finds(self, word: str | None) -> tuple[int, int]:
+        """The two bits in which a write of these digits (None: a read, or no operation) finds the states."""
+        if word is None or not self.is_behind:
+            return self.a, self.v
+        return (int(word[0]), self.v) if self.primitive.victim.operations else (self.a, int(word[1]))
+
+    def holds(self, word: str | None = None) -> bool:
+        return self.finds(word) == (self.aggressor.state, self.primitive.victim.state)
 
     def go_wrong(self) -> None:
         self.v = self.primitive.after
@@ -204,7 +230,7 @@ class Couple:
 
     def operate(self, word: str | None) -> tuple[str | None, bool]:
         """Writes these digits (None: reads). Returns what a read shows, and whether the primitive acted."""
-        acts = self.holds() and self.is_own(word)
+        acts = self.is_own(word) and self.holds(word)
         answer = self.shown() if word is None else None
         if word is not None:
             self.a, self.v = int(word[0]), int(word[1])
@@ -222,7 +248,7 @@ def digits(word: int, aggressor: int, victim: int) -> str:
 
 def steps_of(verdict: WordVerdict, elements: list[Element], memory: Memory) -> Iterator[WordStep]:
     """The steps of the test at the two bits of an escape, up to the first read that shows another pair."""
-    couple = Couple(read_primitive(verdict.primitive), verdict.content)
+    couple = Couple(read_primitive(verdict.primitive), verdict.content, verdict.reading)
     due = verdict.content
     acts = couple.close()
     yield WordStep(None, None, "", couple.shown(), due, None, acts)
@@ -286,6 +312,8 @@ def why_never(verdict: WordVerdict, steps: list[WordStep]) -> str:
         own, other, names = other, own, ("the victim", "the aggressor")
     if not meets_alone(couple, steps):
         return f"no {operation} comes at {names[0]} while it holds {own.state}"
+    if verdict.reading == READINGS[1] and operation[0] == "w":
+        return f"{operation} never comes at {names[0]} where {names[1]} is written {other.state}"
     return f"{operation} never comes at {names[0]} while {names[1]} holds {other.state}"
 
 

@@ -1,7 +1,7 @@
 -- What is known of `inword`.
 use Rattle.bist_app.proofs.Common.{List, [], ap, sym, ◌∙◌, ◌∷◌, ◌≡◌, leaves_conclude, then_concludes, Done, Written, list_settles, march_settles, memory_settles, InputList, InputMarch, InputMemory, Item, MarchElement, Description}
 use Rattle.word_coupling.specs.Words.{DetectsInWord}
-use Rattle.word_coupling.specs.Report.{couplings, IsInWordReport}
+use Rattle.word_coupling.specs.Report.{judged_in, IsInWordReport}
 use Rattle.word_coupling.proofs.Reports.{one_in_word_text}
 use Rattle.bist_app.proofs.Facts.{Facts, files_facts}
 use Rattle.bist_app.proofs.OneReported.{reports_one}
@@ -17,5 +17,5 @@ in_word_facts = files_facts in_word_form DecidesInWord (λ outputs. outputs) (λ
     then_concludes (InputMarch files words 1) _ (march_settles files words 1) (λ march _.
     then_concludes (InputMemory files words 2) _ (memory_settles files words 2) (λ m _.
     then_concludes (InputList files words 3) _ (list_settles files words 3) (λ items _.
-    leaves_conclude (IsJudgedInWord march m items) (λ told tells d e f g. reports_one (λ text. IsInWordReport text march m items) (DetectsInWord march m) (couplings items) d.found e.found f.bytes g.bytes d.line e.line f.reports g.reports)
+    leaves_conclude (IsJudgedInWord march m items) (λ told tells d e f g. reports_one (λ text. IsInWordReport text march m items) (DetectsInWord march m) (judged_in m items) d.found e.found f.bytes g.bytes d.line e.line f.reports g.reports)
     (λ told. files_one march m items)))))

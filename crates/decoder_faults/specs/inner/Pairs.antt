@@ -17,20 +17,21 @@ use Rattle.decoder_faults.specs.Decoding.{wired_bit}
 abbrev pub side_reach : DecoderFault → Side → SideReach
 side_reach (NoCell answer) A = Neither answer
 side_reach OtherCell A = One V
-side_reach (BothCells wired) A = Both wired
+side_reach (BothCells wired) A = Both A wired
 side_reach (TakenCell answer wired) A = Neither answer
-side_reach (TakenCell answer wired) V = Both wired
+side_reach (TakenCell answer wired) V = Both V wired
 side_reach fault V = One V
 
 abbrev pub pair_written : SideReach → Pair → Bool → Pair
 pair_written (Neither answer) q bit = q
 pair_written (One s) q bit = written_on q s bit
-pair_written (Both wired) q bit = pair_of bit bit
+pair_written (Both own wired) q bit = pair_of bit bit
 
 abbrev pub pair_read : SideReach → Pair → Bool
 pair_read (Neither answer) q = answer
 pair_read (One s) q = bit_on q s
-pair_read (Both wired) q = wired_bit wired q.a q.v
+pair_read (Both A wired) q = wired_bit wired q.a q.v
+pair_read (Both V wired) q = wired_bit wired q.v q.a
 
 abbrev pub pair_act : SideReach → Pair → Act → Pair
 pair_act reach q (Write bit) = pair_written reach q bit

@@ -29,7 +29,7 @@ is_none (Some e) = false
 unfoldable pub is_covered : JudgedFault → Bool
 is_covered j = is_none j.escape
 
--- the five faults were judged in their order, each rightly
+-- the six faults were judged in their order, each rightly
 pub record AreJudged (march : List MarchElement) (judged : List JudgedFault) : Type 0 where
   pub each : AllByRecursion (IsJudged march) judged
   pub in_order : map fault_of judged ≡ fault_order
@@ -49,4 +49,4 @@ abbrev pub covered_count : List JudgedFault → ℕ
 covered_count judged = count_by is_covered judged
 
 abbrev pub report_text : List MarchElement → List JudgedFault → List ℕ
-report_text march judged = march_line march ++ judged_lines (length march) judged ++ total_line 5 (covered_count judged)
+report_text march judged = march_line march ++ judged_lines (length march) judged ++ total_line 6 (covered_count judged)

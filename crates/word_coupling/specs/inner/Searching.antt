@@ -4,6 +4,7 @@ use Rattle.fault_core.specs.Primitive.{Primitive}
 use Rattle.cell_machine.specs.declared.pair.Pair.{Pair}
 use Rattle.cell_machine.specs.Pairs.{pair_close}
 use Rattle.march_core.specs.March.{MarchElement}
+use Rattle.word_coupling.specs.declared.reading.Reading.{Reading}
 use Rattle.word_coupling.specs.declared.judging.WordEscape.{WordEscape}
 use Rattle.word_coupling.specs.declared.ends.Ends.{Ends}
 use Rattle.word_coupling.specs.declared.ends.EndTable.{EndTable}
@@ -15,8 +16,8 @@ use Rattle.word_coupling.specs.Escapes.{content_number}
 abbrev pub end_from : Ends → Pair → Option Pair
 end_from ends pair = if pair.a then (if pair.v then ends.from_11 else ends.from_10) else (if pair.v then ends.from_01 else ends.from_00)
 
-abbrev pub AreEnds : Primitive → Pair → List MarchElement → Ends → Type 0
-AreEnds p background march ends = (pair : Pair) → end_from ends pair ≡ run_march p background march pair
+abbrev pub AreEnds : Reading → Primitive → Pair → List MarchElement → Ends → Type 0
+AreEnds r p background march ends = (pair : Pair) → end_from ends pair ≡ run_march r p background march pair
 
 abbrev pub ends_in : EndTable → Pair → Ends
 ends_in table background =
@@ -25,8 +26,8 @@ ends_in table background =
 abbrev pub end_in : EndTable → Pair → Pair → Option Pair
 end_in table background pair = end_from (ends_in table background) pair
 
-abbrev pub IsTable : Primitive → List MarchElement → EndTable → Type 0
-IsTable p march table = (background pair : Pair) → end_in table background pair ≡ run_march p background march pair
+abbrev pub IsTable : Reading → Primitive → List MarchElement → EndTable → Type 0
+IsTable r p march table = (background pair : Pair) → end_in table background pair ≡ run_march r p background march pair
 
 -- ---- what passes, where the march in a background is such a function
 

@@ -1,5 +1,5 @@
 use Rattle.std.proofs.Common.{sym, subst}
-use Rattle.decoder_report.specs.Report.{DetectsOfFive}
+use Rattle.decoder_report.specs.Report.{DetectsOfSix}
 use Rattle.decoder_report.proofs.Judging.{detected, report_of}
 use Rattle.decoder_report.proofs.write.report_decoder.Goals as goal
 
@@ -8,4 +8,4 @@ returns-clause-report c = report_of c.args.march.now c.judge_faults-judged.resul
 
 pub returns-clause-covered : goal.returns-clause-covered
 returns-clause-covered c =
-    subst (DetectsOfFive c.args.march.now) (sym c.count_covered.ensures.value) (detected c.args.march.now c.judge_faults-judged.result c.judge_faults-judged.ensures.judged)
+    subst (DetectsOfSix c.args.march.now) (sym c.count_covered.ensures.value) (detected c.args.march.now c.judge_faults-judged.result c.judge_faults-judged.ensures.judged)
