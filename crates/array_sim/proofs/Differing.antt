@@ -185,30 +185,6 @@ found p at cells steps miss is = first_found (after_step p at) (is_wrong_at p at
 pub missed : (p : Primitive) (at : Places) (cells : List Bool) (steps : List MarchStep) → IsSome (run_of p at cells steps).miss ↔ SomeDiffers p at cells steps
 missed p at cells steps = (found p at cells steps (run_of p at cells steps).miss refl).0
 
-pub differs_unless : (p : Primitive) (at : Places) (cells : List Bool) (steps : List MarchStep) → ((run_of p at cells steps).miss ≡ None → ⊥)
-    → SomeDiffers p at cells steps
-differs_unless p at cells steps passes = (missed p at cells steps).0 (some (run_of p at cells steps).miss passes)
-  where
-    some : (miss : Option Miss) → (miss ≡ None → ⊥) → IsSome miss
-    some None h = absurd (h refl)
-    some (Some miss) h = refl
-
-pub passes_unless : (p : Primitive) (at : Places) (cells : List Bool) (steps : List MarchStep) → (SomeDiffers p at cells steps → ⊥)
-    → (run_of p at cells steps).miss ≡ None
-passes_unless p at cells steps right = none (run_of p at cells steps).miss (λ some. right ((missed p at cells steps).0 some))
-  where
-    none : (miss : Option Miss) → (IsSome miss → ⊥) → miss ≡ None
-    none None h = refl
-    none (Some miss) h = absurd (h refl)
-
-pub all_right : (p : Primitive) (at : Places) (cells : List Bool) (steps : List MarchStep) → (run_of p at cells steps).miss ≡ None
-    → SomeDiffers p at cells steps → ⊥
-all_right p at cells steps passes differs = no_miss (run_of p at cells steps).miss passes ((missed p at cells steps).1 differs)
-  where
-    no_miss : (miss : Option Miss) → miss ≡ None → IsSome miss → ⊥
-    no_miss None none some = cc
-    no_miss (Some miss) none some = cc
-
 cells_are : (p : Primitive) (at : Places) (cells : List Bool) (steps : List MarchStep)
     → (run_of p at cells steps).cells ≡ left_at (after_step p at) (is_wrong_at p at) cells steps
 cells_are p at cells [] = refl

@@ -1,8 +1,7 @@
 -- A run of steps that ends at the first read that differs, for any state.
-use Rattle.std.proofs.Common.{◌≡◌, ◌≢◌, ℕ, Bool, true, false, not, cond, Option, Some, None, is_some, List, [], ◌∷◌, ◌++◌, length, refl, ap, sym, subst, ◌∙◌}
+use Rattle.std.proofs.Common.{◌≡◌, ℕ, Bool, true, false, not, cond, Option, Some, None, is_some, List, [], ◌∷◌, ◌++◌, refl, ap, sym, ◌∙◌}
 use Rattle.std.proofs.lemmas.List.{map-append}
 use Rattle.std.specs.Option.{option_and_then}
-use Rattle.fault_core.specs.Cells.{cell}
 use Rattle.march_core.specs.declared.operation.Op.{Op}
 use Rattle.march_core.specs.Visits.{Visit, MarchStep, pausing, visiting, miss_at, cell_visits, address_visits}
 use Rattle.march_core.specs.inner.Addresses.{steps_of}
@@ -50,51 +49,6 @@ module _ {S : Type 0} (after : S → MarchStep → S) (is_wrong : S → Visit �
       let none : is_some (first_of after is_wrong s steps) ≡ false = misses s steps ∙ ap (λ o. not (is_some o)) some in
       let clash : true ≡ false = sym miss ∙ none in
       cc
-
--- ---- a run of the few cells of a fault, beside the run of the whole state
-
-module _ {S Q : Type 0} (see : S → Q) where
-  -- a run of what is seen of a state is what the run of the state shows of it
-  abbrev pub Shows : Option Q → Option S → (S → Type 0) → Type 0
-  Shows None None Left = Unit {0}
-  Shows None (Some c) Left = ⊥
-  Shows (Some q) None Left = ⊥
-  Shows (Some q) (Some c) Left = (see c ≡ q) × Left c
-
-  pub shows_less : (r : Option Q) (o : Option S) (K L : S → Type 0) → ((c : S) → K c → L c) → Shows r o K → Shows r o L
-  shows_less None None K L f s = tt
-  shows_less None (Some c) K L f s = absurd s
-  shows_less (Some q) None K L f s = absurd s
-  shows_less (Some q) (Some c) K L f s = (s.0, f c s.1)
-
-  shows_on : (r : Option Q) (o : Option S) (f : Q → Option Q) (g : S → Option S) (K L : S → Type 0)
-      → Shows r o K → ((c : S) → K c → Shows (f (see c)) (g c) L) → Shows (option_and_then f r) (option_and_then g o) L
-  shows_on None None f g K L s k = tt
-  shows_on None (Some c) f g K L s k = absurd s
-  shows_on (Some q) None f g K L s k = absurd s
-  shows_on (Some q) (Some c) f g K L s k = subst (λ (r : Q). Shows (f r) (g c) L) s.0 (k c s.1)
-
-  -- steps in two parts
-  pub shows_parts : (after : S → MarchStep → S) (is_wrong : S → Visit → Bool) (s : S) (xs ys : List MarchStep) (r : Option Q) (f : Q → Option Q) (K L : S → Type 0)
-      → Shows r (run_by after is_wrong s xs) K → ((c : S) → K c → Shows (f (see c)) (run_by after is_wrong c ys) L)
-      → Shows (option_and_then f r) (run_by after is_wrong s (xs ++ ys)) L
-  shows_parts after is_wrong s xs ys r f K L shown k =
-      subst (λ (o : Option S). Shows (option_and_then f r) o L) (sym (run_append after is_wrong s xs ys))
-      (shows_on r (run_by after is_wrong s xs) f (λ c. run_by after is_wrong c ys) K L shown k)
-
-  -- the first visit, by the test of its answer
-  pub first_visit : (told wrong : Bool) (r : Option Q) (o : Option S) (K L : S → Type 0)
-      → wrong ≡ told → ((c : S) → K c → L c) → Shows r o K → Shows (cond told None r) (cond wrong None o) L
-  first_visit true true r o K L e f h = tt
-  first_visit true false r o K L e f h = cc
-  first_visit false true r o K L e f h = cc
-  first_visit false false r o K L e f h = shows_less r o K L f h
-
--- what the visits of an element to an address of no fault leave: only its cell may change, and it holds what was written last
-pub record Passes (n z : ℕ) (next : Option Bool) (before after : List Bool) : Type 0 where
-  pub size : length after ≡ n
-  pub others : (y : ℕ) → y ≢ z → cell after y ≡ cell before y
-  pub held : (bit : Bool) → next ≡ Some bit → cell after z ≡ bit
 
 -- the visits to the first address, and to the others
 pub visits_split : (e z : ℕ) (ops : List Op) (xs : List ℕ)

@@ -1,101 +1,110 @@
 -- One size stands for all: what an instance does in an array of any size, it does in an array of two cells.
-use Rattle.std.proofs.Common.{◌≡◌, ◌≢◌, ◌-◌, ◌<◌, ◌≤◌, ℕ, Bool, true, false, nat_lt, Option, Some, None, is_some, List, [], ◌∷◌, ◌++◌, length, replicate, refl, ap, sym, subst, ◌∙◌, arith, length-append}
+use Rattle.std.proofs.Common.{◌≡◌, ◌≢◌, ◌-◌, ◌<◌, ◌≤◌, ℕ, Bool, true, false, nat_lt, Option, Some, None, is_some, List, [], ◌∷◌, ◌++◌, length, map, replicate, refl, ap, sym, subst, ◌∙◌, arith, length-append}
 use Rattle.std.specs.Option.{IsSome}
 use Rattle.std.proofs.lemmas.List.{get_or_past, length-replicate}
 use Rattle.std.proofs.Math.ListN.{get_or-append}
 use Rattle.fault_core.specs.declared.cells.Places.{Places}
 use Rattle.fault_core.specs.declared.primitive.Sense.{Sense}
-use Rattle.fault_core.specs.Primitive.{Primitive}
+use Rattle.fault_core.specs.Primitive.{Primitive, IsPrimitive}
 use Rattle.fault_core.specs.Cells.{cell, close_of, FitsPlace, FitsAgg}
-use Rattle.march_core.specs.March.{MarchElement, IsMarch, all_ops}
-use Rattle.march_core.specs.Visits.{Direction, addresses, visits}
-use Rattle.march_core.proofs.Consistent.{consistent_scan, last_after}
-use Rattle.array_sim.specs.inner.Run.{Outcome, run_of, outcome_of}
-use Rattle.array_sim.specs.Detection.{DetectsAt}
-use Rattle.array_sim.proofs.Differing.{differs_unless, all_right}
+use Rattle.march_core.specs.declared.operation.Op.{Op}
+use Rattle.march_core.specs.March.{MarchElement, IsMarch}
+use Rattle.march_core.specs.Visits.{Direction, addresses}
+use Rattle.array_sim.specs.Differing.{after_step, is_wrong_at}
+use Rattle.array_sim.specs.Detection.{IsCaught, DetectsAt, Detects}
 use Rattle.cell_machine.specs.declared.pair.Pair.{Pair}
 use Rattle.cell_machine.specs.declared.pair.Side.{Side}
 use Rattle.cell_machine.specs.declared.pair.Side.TheVariants.{V}
+use Rattle.cell_machine.specs.Pairs.{pair_close}
+use Rattle.cell_machine.specs.inner.Pairs.{IsClosed}
 use Rattle.cell_machine.specs.Seen.{pair_at}
-use Rattle.pair_tracker.specs.Pairs.{Machine, sides_in}
+use Rattle.cell_machine.proofs.Projection.{pair_at-close_of, length-close_of}
+use Rattle.cell_machine.proofs.Closing.{pair_close-closed}
+use Rattle.pair_tracker.specs.Few.{Order, cells_run, few_run}
+use Rattle.pair_tracker.specs.Pairs.{machine_of, sides_in}
 use Rattle.pair_tracker.specs.declared.placement.Placement.{Placement}
 use Rattle.pair_tracker.specs.declared.placement.Placement.TheVariants.{Alone, Below, Above}
 use Rattle.pair_tracker.specs.Placements.{places_in, FitsPlacement}
-use Rattle.pair_tracker.proofs.Sides.{sides_of, addresses_sides, addresses_victim}
-use Rattle.pair_tracker.proofs.Projection.{Laws, Shows, order_run, order_visit}
-
--- the cell seen beside the victim: the aggressor's, or none of the array where there is no aggressor
-abbrev pub beside_of : Option ℕ → ℕ → ℕ
-beside_of None n = n
-beside_of (Some a) n = a
+use Rattle.pair_tracker.proofs.Few.{march_passes, march_caught}
+use Rattle.pair_tracker.proofs.Machines.{array_sees}
+use Rattle.pair_tracker.proofs.Tags.{kept, kept_does, side_at, pair_ordered, victim_ordered}
+use Rattle.coverage.proofs.Seen.{beside_of, sees_itself}
 
 -- the order in which a direction visits the cells that are seen
-abbrev pub order_of : Option ℕ → ℕ → Direction → List Side
-order_of None v d = V ∷ []
+abbrev pub order_of : Option ℕ → ℕ → Order Side
+order_of None v d = Some V ∷ []
 order_of (Some a) v d = sides_in (nat_lt a v) d
 
--- how an instance in an array of n cells looks from its own cells
-pub record Sees (p : Primitive) (m : Machine) (start : Pair → Pair) (at : Places) (n : ℕ) : Type 1 where
-  pub IsClosed : List Bool → Type 0
-  pub laws : Laws p at (beside_of at.agg n) at.vic n m IsClosed
-  pub starts : (content : List Bool) → length content ≡ n → pair_at (close_of p at content) (beside_of at.agg n) at.vic ≡ start (pair_at content (beside_of at.agg n) at.vic)
-  pub closes : (content : List Bool) → length content ≡ n → IsClosed (close_of p at content)
-  pub same_length : (content : List Bool) → length (close_of p at content) ≡ length content
-
-apart : (p : Primitive) (at : Places) (n : ℕ) → FitsPlace p at n → beside_of at.agg n ≢ at.vic
-apart p at n fits = go at.agg p.agg fits.aggressor
+ordered : (p : Primitive) (at : Places) (n : ℕ) → FitsPlace p at n → (d : Direction) (q : Pair) (ops : List Op)
+    → cells_run (machine_of p) q (map (side_at (beside_of at.agg n) at.vic) (addresses d n)) ops ≡ cells_run (machine_of p) q (order_of at.agg at.vic d) ops
+ordered p at n fits d q ops =
+    kept_does (machine_of p) (λ q. refl) q (map (side_at (beside_of at.agg n) at.vic) (addresses d n)) ops
+    ∙ ap (λ ts. cells_run (machine_of p) q ts ops) (go at.agg p.agg fits.aggressor)
   where
-    go : (place : Option ℕ) (agg : Option Sense) → FitsAgg agg place at.vic n → beside_of place n ≢ at.vic
-    go None agg f = let within : at.vic < n = fits.victim in omega arith
+    go : (place : Option ℕ) (agg : Option Sense) → FitsAgg agg place at.vic n → kept (map (side_at (beside_of place n) at.vic) (addresses d n)) ≡ order_of place at.vic d
+    go None agg f = victim_ordered n at.vic n (omega arith) fits.victim d
     go (Some a) None f = absurd f
-    go (Some a) (Some sense) f = f.1
+    go (Some a) (Some sense) f = pair_ordered a at.vic n f.1 f.0 fits.victim d
 
-ordered : (p : Primitive) (at : Places) (n : ℕ) → FitsPlace p at n → (d : Direction) → sides_of (beside_of at.agg n) at.vic (addresses d n) ≡ order_of at.agg at.vic d
-ordered p at n fits d = go at.agg p.agg fits.aggressor
-  where
-    go : (place : Option ℕ) (agg : Option Sense) → FitsAgg agg place at.vic n → sides_of (beside_of place n) at.vic (addresses d n) ≡ order_of place at.vic d
-    go None agg f = addresses_victim n at.vic n d (omega arith) fits.victim
-    go (Some a) None f = absurd f
-    go (Some a) (Some sense) f = addresses_sides a at.vic n d f.1 f.0 fits.victim
+-- the run of the cells that are seen
+abbrev pub own_run : Primitive → Places → List MarchElement → List Direction → List Bool → Option Pair
+own_run p at march ds content =
+    few_run (machine_of p) (order_of at.agg at.vic) (pair_close p (pair_at content (beside_of at.agg (length content)) at.vic)) march ds
 
--- the run on the array shows the run of the cells that are seen
-pub shown : (p : Primitive) (m : Machine) (start : Pair → Pair) (at : Places) (n : ℕ) → FitsPlace p at n → Sees p m start at n
-    → (march : List MarchElement) (ds : List Direction) (content : List Bool) → IsMarch march → length content ≡ n
-    → Shows (beside_of at.agg n) at.vic (order_run m (order_of at.agg at.vic) (start (pair_at content (beside_of at.agg n) at.vic)) march ds)
-    (outcome_of march ds p at content) (λ c. length c ≡ n)
-shown p m start at n fits sees march ds content is_march size =
-    let a : ℕ = beside_of at.agg n in
-    let closed : List Bool = close_of p at content in
-    let closed_size : length closed ≡ n = sees.same_length content ∙ size in
-    let run = order_visit p at a at.vic n m sees.IsClosed sees.laws (apart p at n fits) (order_of at.agg at.vic) (ordered p at n fits) march ds 0 None
-    (last_after None (all_ops march)) closed (consistent_scan (all_ops march) is_march.consistent) closed_size (sees.closes content size)
-    (λ y yn ya yv bit is. cc) in
-    let moved = subst (λ q. Shows a at.vic (order_run m (order_of at.agg at.vic) q march ds) (run_of p at closed (visits march ds n)) (λ c. length c ≡ n)) (sees.starts content size) run in
-    subst (λ k. Shows a at.vic (order_run m (order_of at.agg at.vic) (start (pair_at content a at.vic)) march ds) (run_of p at closed (visits march ds k)) (λ c. length c ≡ n)) (sym size) moved
+module _ (p : Primitive) (is : IsPrimitive p) (march : List MarchElement) (is_march : IsMarch march) (ds : List Direction) (at : Places) (content : List Bool)
+    (fits : FitsPlace p at (length content)) where
+  abbrev n : ℕ
+  n = length content
 
--- two arrays that look the same let the same pass
-same_pass : (a v b w : ℕ) (r : Option Pair) (o o' : Outcome) (K L : List Bool → Type 0) → Shows a v r o K → Shows b w r o' L → o.miss ≡ None → o'.miss ≡ None
-same_pass a v b w None o o' K L h k none = let f : o.miss ≡ Some h.0 = h.1 in cc
-same_pass a v b w (Some q) o o' K L h k none = k.0
+  abbrev a : ℕ
+  a = beside_of at.agg n
+
+  abbrev closed : List Bool
+  closed = close_of p at content
+
+  abbrev Holds : List Bool → Type 0
+  Holds cells = (length cells ≡ n) × IsClosed p (pair_at cells a at.vic)
+
+  starts : pair_at closed a at.vic ≡ pair_close p (pair_at content a at.vic)
+  starts = pair_at-close_of p at a content (sees_itself p at n fits)
+
+  holds : Holds closed
+  holds = (length-close_of p at content, subst (IsClosed p) (sym starts) (pair_close-closed p (pair_at content a at.vic) is))
+
+  start_run : (r : Option Pair) → own_run p at march ds content ≡ r → few_run (machine_of p) (order_of at.agg at.vic) (pair_at closed a at.vic) march ds ≡ r
+  start_run r e = ap (λ q. few_run (machine_of p) (order_of at.agg at.vic) q march ds) starts ∙ e
+
+  -- no read differs exactly where they get through
+  pub passes_where : (q : Pair) → own_run p at march ds content ≡ Some q → IsCaught march ds p at content → ⊥
+  passes_where q e =
+      march_passes (after_step p at) (is_wrong_at p at) (λ cells. cells) (λ cells. pair_at cells a at.vic) (side_at a at.vic) n (machine_of p) Holds (Unit {0})
+      (array_sees p at a n is (sees_itself p at n fits)) (order_of at.agg at.vic) (ordered p at n fits) march is_march ds closed holds tt q (start_run (Some q) e)
+
+  pub caught_where : own_run p at march ds content ≡ None → IsCaught march ds p at content
+  caught_where e =
+      march_caught (after_step p at) (is_wrong_at p at) (λ cells. cells) (λ cells. pair_at cells a at.vic) (side_at a at.vic) n (machine_of p) Holds (Unit {0})
+      (array_sees p at a n is (sees_itself p at n fits)) (order_of at.agg at.vic) (ordered p at n fits) march is_march ds closed holds (start_run None e)
 
 -- two arrays in which an instance looks the same
 pub record SameView (at : Places) (n : ℕ) (content : List Bool) (to : Places) (k : ℕ) (moved : List Bool) : Type 0 where
   pub order : order_of at.agg at.vic ≡ order_of to.agg to.vic
   pub pair : pair_at content (beside_of at.agg n) at.vic ≡ pair_at moved (beside_of to.agg k) to.vic
 
-pub passes_over : (p : Primitive) (m : Machine) (start : Pair → Pair) (march : List MarchElement) (ds : List Direction) → IsMarch march
-    → (at : Places) (n : ℕ) (content : List Bool) → FitsPlace p at n → Sees p m start at n → length content ≡ n
-    → (to : Places) (k : ℕ) (moved : List Bool) → FitsPlace p to k → Sees p m start to k → length moved ≡ k → SameView at n content to k moved
-    → (outcome_of march ds p at content).miss ≡ None → (outcome_of march ds p to moved).miss ≡ None
-passes_over p m start march ds is_march at n content fits sees size to k moved fits' sees' size' view none =
-    let s = shown p m start at n fits sees march ds content is_march size in
-    let t = shown p m start to k fits' sees' march ds moved is_march size' in
-    let same : order_run m (order_of to.agg to.vic) (start (pair_at moved (beside_of to.agg k) to.vic)) march ds ≡ order_run m (order_of at.agg at.vic) (start (pair_at content (beside_of at.agg n) at.vic)) march ds =
-    ap (λ q. order_run m (order_of to.agg to.vic) (start q) march ds) (sym view.pair)
-    ∙ ap (λ o. order_run m o (start (pair_at content (beside_of at.agg n) at.vic)) march ds) (sym view.order) in
-    same_pass (beside_of at.agg n) at.vic (beside_of to.agg k) to.vic (order_run m (order_of at.agg at.vic) (start (pair_at content (beside_of at.agg n) at.vic)) march ds)
-    (outcome_of march ds p at content) (outcome_of march ds p to moved) (λ c. length c ≡ n) (λ c. length c ≡ k) s
-    (subst (λ r. Shows (beside_of to.agg k) to.vic r (outcome_of march ds p to moved) (λ c. length c ≡ k)) same t) none
+pub same_run : (p : Primitive) (march : List MarchElement) (ds : List Direction) (at : Places) (content : List Bool) (to : Places) (moved : List Bool)
+    → SameView at (length content) content to (length moved) moved → own_run p at march ds content ≡ own_run p to march ds moved
+same_run p march ds at content to moved view =
+    ap (λ o. few_run (machine_of p) o (pair_close p (pair_at content (beside_of at.agg (length content)) at.vic)) march ds) view.order
+    ∙ ap (λ q. few_run (machine_of p) (order_of to.agg to.vic) (pair_close p q) march ds) view.pair
+
+-- what is caught in an array that looks the same is caught
+caught_over : (p : Primitive) → IsPrimitive p → (march : List MarchElement) → IsMarch march → (ds : List Direction)
+    → (at : Places) (content : List Bool) → FitsPlace p at (length content) → (to : Places) (moved : List Bool) → FitsPlace p to (length moved)
+    → SameView at (length content) content to (length moved) moved → IsCaught march ds p to moved → IsCaught march ds p at content
+caught_over p is march is_march ds at content fits to moved fits' view caught = go (own_run p at march ds content) refl
+  where
+    go : (r : Option Pair) → own_run p at march ds content ≡ r → IsCaught march ds p at content
+    go None e = caught_where p is march is_march ds at content fits e
+    go (Some q) e = absurd (passes_where p is march is_march ds to moved fits' q (sym (same_run p march ds at content to moved view) ∙ e) caught)
 
 -- an array of two cells in one of the placements
 pub record TwoCells (p : Primitive) (at : Places) (n : ℕ) (content : List Bool) : Type 0 where
@@ -214,28 +223,19 @@ from_two p at n content more fits size = go at.agg p.agg refl refl fits.aggresso
       },
     )
 
--- the instance looks so in every place of every array
-abbrev pub SeesAll : Primitive → Machine → (Pair → Pair) → Type 1
-SeesAll p m start = (at : Places) (n : ℕ) → FitsPlace p at n → Sees p m start at n
-
--- detection at two cells is detection at each size
-pub at_each_size : (p : Primitive) (m : Machine) (start : Pair → Pair) → SeesAll p m start → (march : List MarchElement) → IsMarch march → (n : ℕ) → 2 ≤ n
-    → DetectsAt 2 march p → DetectsAt n march p
-at_each_size p m start sees march is_march n more two ds at content allowed fits size =
+-- detection at two cells is detection at every size, and detection at any one size is detection at two cells
+pub two_cells_detect : (p : Primitive) (march : List MarchElement) → IsPrimitive p → IsMarch march → DetectsAt 2 march p → Detects march p
+two_cells_detect p march is is_march two n more ds at content allowed fits size =
     let t = to_two p at n content fits size in
-    differs_unless p at (close_of p at content) (visits march ds (length content))
-    (λ none.
-    all_right p (places_in t.placement) (close_of p (places_in t.placement) t.moved) (visits march ds (length t.moved))
-    (passes_over p m start march ds is_march at n content fits (sees at n fits) size (places_in t.placement) 2 t.moved t.fits_place
-    (sees (places_in t.placement) 2 t.fits_place) t.size t.view none)
-    (two ds (places_in t.placement) t.moved allowed t.fits_place t.size))
+    caught_over p is march is_march ds at content (subst (FitsPlace p at) (sym size) fits) (places_in t.placement) t.moved (subst (FitsPlace p (places_in t.placement)) (sym t.size) t.fits_place)
+    (sized (places_in t.placement) t.moved t.size t.view) (two ds (places_in t.placement) t.moved allowed t.fits_place t.size)
+  where
+    sized : (to : Places) (moved : List Bool) → length moved ≡ 2 → SameView at n content to 2 moved → SameView at (length content) content to (length moved) moved
+    sized to moved k view = subst (λ j. SameView at (length content) content to j moved) (sym k) (subst (λ j. SameView at j content to 2 moved) (sym size) view)
 
-pub at_two_cells : (p : Primitive) (m : Machine) (start : Pair → Pair) → SeesAll p m start → (march : List MarchElement) → IsMarch march → (n : ℕ) → 2 ≤ n
-    → DetectsAt n march p → DetectsAt 2 march p
-at_two_cells p m start sees march is_march n more all ds at content allowed fits size =
+pub one_size_detects : (p : Primitive) (march : List MarchElement) → IsPrimitive p → IsMarch march → (n : ℕ) → 2 ≤ n → DetectsAt n march p → DetectsAt 2 march p
+one_size_detects p march is is_march n more all ds at content allowed fits size =
     let l = from_two p at n content more fits size in
-    differs_unless p at (close_of p at content) (visits march ds (length content))
-    (λ none.
-    all_right p at (close_of p at (longer n content)) (visits march ds (length (longer n content)))
-    (passes_over p m start march ds is_march at 2 content fits (sees at 2 fits) size at n (longer n content) l.0 (sees at n l.0) l.1 l.2 none)
-    (all ds at (longer n content) allowed l.0 l.1))
+    caught_over p is march is_march ds at content (subst (FitsPlace p at) (sym size) fits) at (longer n content) (subst (FitsPlace p at) (sym l.1) l.0)
+    (subst (λ j. SameView at (length content) content at j (longer n content)) (sym l.1) (subst (λ j. SameView at j content at n (longer n content)) (sym size) l.2))
+    (all ds at (longer n content) allowed l.0 l.1)

@@ -11,8 +11,8 @@ use Rattle.cell_machine.specs.declared.pair.Pair.{Pair}
 use Rattle.cell_machine.specs.declared.pair.Side.{Side}
 use Rattle.cell_machine.specs.declared.pair.Side.TheVariants.{A, V}
 use Rattle.cell_machine.specs.Pairs.{pair_of}
-use Rattle.pair_tracker.specs.Pairs.{ops_run, sides_run}
-use Rattle.pair_tracker.proofs.Projection.{right_first}
+use Rattle.pair_tracker.specs.Few.{ops_run, cells_run}
+use Rattle.pair_tracker.proofs.Few.{right_first}
 use Rattle.decoder_faults.specs.declared.fault.Wired.{Wired}
 use Rattle.decoder_faults.specs.declared.fault.Wired.TheVariants.{And, Or, Own}
 use Rattle.decoder_faults.specs.declared.fault.DecoderFault.{DecoderFault}
@@ -197,13 +197,13 @@ turn_is f f' g g' q e same = ap (option_and_then (λ z. option_and_then (λ w. S
     go (Some z) = ap (option_and_then (λ w. Some w)) (same z)
 
 sides_are : (fault : DecoderFault) (s t : Side) (q : Pair) (ops : List Op)
-    → sides_run (machine_of fault) q (s ∷ t ∷ []) ops ≡ in_turn (λ z. reach_run (side_reach fault s) z ops) (λ z. reach_run (side_reach fault t) z ops) q
+    → cells_run (machine_of fault) q (Some s ∷ Some t ∷ []) ops ≡ in_turn (λ z. reach_run (side_reach fault s) z ops) (λ z. reach_run (side_reach fault t) z ops) q
 sides_are fault s t q ops =
     turn_is (λ z. ops_run (machine_of fault) z s ops) (λ z. reach_run (side_reach fault s) z ops) (λ z. ops_run (machine_of fault) z t ops)
     (λ z. reach_run (side_reach fault t) z ops) q (reach_is fault s q ops) (λ z. reach_is fault t z ops)
 
 both_tested : (fault : DecoderFault) (s t : Side) → IsPlain (side_reach fault s) → IsPlain (side_reach fault t) → (q : Pair) (last next : Option Bool) (ops : List Op) → scan_of last ops ≡ Some next
-    → sides_run (machine_of fault) q (s ∷ t ∷ []) ops
+    → cells_run (machine_of fault) q (Some s ∷ Some t ∷ []) ops
     ≡ in_turn (tested (side_reach fault s) (read_first ops) (written_last ops)) (tested (side_reach fault t) (read_first ops) (written_last ops)) q
 both_tested fault s t ps pt q last next ops scanned =
     sides_are fault s t q ops
@@ -342,12 +342,12 @@ none_ends fault next answer false reach q z ops runs held =
     go false = held
 
 -- one address of the two after the other
-abbrev pub sides_by : Bool → List Side
-sides_by true = A ∷ V ∷ []
-sides_by false = V ∷ A ∷ []
+abbrev pub sides_by : Bool → List (Option Side)
+sides_by true = Some A ∷ Some V ∷ []
+sides_by false = Some V ∷ Some A ∷ []
 
 sweep_says : (fault : DecoderFault) (x_first : Bool) (ops : List Op) (last next : Option Bool) (q : Pair) → scan_of last ops ≡ Some next → Held fault last q
-    → Ends fault (later last (written_last ops)) (sides_run (machine_of fault) q (sides_by x_first) ops) (caught_by fault x_first ops)
+    → Ends fault (later last (written_last ops)) (cells_run (machine_of fault) q (sides_by x_first) ops) (caught_by fault x_first ops)
 sweep_says OtherCell true ops last next q scanned held =
     subst (λ o. Ends OtherCell (later last (written_last ops)) o (caught_by OtherCell true ops)) (sym (both_tested OtherCell A V tt tt q last next ops scanned))
     (other_ends (read_first ops) (written_last ops) last q (reads_last last next ops scanned) held)
@@ -374,7 +374,7 @@ sweep_says (NoCell answer) x_first ops last next q scanned held = go x_first
         none_ends (NoCell answer) (later last (written_last ops)) answer b (One V) q (pair_left (One V) q (written_last ops)) ops
         (plain_runs (One V) tt q last next ops scanned plain) (after last (written_last ops) held)
 
-    go : (b : Bool) → Ends (NoCell answer) (later last (written_last ops)) (sides_run (machine_of (NoCell answer)) q (sides_by b) ops) (has_read (not answer) ops)
+    go : (b : Bool) → Ends (NoCell answer) (later last (written_last ops)) (cells_run (machine_of (NoCell answer)) q (sides_by b) ops) (has_read (not answer) ops)
     go true = subst (λ o. Ends (NoCell answer) (later last (written_last ops)) o (has_read (not answer) ops)) (sym (sides_are (NoCell answer) A V q ops)) (ends true)
     go false = subst (λ o. Ends (NoCell answer) (later last (written_last ops)) o (has_read (not answer) ops)) (sym (sides_are (NoCell answer) V A q ops)) (ends false)
 sweep_says (TakenCell answer wired) x_first ops last next q scanned held = go x_first
@@ -400,13 +400,13 @@ sweep_says (TakenCell answer wired) x_first ops last next q scanned held = go x_
         none_ends (TakenCell answer wired) (later last (written_last ops)) answer b (Both V wired) q (pair_left (Both V wired) q (written_last ops)) ops
         (plain_runs (Both V wired) tt q last next ops scanned plain) (after last (written_last ops) held)
 
-    go : (b : Bool) → Ends (TakenCell answer wired) (later last (written_last ops)) (sides_run (machine_of (TakenCell answer wired)) q (sides_by b) ops) (has_read (not answer) ops)
+    go : (b : Bool) → Ends (TakenCell answer wired) (later last (written_last ops)) (cells_run (machine_of (TakenCell answer wired)) q (sides_by b) ops) (has_read (not answer) ops)
     go true = subst (λ o. Ends (TakenCell answer wired) (later last (written_last ops)) o (has_read (not answer) ops)) (sym (sides_are (TakenCell answer wired) A V q ops)) (ends true)
     go false = subst (λ o. Ends (TakenCell answer wired) (later last (written_last ops)) o (has_read (not answer) ops)) (sym (sides_are (TakenCell answer wired) V A q ops)) (ends false)
 
 -- an element that doesn't catch the fault leaves what it wrote last
 pub sweep_ends : (fault : DecoderFault) (x_first : Bool) (ops : List Op) (last next : Option Bool) (q : Pair) → scan_of last ops ≡ Some next → Held fault last q
-    → Ends fault next (sides_run (machine_of fault) q (sides_by x_first) ops) (caught_by fault x_first ops)
+    → Ends fault next (cells_run (machine_of fault) q (sides_by x_first) ops) (caught_by fault x_first ops)
 sweep_ends fault x_first ops last next q scanned held =
-    subst (λ n. Ends fault n (sides_run (machine_of fault) q (sides_by x_first) ops) (caught_by fault x_first ops)) (sym (next_is last next ops scanned))
+    subst (λ n. Ends fault n (cells_run (machine_of fault) q (sides_by x_first) ops) (caught_by fault x_first ops)) (sym (next_is last next ops scanned))
     (sweep_says fault x_first ops last next q scanned held)

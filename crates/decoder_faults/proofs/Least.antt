@@ -7,8 +7,11 @@ use Rattle.std.proofs.lemmas.Bool.{cases_lt}
 use Rattle.march_core.specs.March.{MarchElement, IsMarch}
 use Rattle.march_core.specs.Visits.{Direction, is_direction, directions_of}
 use Rattle.cell_machine.specs.declared.pair.Pair.{Pair}
-use Rattle.pair_tracker.specs.Pairs.{pair_run}
-use Rattle.pair_tracker.specs.Reached.{is_wanted, word_to}
+use Rattle.pair_tracker.specs.Few.{few_run}
+use Rattle.pair_tracker.specs.Pairs.{sides_in}
+use Rattle.pair_tracker.specs.Reached.{word_to}
+use Rattle.pair_tracker.specs.Tracking.{any_end, GetsThrough}
+use Rattle.pair_tracker.proofs.Through.{least_whole, some_word, through_fits, through_within, run_through}
 use Rattle.pair_tracker.specs.Survivors.{IsLeastOf}
 use Rattle.escape_array.specs.Escapes.{content_number}
 use Rattle.escape_array.proofs.LeastArray.{content_below, same_content}
@@ -16,16 +19,14 @@ use Rattle.decoder_faults.specs.declared.fault.DecoderFault.{DecoderFault}
 use Rattle.decoder_faults.specs.declared.escape.DecoderEscape.{DecoderEscape}
 use Rattle.cell_machine.specs.Pairs.{pair_of}
 use Rattle.decoder_faults.specs.Conditions.{catches, some_element, meets}
-use Rattle.decoder_faults.specs.Decoding.{AddressPair, FitsPair, reach_of}
+use Rattle.decoder_faults.specs.Decoding.{AddressPair, FitsPair, reach_of, HasFault}
 use Rattle.decoder_faults.specs.Detection.{IsCaught, DetectsDecoder, DetectsAmong}
 use Rattle.decoder_faults.specs.Escapes.{addresses_of, IsEscape, IsNoGreater, IsLeastEscape, IsVerdict, IsVerdictAt}
 use Rattle.decoder_faults.specs.inner.Pairs.{machine_of}
 use Rattle.decoder_faults.specs.inner.Searching.{addresses_in, start_in, LetsThrough, NoneBefore, IsLeastIn}
-use Rattle.decoder_faults.proofs.Among.{caught_among}
-use Rattle.decoder_faults.proofs.EverySize.{caught_where, through_unless, fits_in, lower_in, passes_with, detected_never}
+use Rattle.decoder_faults.proofs.EverySize.{caught_where, caught_among, through_unless, fits_in, lower_in, passes_with, detected_never}
 use Rattle.decoder_faults.proofs.Meeting.{gets_nowhere, gets_through}
 use Rattle.decoder_faults.proofs.Seen.{seen}
-use Rattle.decoder_faults.proofs.Words.{GetsThrough, least_whole, some_word, through_fits, through_within, run_through}
 
 -- the content of two cells that a pair stands for
 abbrev cells_for : Bool → Pair → List Bool
@@ -33,33 +34,33 @@ cells_for true q = q.a ∷ q.v ∷ []
 cells_for false q = q.v ∷ q.a ∷ []
 
 nothing_through : (march : List MarchElement) (fault : DecoderFault) (below : Bool) (q : Pair) (word : ℕ) → NoneBefore march fault below 4
-    → GetsThrough (machine_of fault) below march q word → ⊥
+    → GetsThrough (machine_of fault) (sides_in below) march q word → ⊥
 nothing_through march fault true q word none through = none (cells_for true q) refl (content_below (cells_for true q) refl) word through
 nothing_through march fault false q word none through = none (cells_for false q) refl (content_below (cells_for false q) refl) word through
 
 -- where no array of two cells is let through, no two cells get through
 none_through : (march : List MarchElement) (fault : DecoderFault) → IsMarch march → NoneBefore march fault true 4 → NoneBefore march fault false 4
-    → (below : Bool) (q : Pair) (ds : List Direction) → IsTrue (is_direction march ds) → pair_run (machine_of fault) below q march ds ≡ None
-none_through march fault is under over below q ds allowed = go (pair_run (machine_of fault) below q march ds) refl
+    → (below : Bool) (q : Pair) (ds : List Direction) → IsTrue (is_direction march ds) → few_run (machine_of fault) (sides_in below) q march ds ≡ None
+none_through march fault is under over below q ds allowed = go (few_run (machine_of fault) (sides_in below) q march ds) refl
   where
     none : (b : Bool) → NoneBefore march fault b 4
     none true = under
     none false = over
 
-    go : (r : Option Pair) → pair_run (machine_of fault) below q march ds ≡ r → pair_run (machine_of fault) below q march ds ≡ None
+    go : (r : Option Pair) → few_run (machine_of fault) (sides_in below) q march ds ≡ r → few_run (machine_of fault) (sides_in below) q march ds ≡ None
     go None e = e
     go (Some z) e =
-        let through = some_word (machine_of fault) below march q z ds is allowed e in
+        let through = some_word (machine_of fault) (sides_in below) march q z ds is allowed e in
         absurd (nothing_through march fault below q through.0 (none below) through.1)
 
 -- so every size is detected, and beside whatever else is wrong with the decoder
 pub none_detects : (march : List MarchElement) (fault : DecoderFault) → IsMarch march → NoneBefore march fault true 4 → NoneBefore march fault false 4 → DetectsDecoder march fault
 none_detects march fault is under over n more ds at content allowed fits size =
-    caught_where fault at n fits march ds content is size (none_through march fault is under over (nat_lt at.x at.y) (seen at content) ds allowed)
+    caught_where fault at march is ds content (subst (FitsPair at) (sym size) fits) (none_through march fault is under over (nat_lt at.x at.y) (seen at content) ds allowed)
 
 detects_among : (march : List MarchElement) (fault : DecoderFault) → IsMarch march → NoneBefore march fault true 4 → NoneBefore march fault false 4 → DetectsAmong march fault
 detects_among march fault is under over n ds decoder at content allowed fits has size =
-    caught_among decoder fault at n fits has march ds content size (none_through march fault is under over (nat_lt at.x at.y) (seen at content) ds allowed)
+    caught_among fault at march is ds content (subst (FitsPair at) (sym size) fits) decoder (subst (HasFault decoder fault at) (sym size) has) (none_through march fault is under over (nat_lt at.x at.y) (seen at content) ds allowed)
 
 -- what is found is an escape
 pub found_escape : (march : List MarchElement) (fault : DecoderFault) (below : Bool) (e : DecoderEscape) → IsMarch march → IsLeastIn march fault below e → IsEscape march e
@@ -70,8 +71,8 @@ found_escape march fault below e is least =
       array = record {
         addresses = subst (λ (at : AddressPair). FitsPair at 2) (sym least.addresses) (fits_in below 2 (omega arith));
         each_cell = least.each_cell;
-        is_word = through_within (machine_of fault) below march (start_in below e.content) e.directions is through;
-        directions = through_fits (machine_of fault) below march (start_in below e.content) e.directions through;
+        is_word = through_within (machine_of fault) (sides_in below) march (start_in below e.content) e.directions is through;
+        directions = through_fits (machine_of fault) (sides_in below) march (start_in below e.content) e.directions through;
       };
       passes =
           subst (λ (at : AddressPair). IsCaught march ds (reach_of e.fault at) e.content → ⊥) (sym least.addresses)
@@ -86,9 +87,9 @@ escape_through : (march : List MarchElement) (below : Bool) (f : DecoderEscape) 
 escape_through march below f is escape places =
     let ds : List Direction = directions_of f.directions (length march) in
     let passes : IsCaught march ds (reach_of f.fault (addresses_in below)) f.content → ⊥ = subst (λ (at : AddressPair). IsCaught march ds (reach_of f.fault at) f.content → ⊥) places escape.passes in
-    let through = through_unless f.fault (addresses_in below) 2 (fits_in below 2 (omega arith)) march ds f.content is escape.array.each_cell passes in
-    run_through (machine_of f.fault) below march (start_in below f.content) through.0 f.directions is escape.array.is_word escape.array.directions
-    (ap (λ b. pair_run (machine_of f.fault) b (start_in below f.content) march ds) (sym (lower_in below)) ∙ through.1)
+    let through = through_unless f.fault (addresses_in below) march is ds f.content (subst (FitsPair (addresses_in below)) (sym escape.array.each_cell) (fits_in below 2 (omega arith))) passes in
+    run_through (machine_of f.fault) (sides_in below) march (start_in below f.content) through.0 f.directions is escape.array.is_word escape.array.directions
+    (ap (λ b. few_run (machine_of f.fault) (sides_in b) (start_in below f.content) march ds) (sym (lower_in below)) ∙ through.1)
 
 addresses_at : ℕ → ℕ → AddressPair
 addresses_at x y = record { x = x; y = y }
@@ -218,10 +219,10 @@ judged_above march fault (Some e) is none found = escape_judged march fault fals
 -- the search over the contents
 pub none_so_far : (march : List MarchElement) (fault : DecoderFault) (below : Bool) (number : ℕ) (content : List Bool) → IsMarch march → length content ≡ 2
     → content_number content ≡ number → NoneBefore march fault below number
-    → word_to (is_wanted None) (machine_of fault) below march 0 (length march) (start_in below content) ≡ None → NoneBefore march fault below (number + 1)
+    → word_to any_end (machine_of fault) (sides_in below) march 0 (length march) (start_in below content) ≡ None → NoneBefore march fault below (number + 1)
 none_so_far march fault below number content is two at before none c size low word through =
     let nothing : IsLeastOf (LetsThrough march fault below content) None =
-    subst (IsLeastOf (LetsThrough march fault below content)) none (least_whole (machine_of fault) below march (start_in below content) is) in
+    subst (IsLeastOf (LetsThrough march fault below content)) none (least_whole (machine_of fault) (sides_in below) march (start_in below content) is) in
     ⊎_elim
     (λ (h : content_number c ≡ number).
     let same : c ≡ content = same_content c content size two (h ∙ sym at) in
@@ -234,11 +235,11 @@ none_so_far march fault below number content is two at before none c size low wo
 
 pub least_found : (march : List MarchElement) (fault : DecoderFault) (below : Bool) (content : List Bool) (word : ℕ) (e : DecoderEscape) → IsMarch march → length content ≡ 2
     → NoneBefore march fault below (content_number content)
-    → word_to (is_wanted None) (machine_of fault) below march 0 (length march) (start_in below content) ≡ Some word
+    → word_to any_end (machine_of fault) (sides_in below) march 0 (length march) (start_in below content) ≡ Some word
     → e.fault ≡ fault → addresses_of e ≡ addresses_in below → e.content ≡ content → e.directions ≡ word → IsLeastIn march fault below e
 least_found march fault below content word e is two before found fault_is places content_is word_is =
     let least : IsLeastOf (LetsThrough march fault below content) (Some word) =
-    subst (IsLeastOf (LetsThrough march fault below content)) found (least_whole (machine_of fault) below march (start_in below content) is) in
+    subst (IsLeastOf (LetsThrough march fault below content)) found (least_whole (machine_of fault) (sides_in below) march (start_in below content) is) in
     record {
       fault_is = fault_is;
       addresses = places;

@@ -1,12 +1,10 @@
 pub mod Seen
 pub mod Passing
-pub mod Words
 pub mod EverySize
 pub mod Least
 pub mod Elements
 pub mod Meeting
 pub mod Classic
-pub mod Among
 pub mod Lines
 pub mod TakenCells
 pub mod Books

@@ -8,12 +8,14 @@ use Rattle.march_core.specs.Visits.{Direction, Upward, Downward, allows}
 use Rattle.march_core.proofs.Consistent.{consistent_scan, last_after}
 use Rattle.cell_machine.specs.declared.pair.Pair.{Pair}
 use Rattle.pair_tracker.specs.Legs.{elements_between}
-use Rattle.pair_tracker.specs.Pairs.{sides_in, sides_run}
-use Rattle.pair_tracker.specs.Reached.{is_wanted, word_to}
+use Rattle.pair_tracker.specs.Few.{cells_run, end_of}
+use Rattle.pair_tracker.specs.Pairs.{sides_in}
+use Rattle.pair_tracker.specs.Reached.{word_to}
 use Rattle.pair_tracker.specs.Survivors.{IsLeastOf}
-use Rattle.pair_tracker.specs.Tracking.{end_of}
+use Rattle.pair_tracker.specs.Tracking.{any_end, GetsThrough}
 use Rattle.pair_tracker.specs.Ways.{holds_at, can_reach, ways_to, ways_word}
-use Rattle.pair_tracker.proofs.Projection.{scan_parts}
+use Rattle.pair_tracker.proofs.Few.{scan_parts}
+use Rattle.pair_tracker.proofs.Through.{least_whole}
 use Rattle.decoder_faults.specs.declared.fault.Wired.{Wired}
 use Rattle.decoder_faults.specs.declared.fault.DecoderFault.{DecoderFault}
 use Rattle.decoder_faults.specs.declared.fault.DecoderFault.TheVariants.{NoCell, OtherCell, BothCells, TakenCell}
@@ -21,7 +23,6 @@ use Rattle.decoder_faults.specs.Conditions.{turned_by, does_tell, is_x_first, ha
 use Rattle.decoder_faults.specs.inner.Pairs.{machine_of}
 use Rattle.decoder_faults.proofs.Elements.{Held, caught_by, Ends, sides_by, sweep_ends}
 use Rattle.pair_tracker.proofs.Passing.{all_between}
-use Rattle.decoder_faults.proofs.Words.{GetsThrough, least_whole}
 
 -- whether a direction visits x first
 abbrev x_first_in : Bool → Direction → Bool
@@ -61,14 +62,14 @@ no_ops (BothCells wired) x_first = refl
 no_ops (TakenCell answer wired) x_first = refl
 
 element_leads : (fault : DecoderFault) (below : Bool) (e : MarchElement) (d : Direction) (last next : Option Bool) (q : Pair) → scan_of last (ops_of e) ≡ Some next → Held fault last q
-    → Leads fault next (end_of (machine_of fault) below e q d) (passes_in fault below e d)
+    → Leads fault next (end_of (machine_of fault) (sides_in below) e q d) (passes_in fault below e d)
 element_leads fault below pause Upward last next q scanned held =
     let same : last ≡ next = cc in
     subst (λ b. Leads fault next (Some q) (not b)) (sym (no_ops fault (x_first_in below Upward))) (subst (λ n. Held fault n q) same held)
 element_leads fault below pause Downward last next q scanned held = tt
 element_leads fault below (sweep order ops) d last next q scanned held =
-    leads_where fault next (allows order d) (caught_by fault (x_first_in below d) ops) (sides_run (machine_of fault) q (sides_in below d) ops)
-    (subst (λ ss. Ends fault next (sides_run (machine_of fault) q ss ops) (caught_by fault (x_first_in below d) ops)) (sym (sides_ordered below d))
+    leads_where fault next (allows order d) (caught_by fault (x_first_in below d) ops) (cells_run (machine_of fault) q (sides_in below d) ops)
+    (subst (λ ss. Ends fault next (cells_run (machine_of fault) q ss ops) (caught_by fault (x_first_in below d) ops)) (sym (sides_ordered below d))
     (sweep_ends fault (x_first_in below d) ops last next q scanned held))
 
 -- whether no element catches the fault alone
@@ -92,19 +93,19 @@ either_way false b c = refl
 
 -- some directions lead through exactly where each element passes in one of its own
 reach_is : (fault : DecoderFault) (below : Bool) (es : List MarchElement) (last end : Option Bool) (q : Pair) → scan_of last (all_ops es) ≡ Some end → Held fault last q
-    → can_reach (is_wanted None) (end_of (machine_of fault) below) es q ≡ all_pass fault below es
+    → can_reach any_end (end_of (machine_of fault) (sides_in below)) es q ≡ all_pass fault below es
 reach_is fault below [] last end q scanned held = refl
 reach_is fault below (e ∷ es) last end q scanned held =
     let parts = scan_parts last (ops_of e) (all_ops es) end scanned in
     let mid : Option Bool = parts.0 in
-    let f : Pair → Bool = λ r. can_reach (is_wanted None) (end_of (machine_of fault) below) es r in
+    let f : Pair → Bool = λ r. can_reach any_end (end_of (machine_of fault) (sides_in below)) es r in
     let rest : Bool = all_pass fault below es in
     let same : (r : Pair) → Held fault mid r → f r ≡ rest = λ r h. reach_is fault below es mid end r parts.2 h in
-    let up : holds_at f (end_of (machine_of fault) below e q Upward) ≡ passes_in fault below e Upward && rest =
-    reached_behind fault mid f rest same (end_of (machine_of fault) below e q Upward) (passes_in fault below e Upward) (element_leads fault below e Upward last mid q parts.1 held) in
-    let down : holds_at f (end_of (machine_of fault) below e q Downward) ≡ passes_in fault below e Downward && rest =
-    reached_behind fault mid f rest same (end_of (machine_of fault) below e q Downward) (passes_in fault below e Downward) (element_leads fault below e Downward last mid q parts.1 held) in
-    ap (λ b. b || holds_at f (end_of (machine_of fault) below e q Downward)) up ∙ ap (λ b. (passes_in fault below e Upward && rest) || b) down
+    let up : holds_at f (end_of (machine_of fault) (sides_in below) e q Upward) ≡ passes_in fault below e Upward && rest =
+    reached_behind fault mid f rest same (end_of (machine_of fault) (sides_in below) e q Upward) (passes_in fault below e Upward) (element_leads fault below e Upward last mid q parts.1 held) in
+    let down : holds_at f (end_of (machine_of fault) (sides_in below) e q Downward) ≡ passes_in fault below e Downward && rest =
+    reached_behind fault mid f rest same (end_of (machine_of fault) (sides_in below) e q Downward) (passes_in fault below e Downward) (element_leads fault below e Downward last mid q parts.1 held) in
+    ap (λ b. b || holds_at f (end_of (machine_of fault) (sides_in below) e q Downward)) up ∙ ap (λ b. (passes_in fault below e Upward && rest) || b) down
     ∙ either_way (passes_in fault below e Upward) (passes_in fault below e Downward) rest
 
 -- an element passes in one of its directions exactly where it doesn't catch the fault alone
@@ -154,13 +155,13 @@ all_pass_is fault below (e ∷ es) =
 
 -- the word of the whole march
 word_is : (fault : DecoderFault) (below : Bool) (march : List MarchElement) (q : Pair) → IsMarch march → (word : ℕ)
-    × (word_to (is_wanted None) (machine_of fault) below march 0 (length march) q ≡ cond (not (some_element (catches fault below) march)) (Some word) None)
+    × (word_to any_end (machine_of fault) (sides_in below) march 0 (length march) q ≡ cond (not (some_element (catches fault below) march)) (Some word) None)
 word_is fault below march q is =
     let es : List MarchElement = elements_between march 0 (length march) in
-    let word : ℕ = ways_word 0 (ways_to (is_wanted None) (end_of (machine_of fault) below) es q) in (
+    let word : ℕ = ways_word 0 (ways_to any_end (end_of (machine_of fault) (sides_in below)) es q) in (
       word,
       ap (λ b. cond b (Some word) None)
-          (ap (λ l. can_reach (is_wanted None) (end_of (machine_of fault) below) l q) (all_between march)
+          (ap (λ l. can_reach any_end (end_of (machine_of fault) (sides_in below)) l q) (all_between march)
           ∙ reach_is fault below march None (last_after None (all_ops march)) q (consistent_scan (all_ops march) is.consistent) (nothing fault) ∙ all_pass_is fault below march),
     )
   where
@@ -171,19 +172,19 @@ word_is fault below march q is =
     nothing (TakenCell answer wired) = tt
 
 pub gets_nowhere : (fault : DecoderFault) (below : Bool) (march : List MarchElement) (q : Pair) (word : ℕ) → IsMarch march → some_element (catches fault below) march ≡ true
-    → GetsThrough (machine_of fault) below march q word → ⊥
+    → GetsThrough (machine_of fault) (sides_in below) march q word → ⊥
 gets_nowhere fault below march q word is some through =
     let w = word_is fault below march q is in
-    let none : word_to (is_wanted None) (machine_of fault) below march 0 (length march) q ≡ None = w.1 ∙ ap (λ b. cond (not b) (Some w.0) None) some in
-    let least : IsLeastOf (GetsThrough (machine_of fault) below march q) None =
-    subst (IsLeastOf (GetsThrough (machine_of fault) below march q)) none (least_whole (machine_of fault) below march q is) in
+    let none : word_to any_end (machine_of fault) (sides_in below) march 0 (length march) q ≡ None = w.1 ∙ ap (λ b. cond (not b) (Some w.0) None) some in
+    let least : IsLeastOf (GetsThrough (machine_of fault) (sides_in below) march q) None =
+    subst (IsLeastOf (GetsThrough (machine_of fault) (sides_in below) march q)) none (least_whole (machine_of fault) (sides_in below) march q is) in
     least word through
 
 pub gets_through : (fault : DecoderFault) (below : Bool) (march : List MarchElement) (q : Pair) → IsMarch march → some_element (catches fault below) march ≡ false
-    → (word : ℕ) × GetsThrough (machine_of fault) below march q word
+    → (word : ℕ) × GetsThrough (machine_of fault) (sides_in below) march q word
 gets_through fault below march q is none =
     let w = word_is fault below march q is in
-    let some : word_to (is_wanted None) (machine_of fault) below march 0 (length march) q ≡ Some w.0 = w.1 ∙ ap (λ b. cond (not b) (Some w.0) None) none in
-    let least : IsLeastOf (GetsThrough (machine_of fault) below march q) (Some w.0) =
-    subst (IsLeastOf (GetsThrough (machine_of fault) below march q)) some (least_whole (machine_of fault) below march q is) in
+    let some : word_to any_end (machine_of fault) (sides_in below) march 0 (length march) q ≡ Some w.0 = w.1 ∙ ap (λ b. cond (not b) (Some w.0) None) none in
+    let least : IsLeastOf (GetsThrough (machine_of fault) (sides_in below) march q) (Some w.0) =
+    subst (IsLeastOf (GetsThrough (machine_of fault) (sides_in below) march q)) some (least_whole (machine_of fault) (sides_in below) march q is) in
     (w.0, least.0)

@@ -1,6 +1,8 @@
 -- A march detects a fault exactly where its elements meet it, so two faults that are met alike are detected alike.
 use Rattle.std.proofs.Common.{◌≡◌, ◌↔◌, ℕ, Bool, true, false, ◌&&◌, List, [], ◌∷◌, refl, ap, ◌∙◌, arith}
 use Rattle.march_core.specs.March.{MarchElement, IsMarch}
+use Rattle.pair_tracker.specs.Pairs.{sides_in}
+use Rattle.pair_tracker.specs.Tracking.{GetsThrough}
 use Rattle.decoder_faults.specs.declared.fault.Wired.{Wired}
 use Rattle.decoder_faults.specs.declared.fault.DecoderFault.{DecoderFault}
 use Rattle.decoder_faults.specs.declared.fault.DecoderFault.TheVariants.{NoCell, TakenCell}
@@ -11,7 +13,6 @@ use Rattle.decoder_faults.specs.inner.Searching.{start_in, NoneBefore}
 use Rattle.decoder_faults.proofs.EverySize.{detected_never}
 use Rattle.decoder_faults.proofs.Least.{none_detects}
 use Rattle.decoder_faults.proofs.Meeting.{gets_nowhere, gets_through}
-use Rattle.decoder_faults.proofs.Words.{GetsThrough}
 
 both : (a b : Bool) → (a && b) ≡ true → (a ≡ true) × (b ≡ true)
 both true true h = (refl, refl)
@@ -31,7 +32,7 @@ never_where : (march : List MarchElement) (fault : DecoderFault) (below : Bool) 
     → DetectsDecoder march fault → ⊥
 never_where march fault below is none detects =
     let content : List Bool = false ∷ false ∷ [] in
-    let through : (word : ℕ) × GetsThrough (machine_of fault) below march (start_in below content) word = gets_through fault below march (start_in below content) is none in
+    let through : (word : ℕ) × GetsThrough (machine_of fault) (sides_in below) march (start_in below content) word = gets_through fault below march (start_in below content) is none in
     detected_never march fault below content through.0 is refl through.1 2 (omega arith) (detects 2 (omega arith))
 
 met_where : (march : List MarchElement) (fault : DecoderFault) → IsMarch march → DetectsDecoder march fault → meets march fault ≡ true

@@ -8,10 +8,10 @@ ghost use Rattle.decoder_faults.specs.Lines.{DetectsStuckLines};
 ghost use Rattle.decoder_faults.specs.inner.Searching.{addresses_in, start_in, NoneBefore, IsLeastIn};
 
 use crate::fault::DecoderFault;
-use crate::search::{Search, word_from};
+use crate::pair::Cells;
 use cell_machine::Pair;
 use march_core::March;
-use pair_tracker::DeadEnds;
+use pair_tracker::{DeadEnds, word_through};
 
 /// An array of two cells whose address decoder has a fault, its content (cell 0 first), and a direction word.
 #[derive(Clone, Copy, PartialEq, Eq)]
@@ -53,16 +53,12 @@ fn least_in(march: &March, fault: DecoderFault, is_below: bool) -> Option<Decode
     ensures { MatchOption result (NoneBefore march.now fault is_below 4) (λ e. IsLeastIn march.now fault is_below e) }
 {
     march.known();
-    let search = Search {
-        march,
-        fault,
-        is_below,
-    };
+    let cells = Cells { fault, is_below };
     let mut dead_ends = DeadEnds::unknown();
     for number in 0..4 {
         let content = content_of(number);
         let start = start_in(is_below, content);
-        if let Some(directions) = word_from(&search, &mut dead_ends, 0, Some(start)) {
+        if let Some(directions) = word_through(&cells, march, &mut dead_ends, start) {
             return Some(escape_at(fault, is_below, content, directions));
         }
     }

@@ -17,7 +17,6 @@ mod escape;
 mod fault;
 mod laws;
 mod pair;
-mod search;
 
 pub use escape::{DecoderEscape, least_decoder_escape};
 pub use fault::{DecoderFault, Wired};

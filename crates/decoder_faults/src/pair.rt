@@ -1,19 +1,17 @@
-//! The two cells of a fault, x on side A and y on side V, through the elements of a march.
+//! The two cells of a fault, x on side A and y on side V.
 
-ghost use Rattle.std.specs.Prelude.{◌≡◌, ◌<◌, ◌∷◌, [], length};
-ghost use Rattle.march_core.specs.Addresses.{direction_of};
-ghost use Rattle.march_core.specs.March.{element_at};
-ghost use Rattle.pair_tracker.specs.Pairs.{sides_in, ops_run, sides_run};
-ghost use Rattle.pair_tracker.specs.Tracking.{end_of};
+ghost use Rattle.std.specs.Prelude.{◌≡◌};
 ghost use Rattle.decoder_faults.specs.Decoding.{wired_bit};
 ghost use Rattle.decoder_faults.specs.inner.Pairs.{side_reach, pair_written, pair_read, pair_act, pair_reply, machine_of};
+ghost use Rattle.pair_tracker.specs.Pairs.{sides_in};
+ghost use Rattle.pair_tracker.specs.Survivors.{pair_number};
+ghost use Rattle.pair_tracker.specs.Tracking.{any_end};
+ghost use Rattle.pair_tracker.specs.inner.Numbers.{same_number, number_below};
 
 use crate::fault::{DecoderFault, Wired};
-use array_sim::act_of;
 use cell_machine::{Pair, Side};
 use fault_core::Act;
-use march_core::{March, Op, is_wrong};
-use pair_tracker::does_allow;
+use pair_tracker::{FewCells, number_of, sides_in};
 
 /// Which of the two cells an address of the two reaches.
 #[derive(Clone, Copy)]
@@ -91,70 +89,49 @@ impl SideReach {
     }
 }
 
-/// The two cells after these operations at one of the two addresses, unless a read differs.
-fn run_ops(fault: DecoderFault, start: Pair, on: Side, ops: &[Op]) -> Option<Pair>
-    ensures { result ≡ ops_run (machine_of fault) start on ops.now }
-{
-    let reach = side_reach(fault, on);
-    let mut pair = start;
-    for op in ops {
-        let (next, answer) = reach.act(pair, act_of(*op));
-        if is_wrong(*op, answer) {
-            return None;
-        }
-        pair = next;
-    }
-    Some(pair)
+/// The two cells of a fault, by whether x has the lower address.
+#[derive(Drop)]
+pub(crate) struct Cells {
+    pub(crate) fault: DecoderFault,
+    pub(crate) is_below: bool,
 }
 
-/// The two cells after these operations at both addresses in turn, unless a read differs.
-fn run_sides(
-    fault: DecoderFault,
-    start: Pair,
-    first: Side,
-    second: Side,
-    ops: &[Op],
-) -> Option<Pair>
-    ensures { result ≡ sides_run (machine_of fault) start (first ∷ second ∷ []) ops.now }
-{
-    let middle = run_ops(fault, start, first, ops)?;
-    run_ops(fault, middle, second, ops)
-}
+impl FewCells for Cells {
+    type State = Pair;
 
-/// The two cells after these operations in a direction, by whether x has the lower address.
-fn run_sweep(
-    fault: DecoderFault,
-    is_below: bool,
-    ops: &[Op],
-    start: Pair,
-    is_down: bool,
-) -> Option<Pair>
-    ensures { result ≡ sides_run (machine_of fault) start (sides_in is_below (direction_of is_down)) ops.now }
-{
-    match (is_below, is_down) {
-        (true, false) | (false, true) => run_sides(fault, start, Side::A, Side::V, ops),
-        (true, true) | (false, false) => run_sides(fault, start, Side::V, Side::A, ops),
-    }
-}
+    type Cell = Side;
 
-/// Where an element of a march leads from a pair in a direction. None where its order doesn't leave the direction
-/// open, or where a read differs. A pause has no direction of its own and counts as upward.
-pub(crate) fn end_of(
-    fault: DecoderFault,
-    is_below: bool,
-    march: &March,
-    i: usize,
-    start: Pair,
-    is_down: bool,
-) -> Option<Pair>
-    requires { i < length march.now }
-    ensures { result ≡ end_of (machine_of fault) is_below (element_at march.now i) start (direction_of is_down) }
-{
-    if march.is_pause(i) {
-        return if is_down { None } else { Some(start) };
+    ghost Fits = { λ s. Unit {0} };
+
+    ghost machine = { λ s. machine_of s.fault };
+
+    ghost order = { λ s. sides_in s.is_below };
+
+    ghost wanted = { λ s. any_end };
+
+    ghost number = { pair_number };
+
+    fn act(&self, start: Pair, on: Side, act: Act) -> (Pair, Option<bool>) {
+        side_reach(self.fault, on).act(start, act)
     }
-    if !does_allow(march.order(i), is_down) {
-        return None;
+
+    fn pause(&self, start: Pair) -> Pair {
+        start
     }
-    run_sweep(fault, is_below, march.ops(i), start, is_down)
+
+    fn cells(&self, is_down: bool) -> &[Side] {
+        sides_in(self.is_below, is_down)
+    }
+
+    fn is_wanted(&self, _end: Pair) -> bool {
+        true
+    }
+
+    fn number(&self, pair: Pair) -> usize {
+        number_of(pair)
+    }
+
+    ghost tells = { same_number };
+
+    ghost few = { number_below };
 }

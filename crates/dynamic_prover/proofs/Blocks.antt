@@ -1,6 +1,6 @@
 -- The addresses of an array do the same as its shape.
 use Rattle.std.proofs.Common.{◌≡◌, ◌≢◌, ◌+◌, ◌-◌, ◌<◌, ◌≤◌, ℕ, zero, suc, Bool, true, false, cond, nat_lt, Option, Some, None, List, [], ◌∷◌, ◌++◌, map, reverse, refl, ap, sym, subst, ◌∙◌, append-nil, arith}
-use Rattle.std.proofs.lemmas.List.{reverse-append, map-append}
+use Rattle.std.proofs.lemmas.List.{reverse-append}
 use Rattle.std.proofs.lemmas.Bool.Decides.{nat_tests}
 use Rattle.std.specs.List.{range_with_len}
 use Rattle.std.specs.Option.{option_and_then}
@@ -10,14 +10,17 @@ use Rattle.cell_machine.specs.declared.pair.Side.{Side}
 use Rattle.cell_machine.specs.declared.pair.Side.TheVariants.{A, V}
 use Rattle.dynamic_core.specs.Primitive.{DynamicPrimitive}
 use Rattle.dynamic_prover.specs.declared.own_cells.OwnCells.{OwnCells}
-use Rattle.dynamic_prover.specs.inner.Own.{own_run}
-use Rattle.dynamic_prover.specs.inner.Shapes.{is_some_cell, shape_as, shape_of, in_direction, other_cells, tags_of, passed, tags_run}
-use Rattle.dynamic_prover.proofs.Passing.{side_at, side_at-aggressor, side_at-victim, side_at-elsewhere, DoesSame}
+use Rattle.pair_tracker.specs.Few.{ops_run}
+use Rattle.dynamic_prover.specs.inner.Own.{machine_of}
+use Rattle.pair_tracker.specs.Few.{passed, cells_run}
+use Rattle.dynamic_prover.specs.inner.Shapes.{is_some_cell, shape_as, shape_of, in_direction, other_cells, tags_of}
+use Rattle.pair_tracker.proofs.Tags.{map-reverse, side_at, side_at-aggressor, side_at-victim, side_at-elsewhere}
+use Rattle.dynamic_prover.proofs.Passing.{DoesSame}
 use Rattle.dynamic_prover.proofs.Crossing.{other_side, crossing}
 
 -- two lists of cells that do the same
 abbrev Does : DynamicPrimitive → List Op → List (Option Side) → List (Option Side) → Type 0
-Does p ops xs ys = (q : OwnCells) → tags_run p q xs ops ≡ tags_run p q ys ops
+Does p ops xs ys = (q : OwnCells) → cells_run (machine_of p) q xs ops ≡ cells_run (machine_of p) q ys ops
 
 abbrev others : ℕ → List (Option Side)
 others zero = []
@@ -30,16 +33,16 @@ block n = other_cells (is_some_cell n)
 abbrev past : ℕ → Side → List (Option Side) → List (Option Side)
 past n s rest = others n ++ Some s ∷ rest
 
-passed_again : (ops : List Op) (q : OwnCells) → passed ops (passed ops q) ≡ passed ops q
-passed_again [] q = refl
-passed_again (op ∷ ops) q = refl
+passed_again : (p : DynamicPrimitive) (ops : List Op) (q : OwnCells) → passed (machine_of p) ops (passed (machine_of p) ops q) ≡ passed (machine_of p) ops q
+passed_again p [] q = refl
+passed_again p (op ∷ ops) q = refl
 
 -- a place of other cells does what one of them does
 more_others : (p : DynamicPrimitive) (ops : List Op) (n : ℕ) (rest : List (Option Side)) (q : OwnCells)
-    → tags_run p (passed ops q) (others n ++ rest) ops ≡ tags_run p (passed ops q) rest ops
+    → cells_run (machine_of p) (passed (machine_of p) ops q) (others n ++ rest) ops ≡ cells_run (machine_of p) (passed (machine_of p) ops q) rest ops
 more_others p ops zero rest q = refl
 more_others p ops (suc n) rest q =
-    ap (λ r. tags_run p r (others n ++ rest) ops) (passed_again ops q) ∙ more_others p ops n rest q
+    ap (λ r. cells_run (machine_of p) r (others n ++ rest) ops) (passed_again p ops q) ∙ more_others p ops n rest q
 
 does_block : (p : DynamicPrimitive) (ops : List Op) (n : ℕ) (rest : List (Option Side)) → Does p ops (others n ++ rest) (block n ++ rest)
 does_block p ops zero rest q = refl
@@ -47,12 +50,12 @@ does_block p ops (suc n) rest q = more_others p ops n rest q
 
 does_rest : (p : DynamicPrimitive) (ops : List Op) (n : ℕ) (xs ys : List (Option Side)) → Does p ops xs ys → Does p ops (block n ++ xs) (block n ++ ys)
 does_rest p ops zero xs ys d q = d q
-does_rest p ops (suc n) xs ys d q = d (passed ops q)
+does_rest p ops (suc n) xs ys d q = d (passed (machine_of p) ops q)
 
 does_side : (p : DynamicPrimitive) (ops : List Op) (s : Side) (xs ys : List (Option Side)) → Does p ops xs ys → Does p ops (Some s ∷ xs) (Some s ∷ ys)
-does_side p ops s xs ys d q = go (own_run p q s ops)
+does_side p ops s xs ys d q = go (ops_run (machine_of p) q s ops)
   where
-    go : (r : Option OwnCells) → option_and_then (λ r. tags_run p r xs ops) r ≡ option_and_then (λ r. tags_run p r ys ops) r
+    go : (r : Option OwnCells) → option_and_then (λ r. cells_run (machine_of p) r xs ops) r ≡ option_and_then (λ r. cells_run (machine_of p) r ys ops) r
     go None = refl
     go (Some r) = d r
 
@@ -62,22 +65,22 @@ does_behind p ops n s xs ys d q = does_block p ops n (Some s ∷ xs) q ∙ does_
 
 does_last : (p : DynamicPrimitive) (ops : List Op) (n : ℕ) → Does p ops (others n) (block n)
 does_last p ops n q =
-    ap (λ l. tags_run p q l ops) (sym (append-nil (others n))) ∙ does_block p ops n [] q ∙ ap (λ l. tags_run p q l ops) (append-nil (block n))
+    ap (λ l. cells_run (machine_of p) q l ops) (sym (append-nil (others n))) ∙ does_block p ops n [] q ∙ ap (λ l. cells_run (machine_of p) q l ops) (append-nil (block n))
 
 -- other cells between the two do nothing
 does_between : (p : DynamicPrimitive) (ops : List Op) (n : ℕ) (s : Side) (xs ys : List (Option Side)) → Does p ops xs ys
     → Does p ops (Some s ∷ past n (other_side s) xs) (Some s ∷ Some (other_side s) ∷ ys)
-does_between p ops n s xs ys d q = go (own_run p q s ops) refl
+does_between p ops n s xs ys d q = go (ops_run (machine_of p) q s ops) refl
   where
     t : Side
     t = other_side s
 
-    near : (r : OwnCells) → own_run p q s ops ≡ Some r → (n : ℕ) → tags_run p r (block n ++ Some t ∷ ys) ops ≡ tags_run p r (Some t ∷ ys) ops
+    near : (r : OwnCells) → ops_run (machine_of p) q s ops ≡ Some r → (n : ℕ) → cells_run (machine_of p) r (block n ++ Some t ∷ ys) ops ≡ cells_run (machine_of p) r (Some t ∷ ys) ops
     near r e zero = refl
-    near r e (suc n) = ap (option_and_then (λ z. tags_run p z ys ops)) (crossing p s ops q r e)
+    near r e (suc n) = ap (option_and_then (λ z. cells_run (machine_of p) z ys ops)) (crossing p s ops q r e)
 
-    go : (o : Option OwnCells) → own_run p q s ops ≡ o
-        → option_and_then (λ r. tags_run p r (past n t xs) ops) o ≡ option_and_then (λ r. tags_run p r (Some t ∷ ys) ops) o
+    go : (o : Option OwnCells) → ops_run (machine_of p) q s ops ≡ o
+        → option_and_then (λ r. cells_run (machine_of p) r (past n t xs) ops) o ≡ option_and_then (λ r. cells_run (machine_of p) r (Some t ∷ ys) ops) o
     go None e = refl
     go (Some r) e = does_behind p ops n t xs ys (does_side p ops t xs ys d) r ∙ near r e n
 
@@ -113,12 +116,6 @@ reverse-two n m r s t =
     ∙ ap (λ l. (past r t (others m)) ++ Some s ∷ l) (reverse-others n) ∙ regroup_two (others n) (others m) (others r) s t
 
 -- which cells a range of addresses holds
-map-reverse : (a v : ℕ) (xs : List ℕ) → map (side_at a v) (reverse xs) ≡ reverse (map (side_at a v) xs)
-map-reverse a v [] = refl
-map-reverse a v (x ∷ xs) =
-    ap (map (side_at a v)) (reverse-append (x ∷ []) xs) ∙ map-append (side_at a v) (reverse xs) (x ∷ [])
-    ∙ ap (λ l. l ++ side_at a v x ∷ []) (map-reverse a v xs) ∙ sym (reverse-append (side_at a v x ∷ []) (map (side_at a v) xs))
-
 range_off : (a v k m : ℕ) → ((x : ℕ) → k ≤ x → x < k + m → (x ≢ a) × (x ≢ v)) → map (side_at a v) (range_with_len k m) ≡ others m
 range_off a v k zero off = refl
 range_off a v k (suc m) off =
@@ -174,13 +171,13 @@ over_two : (p : DynamicPrimitive) (a v n l m r : ℕ) (s : Side) → map (side_a
     → DoesSame p a v n (shape_as (is_some_cell l) s (Some (other_side s)) (is_some_cell r))
 unfolding addresses
 over_two p a v n l m r s e Upward q ops =
-    ap (λ x. tags_run p q x ops) e ∙ does_behind p ops l s (past m (other_side s) (others r)) (Some (other_side s) ∷ block r) (does_between p ops m s (others r) (block r) (does_last p ops r)) q
+    ap (λ x. cells_run (machine_of p) q x ops) e ∙ does_behind p ops l s (past m (other_side s) (others r)) (Some (other_side s) ∷ block r) (does_between p ops m s (others r) (block r) (does_last p ops r)) q
 over_two p a v n l m r s e Downward q ops =
-    ap (λ x. tags_run p q x ops) (map-reverse a v (range_with_len 0 n) ∙ ap reverse e ∙ reverse-two l m r s (other_side s))
+    ap (λ x. cells_run (machine_of p) q x ops) (map-reverse (side_at a v) (range_with_len 0 n) ∙ ap reverse e ∙ reverse-two l m r s (other_side s))
     ∙ back s
   where
-    back : (s : Side) → tags_run p q (past r (other_side s) (past m s (others l))) ops
-        ≡ tags_run p q (tags_of (in_direction Downward (shape_as (is_some_cell l) s (Some (other_side s)) (is_some_cell r)))) ops
+    back : (s : Side) → cells_run (machine_of p) q (past r (other_side s) (past m s (others l))) ops
+        ≡ cells_run (machine_of p) q (tags_of (in_direction Downward (shape_as (is_some_cell l) s (Some (other_side s)) (is_some_cell r)))) ops
     back A = does_behind p ops r V (past m A (others l)) (Some A ∷ block l) (does_between p ops m V (others l) (block l) (does_last p ops l)) q
     back V = does_behind p ops r A (past m V (others l)) (Some V ∷ block l) (does_between p ops m A (others l) (block l) (does_last p ops l)) q
 
@@ -188,9 +185,9 @@ over_one : (p : DynamicPrimitive) (a v n l r : ℕ) (s : Side) → map (side_at 
     → DoesSame p a v n (shape_as (is_some_cell l) s None (is_some_cell r))
 unfolding addresses
 over_one p a v n l r s e Upward q ops =
-    ap (λ x. tags_run p q x ops) e ∙ does_behind p ops l s (others r) (block r) (does_side p ops s (others r) (block r) (does_last p ops r)) q
+    ap (λ x. cells_run (machine_of p) q x ops) e ∙ does_behind p ops l s (others r) (block r) (does_side p ops s (others r) (block r) (does_last p ops r)) q
 over_one p a v n l r s e Downward q ops =
-    ap (λ x. tags_run p q x ops) (map-reverse a v (range_with_len 0 n) ∙ ap reverse e ∙ reverse-one l r s)
+    ap (λ x. cells_run (machine_of p) q x ops) (map-reverse (side_at a v) (range_with_len 0 n) ∙ ap reverse e ∙ reverse-one l r s)
     ∙ does_behind p ops r s (others l) (block l) (does_side p ops s (others l) (block l) (does_last p ops l)) q
 
 -- two cells of the array

@@ -12,8 +12,9 @@ use Rattle.cell_machine.specs.declared.pair.Side.TheVariants.{A, V}
 use Rattle.cell_machine.specs.Pairs.{bit_on}
 use Rattle.dynamic_core.specs.Primitive.{DynamicPrimitive, left_by}
 use Rattle.dynamic_prover.specs.declared.own_cells.OwnCells.{OwnCells}
-use Rattle.dynamic_prover.specs.inner.Own.{OwnActor, own_actor_of, own_holds, same_side, own_matches, own_arms, pair_where, own_where, reply_where, own_step, own_answer, own_run}
-use Rattle.dynamic_prover.specs.inner.Shapes.{passed}
+use Rattle.pair_tracker.specs.Few.{ops_run}
+use Rattle.dynamic_prover.specs.inner.Own.{OwnActor, own_actor_of, own_holds, same_side, own_matches, own_arms, pair_where, own_where, reply_where, own_step, own_answer, machine_of}
+use Rattle.pair_tracker.specs.Few.{passed}
 
 abbrev pub other_side : Side → Side
 other_side A = V
@@ -36,7 +37,7 @@ passes_on true o r e = cc
 passes_on false o r e = e
 
 left_unarmed : (p : DynamicPrimitive) (x : OwnActor) (s : Side) → own_actor_of p ≡ Some x → same_side x.on s ≡ false
-    → (op : Op) (ops : List Op) (q r : OwnCells) → own_run p q s (op ∷ ops) ≡ Some r → r.armed ≡ false
+    → (op : Op) (ops : List Op) (q r : OwnCells) → ops_run (machine_of p) q s (op ∷ ops) ≡ Some r → r.armed ≡ false
 left_unarmed p x s is off op [] q r e =
     let act : Act = act_of op in
     let next : OwnCells = own_step p q s act in
@@ -47,7 +48,7 @@ left_unarmed p x s is off op [] q r e =
 left_unarmed p x s is off op (op2 ∷ more) q r e =
     let act : Act = act_of op in
     let next : OwnCells = own_step p q s act in
-    left_unarmed p x s is off op2 more next r (passes_on (is_wrong_of op (own_answer p q s act)) (own_run p next s (op2 ∷ more)) r e)
+    left_unarmed p x s is off op2 more next r (passes_on (is_wrong_of op (own_answer p q s act)) (ops_run (machine_of p) next s (op2 ∷ more)) r e)
 
 -- a step matches the same with and without what another side left armed
 match_crossed : (o : Option OwnActor) (armed : Bool) (t : Side) (act : Act) → ((x : OwnActor) → o ≡ Some x → same_side x.on t ≡ true → armed ≡ false)
@@ -64,12 +65,12 @@ match_crossed (Some x) armed t act h = go (same_side x.on t) refl
     go false e = off armed ∙ ap (λ b. armed && (b && same_act act x.acts.second)) (sym e)
 
 -- the operations on the one cell right behind those on the other
-pub crossing : (p : DynamicPrimitive) (s : Side) (ops : List Op) (q r : OwnCells) → own_run p q s ops ≡ Some r
-    → own_run p (passed ops r) (other_side s) ops ≡ own_run p r (other_side s) ops
+pub crossing : (p : DynamicPrimitive) (s : Side) (ops : List Op) (q r : OwnCells) → ops_run (machine_of p) q s ops ≡ Some r
+    → ops_run (machine_of p) (passed (machine_of p) ops r) (other_side s) ops ≡ ops_run (machine_of p) r (other_side s) ops
 crossing p s [] q r e = refl
 crossing p s (op ∷ ops) q r e =
     let t : Side = other_side s in
     let act : Act = act_of op in
     let hit : own_matches (own_actor_of p) false t act ≡ own_matches (own_actor_of p) r.armed t act =
     match_crossed (own_actor_of p) r.armed t act (λ x is on. left_unarmed p x s is (on_one x.on s on) op ops q r e) in
-    ap (λ b. cond (is_wrong_of op (reply_where p b r.pair t act)) None (own_run p (own_where p b r.pair t act) t ops)) hit
+    ap (λ b. cond (is_wrong_of op (reply_where p b r.pair t act)) None (ops_run (machine_of p) (own_where p b r.pair t act) t ops)) hit

@@ -29,7 +29,7 @@ use Rattle.dynamic_prover.specs.declared.escape.DynVerdict.TheVariants.{Escape}
 use Rattle.dynamic_prover.specs.inner.Spots.{spots_of, shape_at, content_from, Candidate, candidate_at, candidates_of, passes_by, IsMadeOf, NonePasses, IsFirstOf, bit_at}
 use Rattle.dynamic_prover.proofs.Sized.{beside_of, own_start}
 use Rattle.dynamic_prover.proofs.Greedy.{Foretells, foretold}
-use Rattle.dynamic_prover.proofs.Wording.{IsFitting, fitting_word, word_least}
+use Rattle.pair_tracker.proofs.Wording.{IsFitting, fitting_word, word_least}
 use Rattle.dynamic_prover.proofs.Ordered.{in_order_on, before_in_order, length-content, take-content, blank-content, not_before, no_less}
 use Rattle.dynamic_prover.proofs.Listed.{IsIn, all_in, in_split, in_middle, in_candidates, IsListed, listed, order_of, before_behind, start_listed, start_off}
 use Rattle.dynamic_prover.proofs.Arrays.{IsSpotFor, spot_for, FitsIn, fits_in, places_below, IsSmall, is_small, IsLarge, has_large, start_seen}

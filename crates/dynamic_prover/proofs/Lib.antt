@@ -4,7 +4,6 @@ pub mod Crossing
 pub mod Blocks
 pub mod Sized
 pub mod Greedy
-pub mod Wording
 pub mod Alone
 pub mod Tables
 pub mod OpTables

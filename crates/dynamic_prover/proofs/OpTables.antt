@@ -10,24 +10,25 @@ use Rattle.cell_machine.specs.declared.pair.Side.{Side}
 use Rattle.dynamic_core.specs.Primitive.{DynamicPrimitive}
 use Rattle.dynamic_prover.specs.declared.own_cells.OwnCells.{OwnCells}
 use Rattle.dynamic_prover.specs.declared.op_table.OpTable.{OpTable}
-use Rattle.dynamic_prover.specs.inner.Own.{own_step, own_answer, own_run}
+use Rattle.pair_tracker.specs.Few.{ops_run}
+use Rattle.dynamic_prover.specs.inner.Own.{own_step, own_answer, machine_of}
 use Rattle.dynamic_prover.specs.inner.Legs.{end_from}
 use Rattle.dynamic_prover.specs.inner.OpTables.{ends_by, IsOpTable}
 
 -- the first operation, and then the others
 first_then : (p : DynamicPrimitive) (s : Side) (q : OwnCells) (op : Op) (ops : List Op)
-    → own_run p q s (op ∷ ops) ≡ option_and_then (λ r. own_run p r s ops) (own_run p q s (op ∷ []))
+    → ops_run (machine_of p) q s (op ∷ ops) ≡ option_and_then (λ r. ops_run (machine_of p) r s ops) (ops_run (machine_of p) q s (op ∷ []))
 first_then p s q op ops = go (is_wrong_of op (own_answer p q s (act_of op)))
   where
-    go : (wrong : Bool) → cond wrong None (own_run p (own_step p q s (act_of op)) s ops)
-        ≡ option_and_then (λ r. own_run p r s ops) (cond wrong None (Some (own_step p q s (act_of op))))
+    go : (wrong : Bool) → cond wrong None (ops_run (machine_of p) (own_step p q s (act_of op)) s ops)
+        ≡ option_and_then (λ r. ops_run (machine_of p) r s ops) (cond wrong None (Some (own_step p q s (act_of op))))
     go true = refl
     go false = refl
 
 -- the operations from one on, where its table leads
 pub looked_up : (p : DynamicPrimitive) (s : Side) (t : OpTable) (q : OwnCells) (ops : List Op) (i : ℕ) (op : Op) (end : Option OwnCells) → IsOpTable p s t → i < length ops
-    → op ≡ get_or ops i W0 → end ≡ end_from (ends_by t op) q → own_run p q s (drop i ops) ≡ option_and_then (λ r. own_run p r s (drop (i + 1) ops)) end
+    → op ≡ get_or ops i W0 → end ≡ end_from (ends_by t op) q → ops_run (machine_of p) q s (drop i ops) ≡ option_and_then (λ r. ops_run (machine_of p) r s (drop (i + 1) ops)) end
 looked_up p s t q ops i op end is within op_is end_is =
-    ap (own_run p q s) (drop_more ops i W0 within ∙ ap (λ o. o ∷ drop (i + 1) ops) (sym op_is))
+    ap (ops_run (machine_of p) q s) (drop_more ops i W0 within ∙ ap (λ o. o ∷ drop (i + 1) ops) (sym op_is))
     ∙ first_then p s q op (drop (i + 1) ops)
-    ∙ ap (option_and_then (λ r. own_run p r s (drop (i + 1) ops))) (sym (end_is ∙ is op q))
+    ∙ ap (option_and_then (λ r. ops_run (machine_of p) r s (drop (i + 1) ops))) (sym (end_is ∙ is op q))

@@ -1,18 +1,21 @@
 -- What a march makes of an array is seen in the array's shape and the contents of its instance's cells.
-use Rattle.std.proofs.Common.{◌≡◌, ◌≢◌, ◌<◌, ℕ, Option, Some, None, List, length, sym, subst, Bool, false, arith}
+use Rattle.std.proofs.Common.{◌≡◌, ◌≢◌, ◌<◌, ℕ, Option, Some, None, List, length, refl, Bool, false, arith}
 use Rattle.fault_core.specs.declared.cells.Places.{Places}
-use Rattle.march_core.specs.March.{MarchElement, IsMarch, all_ops}
-use Rattle.march_core.specs.Visits.{Direction, visits}
-use Rattle.march_core.proofs.Consistent.{consistent_scan, last_after}
+use Rattle.march_core.specs.March.{MarchElement, IsMarch}
+use Rattle.march_core.specs.Visits.{Direction}
+use Rattle.cell_machine.specs.declared.pair.Side.{Side}
+use Rattle.pair_tracker.specs.Few.{Order, few_run}
+use Rattle.pair_tracker.proofs.Few.{march_passes, march_through}
+use Rattle.pair_tracker.proofs.Tags.{side_at}
 use Rattle.dynamic_core.specs.Primitive.{DynamicSense, DynamicPrimitive}
 use Rattle.dynamic_core.specs.Dynamic.{held_as}
-use Rattle.dynamic_core.specs.inner.Dynamic.{dyn_run}
-use Rattle.dynamic_core.specs.Detecting.{FitsDynAgg, FitsDyn}
-use Rattle.dynamic_core.specs.inner.Detecting.{ending_of}
+use Rattle.dynamic_core.specs.Differing.{held_after, is_wrong_visit}
+use Rattle.dynamic_core.specs.Detecting.{FitsDynAgg, FitsDyn, IsCaughtDyn}
 use Rattle.dynamic_prover.specs.declared.own_cells.OwnCells.{OwnCells}
-use Rattle.dynamic_prover.specs.inner.Shapes.{shape_of, shape_run}
+use Rattle.dynamic_prover.specs.inner.Own.{machine_of}
+use Rattle.dynamic_prover.specs.inner.Shapes.{shape_of, order_of}
 use Rattle.dynamic_prover.proofs.Own.{own_of, About, about}
-use Rattle.dynamic_prover.proofs.Passing.{Shows, DoesSame, march_visit}
+use Rattle.dynamic_prover.proofs.Passing.{dyn_sees, DoesSame}
 use Rattle.dynamic_prover.proofs.Blocks.{over_pair, over_victim}
 
 -- the cell seen beside the victim: the aggressor's, or none of the array where there is no aggressor
@@ -44,10 +47,20 @@ does_same p at n fits = go at.agg p.agg fits.aggressor
 abbrev pub own_start : Option ℕ → ℕ → ℕ → List Bool → OwnCells
 own_start agg vic n content = own_of (beside_of agg n) vic (held_as content false)
 
-pub shown : (p : DynamicPrimitive) (at : Places) (n : ℕ) → FitsDyn p at n → (march : List MarchElement) (ds : List Direction) (content : List Bool) → IsMarch march → length content ≡ n
-    → Shows (beside_of at.agg n) at.vic (shape_run p (shape_of at.agg at.vic n) (own_start at.agg at.vic n content) march ds) (ending_of march ds p at content) (λ g. length g.cells ≡ n)
-shown p at n fits march ds content is_march size =
-    let run = march_visit p at (beside_of at.agg n) n (sees p at n fits) (shape_of at.agg at.vic n) (does_same p at n fits) march ds 0 None
-    (last_after None (all_ops march)) (held_as content false) (consistent_scan (all_ops march) is_march.consistent) size (λ y yn ya yv bit is. cc) in
-    subst (λ k. Shows (beside_of at.agg n) at.vic (shape_run p (shape_of at.agg at.vic n) (own_start at.agg at.vic n content) march ds)
-    (dyn_run p at (held_as content false) (visits march ds k)) (λ g. length g.cells ≡ n)) (sym size) run
+module _ (p : DynamicPrimitive) (at : Places) (march : List MarchElement) (is : IsMarch march) (ds : List Direction) (content : List Bool) (fits : FitsDyn p at (length content)) where
+  abbrev n : ℕ
+  n = length content
+
+  abbrev order : Order Side
+  order = order_of (shape_of at.agg at.vic n)
+
+  -- no read differs exactly where the two cells get through
+  pub passes_where : (q : OwnCells) → few_run (machine_of p) order (own_start at.agg at.vic n content) march ds ≡ Some q → IsCaughtDyn march ds p at content → ⊥
+  passes_where q e =
+      march_passes (held_after p at) (is_wrong_visit p at) (λ h. h.cells) (own_of (beside_of at.agg n) at.vic) (side_at (beside_of at.agg n) at.vic) n (machine_of p) (λ h. length h.cells ≡ n) (Unit {0})
+      (dyn_sees p at (beside_of at.agg n) n (sees p at n fits)) order (does_same p at n fits) march is ds (held_as content false) refl tt q e
+
+  pub through_unless : (IsCaughtDyn march ds p at content → ⊥) → (q : OwnCells) × (few_run (machine_of p) order (own_start at.agg at.vic n content) march ds ≡ Some q)
+  through_unless passes =
+      march_through (held_after p at) (is_wrong_visit p at) (λ h. h.cells) (own_of (beside_of at.agg n) at.vic) (side_at (beside_of at.agg n) at.vic) n (machine_of p) (λ h. length h.cells ≡ n) (Unit {0})
+      (dyn_sees p at (beside_of at.agg n) n (sees p at n fits)) order (does_same p at n fits) march is ds (held_as content false) refl tt passes

@@ -1,7 +1,8 @@
 -- The tables lead where the elements of the march lead.
-use Rattle.std.proofs.Common.{◌≡◌, ◌+◌, ◌<◌, ℕ, Bool, true, false, cond, ◌||◌, Option, Some, None, List, [], ◌∷◌, ◌++◌, length, take, get_or, refl, ap, sym, subst, ◌∙◌, arith}
+use Rattle.std.proofs.Common.{◌≡◌, ◌+◌, ◌<◌, ◌≤◌, ℕ, Bool, true, false, cond, ◌||◌, Option, Some, None, List, [], ◌∷◌, ◌++◌, length, take, drop, get_or, refl, ap, sym, subst, ◌∙◌, arith}
 use Rattle.std.specs.Option.{option_and_then, option_map}
-use Rattle.std.proofs.lemmas.List.{take_more}
+use Rattle.std.proofs.lemmas.List.{take_more, drop_more, drop_all}
+use Rattle.pair_tracker.specs.DeadEnds.{AreFrom}
 use Rattle.march_core.specs.declared.operation.Op.{Op}
 use Rattle.march_core.specs.March.{MarchElement, pause, sweep, element_at, order_at, ops_at, is_pause_at}
 use Rattle.march_core.specs.Visits.{Direction, Upward, Downward, allows}
@@ -15,8 +16,10 @@ use Rattle.dynamic_prover.specs.declared.shape.Shape.{Shape}
 use Rattle.dynamic_prover.specs.declared.leg.SweepLeg.{SweepLeg}
 use Rattle.dynamic_prover.specs.declared.leg.Leg.{Leg}
 use Rattle.dynamic_prover.specs.declared.leg.Leg.TheVariants.{Pause, Sweep}
-use Rattle.dynamic_prover.specs.inner.Own.{own_as, own_run, disarmed}
-use Rattle.dynamic_prover.specs.inner.Shapes.{in_direction, other_cells, one_more, tags_of, passed, tags_run, end_in}
+use Rattle.pair_tracker.specs.Few.{ops_run}
+use Rattle.dynamic_prover.specs.inner.Own.{own_as, disarmed, machine_of}
+use Rattle.pair_tracker.specs.Few.{passed, cells_run}
+use Rattle.dynamic_prover.specs.inner.Shapes.{in_direction, other_cells, one_more, tags_of, end_in}
 use Rattle.pair_tracker.specs.Ways.{holds_at, ways_at}
 use Rattle.dynamic_prover.specs.inner.Ways.{can_pass, least_ways}
 use Rattle.dynamic_prover.specs.inner.Legs.{own_number, passed_where, end_from, ends_on, second_end, sweep_end, leg_end, IsLeg, AreLegs}
@@ -40,69 +43,46 @@ eight f x0 x1 x2 x3 x4 x5 x6 x7 e0 e1 e2 e3 e4 e5 e6 e7 q = go q.pair.a q.pair.v
     go true true false = e6
     go true true true = e7
 
--- the number tells the contents
-pub same_own : (q r : OwnCells) → own_number q ≡ own_number r → q ≡ r
-same_own q r e =
-    let ends : List (Option OwnCells) =
-    Some (own_as (pair_of false false) false) ∷ Some (own_as (pair_of false false) true) ∷ Some (own_as (pair_of false true) false) ∷ Some (own_as (pair_of false true) true)
-    ∷ Some (own_as (pair_of true false) false) ∷ Some (own_as (pair_of true false) true) ∷ Some (own_as (pair_of true true) false) ∷ Some (own_as (pair_of true true) true) ∷ [] in
-    let itself : (x : OwnCells) → end_from ends x ≡ Some x = λ x. eight Some _ _ _ _ _ _ _ _ refl refl refl refl refl refl refl refl x in
-    let same : ◌≡◌ {A = Option OwnCells} (Some q) (Some r) = sym (itself q) ∙ ap (λ k. get_or ends k None) e ∙ itself r in
-    cc
-
-pub own_below : (q : OwnCells) → own_number q < 8
-own_below q = go q.pair.a q.pair.v q.armed
-  where
-    go : (a v armed : Bool) → own_number (own_as (pair_of a v) armed) < 8
-    go false false false = omega arith
-    go false false true = omega arith
-    go false true false = omega arith
-    go false true true = omega arith
-    go true false false = omega arith
-    go true false true = omega arith
-    go true true false = omega arith
-    go true true true = omega arith
-
 -- what a table of some operations says
 pub record TellsEnds (p : DynamicPrimitive) (ops : List Op) (leg : SweepLeg) : Type 0 where
   pub some : 0 < length ops
-  pub aggressor : (q : OwnCells) → end_from leg.on_aggressor q ≡ own_run p q A ops
-  pub victim : (q : OwnCells) → end_from leg.on_victim q ≡ own_run p q V ops
+  pub aggressor : (q : OwnCells) → end_from leg.on_aggressor q ≡ ops_run (machine_of p) q A ops
+  pub victim : (q : OwnCells) → end_from leg.on_victim q ≡ ops_run (machine_of p) q V ops
 
-side_told : (p : DynamicPrimitive) (ops : List Op) (leg : SweepLeg) → TellsEnds p ops leg → (s : Side) (q : OwnCells) → end_from (ends_on leg s) q ≡ own_run p q s ops
+side_told : (p : DynamicPrimitive) (ops : List Op) (leg : SweepLeg) → TellsEnds p ops leg → (s : Side) (q : OwnCells) → end_from (ends_on leg s) q ≡ ops_run (machine_of p) q s ops
 side_told p ops leg t A q = t.aggressor q
 side_told p ops leg t V q = t.victim q
 
-passed_some : (ops : List Op) (q : OwnCells) → 0 < length ops → passed ops q ≡ disarmed q
-passed_some [] q h = absurd (omega arith)
-passed_some (op ∷ ops) q h = refl
+passed_some : (p : DynamicPrimitive) (ops : List Op) (q : OwnCells) → 0 < length ops → passed (machine_of p) ops q ≡ disarmed q
+passed_some p [] q h = absurd (omega arith)
+passed_some p (op ∷ ops) q h = refl
 
 below_told : (p : DynamicPrimitive) (ops : List Op) (b : Bool) (q : OwnCells) (ts : List (Option Side)) → 0 < length ops
-    → tags_run p q (other_cells b ++ ts) ops ≡ tags_run p (passed_where b q) ts ops
-below_told p ops true q ts h = ap (λ r. tags_run p r ts ops) (passed_some ops q h)
+    → cells_run (machine_of p) q (other_cells b ++ ts) ops ≡ cells_run (machine_of p) (passed_where b q) ts ops
+below_told p ops true q ts h = ap (λ r. cells_run (machine_of p) r ts ops) (passed_some p ops q h)
 below_told p ops false q ts h = refl
 
-above_told : (p : DynamicPrimitive) (ops : List Op) (b : Bool) (q : OwnCells) → 0 < length ops → Some (passed_where b q) ≡ tags_run p q (other_cells b) ops
-above_told p ops true q h = ap (λ (r : OwnCells). Some r) (sym (passed_some ops q h))
+above_told : (p : DynamicPrimitive) (ops : List Op) (b : Bool) (q : OwnCells) → 0 < length ops → Some (passed_where b q) ≡ cells_run (machine_of p) q (other_cells b) ops
+above_told p ops true q h = ap (λ (r : OwnCells). Some r) (sym (passed_some p ops q h))
 above_told p ops false q h = refl
 
 second_told : (p : DynamicPrimitive) (ops : List Op) (leg : SweepLeg) → TellsEnds p ops leg → (second : Option Side) (b : Bool) (q : OwnCells)
-    → option_map (passed_where b) (second_end leg second q) ≡ tags_run p q (one_more second ++ other_cells b) ops
+    → option_map (passed_where b) (second_end leg second q) ≡ cells_run (machine_of p) q (one_more second ++ other_cells b) ops
 second_told p ops leg t None b q = above_told p ops b q t.some
-second_told p ops leg t (Some s) b q = ap (option_map (passed_where b)) (side_told p ops leg t s q) ∙ go (own_run p q s ops)
+second_told p ops leg t (Some s) b q = ap (option_map (passed_where b)) (side_told p ops leg t s q) ∙ go (ops_run (machine_of p) q s ops)
   where
-    go : (o : Option OwnCells) → option_map (passed_where b) o ≡ option_and_then (λ r. tags_run p r (other_cells b) ops) o
+    go : (o : Option OwnCells) → option_map (passed_where b) o ≡ option_and_then (λ r. cells_run (machine_of p) r (other_cells b) ops) o
     go None = refl
     go (Some r) = above_told p ops b r t.some
 
-sweep_told : (p : DynamicPrimitive) (ops : List Op) (leg : SweepLeg) → TellsEnds p ops leg → (s : Shape) (q : OwnCells) → sweep_end leg s q ≡ tags_run p q (tags_of s) ops
+sweep_told : (p : DynamicPrimitive) (ops : List Op) (leg : SweepLeg) → TellsEnds p ops leg → (s : Shape) (q : OwnCells) → sweep_end leg s q ≡ cells_run (machine_of p) q (tags_of s) ops
 sweep_told p ops leg t s q =
     ap (option_and_then (λ r. option_map (passed_where s.above) (second_end leg s.second r))) (side_told p ops leg t s.first (passed_where s.below q))
-    ∙ go (own_run p (passed_where s.below q) s.first ops)
+    ∙ go (ops_run (machine_of p) (passed_where s.below q) s.first ops)
     ∙ sym (below_told p ops s.below q (Some s.first ∷ (one_more s.second ++ other_cells s.above)) t.some)
   where
     go : (o : Option OwnCells) → option_and_then (λ r. option_map (passed_where s.above) (second_end leg s.second r)) o
-        ≡ option_and_then (λ r. tags_run p r (one_more s.second ++ other_cells s.above) ops) o
+        ≡ option_and_then (λ r. cells_run (machine_of p) r (one_more s.second ++ other_cells s.above) ops) o
     go None = refl
     go (Some r) = second_told p ops leg t s.second s.above r
 
@@ -190,3 +170,12 @@ ways_by_legs p shape (e ∷ es) (l ∷ ls) are q =
     (held_same f g (λ r. can_by_legs p shape es ls are.1 r) (leg_end shape l q Upward) (end_in p shape e q Upward) (are.0 shape q Upward))
     (ways_same h k rest (leg_end shape l q Upward) (end_in p shape e q Upward) (are.0 shape q Upward))
     (ways_same h k rest (leg_end shape l q Downward) (end_in p shape e q Downward) (are.0 shape q Downward))
+
+-- a table by its number
+pub leg_is : (legs : List Leg) (i : ℕ) (e blank : Leg) → i < length legs → drop i legs ≡ e ∷ drop (i + 1) legs → get_or legs i blank ≡ e
+leg_is legs i e blank h from =
+    let heads : get_or legs i blank ∷ drop (i + 1) legs ≡ e ∷ drop (i + 1) legs = sym (drop_more legs i blank h) ∙ from in
+    cc
+
+pub legs_from : (legs : List Leg) → length legs ≤ 64 → AreFrom (length legs) (λ i. drop i legs)
+legs_from legs few = record { few = few; first = λ i h. (get_or legs i Pause, drop_more legs i Pause h); none = drop_all (length legs) legs (omega arith) }

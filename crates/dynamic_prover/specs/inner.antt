@@ -3,5 +3,5 @@ pub mod Shapes
 pub mod Ways
 pub mod Legs
 pub mod OpTables
-pub mod DeadEnds
 pub mod Spots
+pub mod Numbers

@@ -3,19 +3,19 @@ ghost use Rattle.march_core.specs.March.{IsMarch};
 ghost use Rattle.dynamic_core.specs.Primitive.{has_aggressor};
 ghost use Rattle.dynamic_prover.specs.inner.Shapes.{end_in};
 ghost use Rattle.dynamic_prover.specs.inner.Legs.{leg_end};
-ghost use Rattle.dynamic_prover.specs.inner.DeadEnds.{AreDeadEnds};
+ghost use Rattle.dynamic_prover.specs.inner.Legs.{KnowsOf};
 ghost use Rattle.dynamic_prover.specs.inner.Spots.{shape_at, spots_of, candidate_at, candidates_at, candidates_of, passes_by, IsMadeOf, FindsFirst};
 ghost use Rattle.dynamic_prover.specs.Verdicts.{IsDynVerdict, IsDynVerdictAt};
 
 use crate::escape::{DynEscape, DynVerdict};
 use crate::leg::{Leg, legs_of};
 use crate::own_cells::own_cells;
-use crate::search::word_from;
+use crate::search::Search;
 use crate::spot::{Spot, spots_of};
 use cell_machine::Pair;
 use dynamic_core::DynPrim;
 use march_core::March;
-use pair_tracker::DeadEnds;
+use pair_tracker::{DeadEnds, word_from};
 
 /// The escape in an array with these places and this content of its instance's cells, where it can pass.
 fn escape_from(
@@ -26,13 +26,17 @@ fn escape_from(
     dead_ends: &mut DeadEnds,
 ) -> Option<DynEscape>
     requires few { length legs.now ≤ 64 }
-    requires dead { AreDeadEnds (shape_at spot) legs.now dead_ends.old }
+    requires dead { KnowsOf (shape_at spot) legs.now dead_ends.old }
     ensures escape { MatchOption result (passes_by leg_end legs.now (candidate_at spot pair) ≡ false)
         (λ e. (passes_by leg_end legs.now (candidate_at spot pair) ≡ true) × IsMadeOf leg_end legs.now prim.now (candidate_at spot pair) e) }
-    ensures dead { AreDeadEnds (shape_at spot) legs.now dead_ends.new }
+    ensures dead { KnowsOf (shape_at spot) legs.now dead_ends.new }
 {
     let start = own_cells(pair.a, pair.v, false);
-    let directions = word_from(legs, spot.shape(), dead_ends, 0, Some(start))?;
+    let search = Search {
+        legs,
+        shape: spot.shape(),
+    };
+    let directions = word_from(&search, dead_ends, 0, Some(start))?;
     Some(DynEscape {
         prim: *prim,
         size: spot.size,

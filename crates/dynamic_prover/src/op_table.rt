@@ -5,7 +5,8 @@ ghost use Rattle.march_core.specs.declared.operation.Op.{Op};
 ghost use Rattle.cell_machine.specs.declared.pair.Side.{Side};
 ghost use Rattle.dynamic_core.specs.Primitive.{DynamicPrimitive};
 ghost use Rattle.dynamic_prover.specs.declared.own_cells.OwnCells.{OwnCells};
-ghost use Rattle.dynamic_prover.specs.inner.Own.{own_run};
+ghost use Rattle.pair_tracker.specs.Few.{ops_run};
+ghost use Rattle.dynamic_prover.specs.inner.Own.{machine_of};
 ghost use Rattle.dynamic_prover.specs.inner.Legs.{end_from};
 ghost use Rattle.dynamic_prover.specs.inner.OpTables.{ends_by, IsOpTable};
 
@@ -26,7 +27,7 @@ pub(crate) struct OpTable {
 
 /// Where operations on one of the two cells lead from each of their contents.
 fn ends_of(prim: &DynPrim, on: Side, ops: &[Op]) -> [Option<OwnCells>; 8]
-    ensures ends { (q : OwnCells) → end_from result q ≡ own_run prim.now q on ops.now }
+    ensures ends { (q : OwnCells) → end_from result q ≡ ops_run (machine_of prim.now) q on ops.now }
     ensures each { length result ≡ 8 }
 {
     [
@@ -67,7 +68,7 @@ impl OpTable {
 
     /// Where these operations lead, one behind another.
     fn run(&self, start: OwnCells, ops: &[Op]) -> Option<OwnCells>
-        ensures { (p : DynamicPrimitive) (s : Side) → IsOpTable p s self.now → result ≡ own_run p start s ops.now }
+        ensures { (p : DynamicPrimitive) (s : Side) → IsOpTable p s self.now → result ≡ ops_run (machine_of p) start s ops.now }
     {
         let mut own = start;
         for op in ops {
@@ -82,7 +83,7 @@ impl OpTable {
     /// Where these operations lead from each of the contents.
     pub(crate) fn ends(&self, ops: &[Op]) -> [Option<OwnCells>; 8]
         ensures ends { (p : DynamicPrimitive) (s : Side) → IsOpTable p s self.now → (q : OwnCells)
-            → end_from result q ≡ own_run p q s ops.now }
+            → end_from result q ≡ ops_run (machine_of p) q s ops.now }
         ensures each { length result ≡ 8 }
     {
         [

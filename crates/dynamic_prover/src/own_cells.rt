@@ -1,7 +1,8 @@
 ghost use Rattle.std.specs.Prelude.{◌≡◌, ◌<◌};
 ghost use Rattle.cell_machine.specs.Pairs.{pair_of};
 ghost use Rattle.cell_machine.specs.Seen.{place_of};
-ghost use Rattle.dynamic_prover.specs.inner.Own.{own_as, own_step, own_answer, own_run, disarmed, two_places};
+ghost use Rattle.pair_tracker.specs.Few.{ops_run};
+ghost use Rattle.dynamic_prover.specs.inner.Own.{own_as, own_step, own_answer, disarmed, two_places, machine_of};
 ghost use Rattle.dynamic_prover.specs.inner.Legs.{own_number, passed_where};
 
 use array_sim::act_of;
@@ -105,7 +106,7 @@ fn act_on(prim: &DynPrim, start: OwnCells, on: Side, act: Act) -> Acted
 
 /// The two cells after these operations on one of them, unless a read differs.
 pub(crate) fn run_ops(prim: &DynPrim, start: OwnCells, on: Side, ops: &[Op]) -> Option<OwnCells>
-    ensures { result ≡ own_run prim.now start on ops.now }
+    ensures { result ≡ ops_run (machine_of prim.now) start on ops.now }
 {
     let mut own = start;
     for op in ops {

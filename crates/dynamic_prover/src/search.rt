@@ -1,49 +1,57 @@
-//! The least direction word in which a march can be passed: at each element upward, unless no way leads on from there.
+//! A search through the tables of a march in a shape, for any end.
 
-ghost use Rattle.std.specs.Prelude.{◌≡◌, ◌≤◌, ◌<◌, None, Some, drop, length, true};
-ghost use Rattle.pair_tracker.specs.Reached.{is_dead, StaysDead};
-ghost use Rattle.pair_tracker.specs.Ways.{word_by, word_behind};
+ghost use Rattle.std.specs.Prelude.{drop, length};
 ghost use Rattle.dynamic_prover.specs.inner.Ways.{any_end};
 ghost use Rattle.dynamic_prover.specs.inner.Legs.{leg_end, own_number};
-ghost use Rattle.dynamic_prover.specs.declared.own_cells.OwnCells.{OwnCells};
-ghost use Rattle.dynamic_prover.specs.inner.DeadEnds.{AreDeadEnds};
+ghost use Rattle.dynamic_prover.specs.inner.Numbers.{same_own, own_below};
+ghost use Rattle.dynamic_prover.specs.declared.leg.Leg.{Leg};
 
 use crate::leg::Leg;
 use crate::own_cells::OwnCells;
 use crate::shape::Shape;
-use pair_tracker::{DeadEnds, weight_of};
+use pair_tracker::Ways;
 
-/// The least direction word of the elements from `i` on that leads from these contents to the end, where one does.
-pub(crate) fn word_from(
-    legs: &[Leg],
-    shape: Shape,
-    dead_ends: &mut DeadEnds,
-    i: usize,
-    start: Option<OwnCells>,
-) -> Option<u64>
-    requires few { length legs.now ≤ 64 }
-    requires within { i ≤ length legs.now }
-    requires dead { AreDeadEnds shape legs.now dead_ends.old }
-    ensures word { result ≡ word_behind (word_by any_end (leg_end shape) i (drop i legs.now)) start }
-    ensures dead { AreDeadEnds shape legs.now dead_ends.new }
-    ensures kept { StaysDead dead_ends.old dead_ends.new }
-    ensures noted { result ≡ None → i < length legs.now → (q : OwnCells) → start ≡ Some q → is_dead dead_ends.new i (own_number q) ≡ true }
-{
-    let own = start?;
-    if i >= legs.len() {
-        return Some(0);
+/// What is looked for: a way through a march by its tables, in a shape.
+#[derive(Clone, Copy)]
+pub(crate) struct Search<'a> {
+    pub(crate) legs: &'a [Leg],
+    pub(crate) shape: Shape,
+}
+
+impl Ways for Search<'_> {
+    type State = OwnCells;
+
+    ghost Holds = { λ s. Unit {0} };
+
+    ghost Element = { Leg };
+
+    ghost count = { λ s. length s.legs.now };
+
+    ghost from = { λ s i. drop i s.legs.now };
+
+    ghost lead = { λ s. leg_end s.shape };
+
+    ghost wanted = { λ s. any_end };
+
+    ghost number = { own_number };
+
+    fn count(&self) -> usize {
+        self.legs.len()
     }
-    if dead_ends.has(i, own.number()) {
-        return None;
+
+    fn lead(&self, i: usize, start: OwnCells, is_down: bool) -> Option<OwnCells> {
+        self.legs[i].end(self.shape, start, is_down)
     }
-    let up = legs[i].end(shape, own, false);
-    if let Some(word) = word_from(legs, shape, dead_ends, i + 1, up) {
-        return Some(word);
+
+    fn is_wanted(&self, _end: OwnCells) -> bool {
+        true
     }
-    let down = legs[i].end(shape, own, true);
-    if let Some(word) = word_from(legs, shape, dead_ends, i + 1, down) {
-        return Some(weight_of(i) + word);
+
+    fn number(&self, own: OwnCells) -> usize {
+        own.number()
     }
-    dead_ends.insert(i, own.number());
-    None
+
+    ghost tells = { same_own };
+
+    ghost few = { own_below };
 }

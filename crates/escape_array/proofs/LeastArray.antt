@@ -16,7 +16,7 @@ use Rattle.pair_tracker.specs.declared.placement.Placement.TheVariants.{Alone, B
 use Rattle.pair_tracker.specs.Legs.{Leg, SumsUp}
 use Rattle.pair_tracker.specs.Placements.{places_in, FitsPlacement, pair_in}
 use Rattle.pair_tracker.specs.Survivors.{pair_number, LetsThrough, IsLeastWord}
-use Rattle.pair_tracker.proofs.Numbers.{same_number}
+use Rattle.pair_tracker.specs.inner.Numbers.{same_number}
 use Rattle.escape_array.specs.declared.escape.EscapeArray.{EscapeArray}
 use Rattle.escape_array.specs.Escapes.{IsEscape, IsLeastEscape, IsNoGreater, places_of_escape, placement_number, content_number}
 use Rattle.escape_array.specs.inner.Searching.{NoneBefore, IsLeastIn}

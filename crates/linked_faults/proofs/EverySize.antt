@@ -1,58 +1,47 @@
 -- What three cells get through, an array of any size does.
-use Rattle.std.proofs.Common.{◌≡◌, ◌≢◌, ◌++◌, ◌-◌, ◌≤◌, ◌<◌, ℕ, zero, suc, Bool, false, Option, Some, None, List, length, replicate, length-append, refl, ap, sym, subst, ◌∙◌, ◌⊎◌, inl, inr, ⊎_elim, arith}
+use Rattle.std.proofs.Common.{◌≡◌, ◌≢◌, ◌++◌, ◌-◌, ◌≤◌, ◌<◌, ℕ, zero, suc, Bool, false, Some, None, List, length, replicate, length-append, refl, ap, subst, ◌∙◌, ◌⊎◌, inl, inr, ⊎_elim, arith}
 use Rattle.std.proofs.lemmas.List.{length-replicate}
 use Rattle.std.proofs.lemmas.Bool.{cases_lt}
-use Rattle.march_core.specs.March.{MarchElement, IsMarch, all_ops}
-use Rattle.march_core.specs.Visits.{Direction, visits, directions_of}
-use Rattle.march_core.proofs.Consistent.{consistent_scan, last_after}
+use Rattle.march_core.specs.March.{MarchElement, IsMarch}
+use Rattle.march_core.specs.Visits.{Direction, directions_of}
 use Rattle.linked_faults.specs.declared.link.Link.{Link}
 use Rattle.linked_faults.specs.declared.link.Spots.{Spots}
 use Rattle.linked_faults.specs.declared.three.Three.{Three}
 use Rattle.linked_faults.specs.Linking.{FitsSpots}
 use Rattle.linked_faults.specs.Detection.{cells_behind, is_wrong_there, IsCaught, DetectsAt}
 use Rattle.linked_faults.specs.Escapes.{cells_of}
-use Rattle.linked_faults.specs.inner.Threes.{Trio, three_at, three_run}
+use Rattle.linked_faults.specs.inner.Threes.{Trio, three_at, machine_of, cells_in}
 use Rattle.linked_faults.specs.inner.Searching.{spots_at, LetsThrough}
-use Rattle.linked_faults.proofs.Passing.{run, march_visit}
-use Rattle.array_sim.proofs.RunsBy.{Shows, differs_where, right_where}
+use Rattle.linked_faults.proofs.Passing.{three_sees}
+use Rattle.linked_faults.proofs.Seats.{seat_at, seats_ordered}
+use Rattle.pair_tracker.specs.Few.{few_run}
+use Rattle.pair_tracker.proofs.Few.{march_passes, march_caught, march_through}
+use Rattle.pair_tracker.proofs.Through.{through_run, through_fits}
 use Rattle.linked_faults.proofs.Seen.{IsTrio, FitsThree, place_at, spots_from}
-use Rattle.linked_faults.proofs.Words.{through_fits}
 
-shown : (link : Link) (s : Spots) (t : Trio) (n : ℕ) → IsTrio t n → FitsThree s → (march : List MarchElement) (ds : List Direction) (content : List Bool) → IsMarch march → length content ≡ n
-    → Shows (three_at t) (three_run link s (three_at t content) march ds) (run link (spots_from t s) content (visits march ds (length content))) (λ c. length c ≡ n)
-shown link s t n is fits march ds content is_march size =
-    subst (λ k. Shows (three_at t) (three_run link s (three_at t content) march ds) (run link (spots_from t s) content (visits march ds k)) (λ c. length c ≡ n)) (sym size)
-    (march_visit link s t n is fits march ds 0 None (last_after None (all_ops march)) content (consistent_scan (all_ops march) is_march.consistent) size (λ y yn out bit h. cc))
+module _ (link : Link) (s : Spots) (t : Trio) (fits : FitsThree s) (march : List MarchElement) (is_march : IsMarch march) (ds : List Direction) (content : List Bool)
+    (is : IsTrio t (length content)) where
+  abbrev at : Spots
+  at = spots_from t s
 
--- no read differs exactly where the three cells get through
-pub passes_where : (link : Link) (s : Spots) (t : Trio) (n : ℕ) → IsTrio t n → FitsThree s → (march : List MarchElement) (ds : List Direction) (content : List Bool) → IsMarch march → length content ≡ n
-    → (q : Three) → three_run link s (three_at t content) march ds ≡ Some q → IsCaught march ds link (spots_from t s) content → ⊥
-passes_where link s t n is fits march ds content is_march size q e caught =
-    go (run link (spots_from t s) content (visits march ds (length content))) refl
-    (subst (λ r. Shows (three_at t) r (run link (spots_from t s) content (visits march ds (length content))) (λ c. length c ≡ n)) e (shown link s t n is fits march ds content is_march size))
-  where
-    go : (o : Option (List Bool)) → run link (spots_from t s) content (visits march ds (length content)) ≡ o → Shows (three_at t) (Some q) o (λ c. length c ≡ n) → ⊥
-    go None ends h = h
-    go (Some c) ends h = right_where (cells_behind link (spots_from t s)) (is_wrong_there link (spots_from t s)) content c (visits march ds (length content)) ends caught
+  abbrev n : ℕ
+  n = length content
 
-pub caught_where : (link : Link) (s : Spots) (t : Trio) (n : ℕ) → IsTrio t n → FitsThree s → (march : List MarchElement) (ds : List Direction) (content : List Bool) → IsMarch march → length content ≡ n
-    → three_run link s (three_at t content) march ds ≡ None → IsCaught march ds link (spots_from t s) content
-caught_where link s t n is fits march ds content is_march size e =
-    go (run link (spots_from t s) content (visits march ds (length content))) refl
-    (subst (λ r. Shows (three_at t) r (run link (spots_from t s) content (visits march ds (length content))) (λ c. length c ≡ n)) e (shown link s t n is fits march ds content is_march size))
-  where
-    go : (o : Option (List Bool)) → run link (spots_from t s) content (visits march ds (length content)) ≡ o → Shows (three_at t) None o (λ c. length c ≡ n)
-        → IsCaught march ds link (spots_from t s) content
-    go None ends h = differs_where (cells_behind link (spots_from t s)) (is_wrong_there link (spots_from t s)) content (visits march ds (length content)) ends
-    go (Some c) ends h = absurd h
+  -- no read differs exactly where the three cells get through
+  pub passes_where : (q : Three) → few_run (machine_of link s) cells_in (three_at t content) march ds ≡ Some q → IsCaught march ds link at content → ⊥
+  passes_where q e =
+      march_passes (cells_behind link at) (is_wrong_there link at) (λ cells. cells) (three_at t) (seat_at t) n (machine_of link s) (λ cells. length cells ≡ n) (Unit {0})
+      (three_sees link s t n is fits) cells_in (seats_ordered link s t n is) march is_march ds content refl tt q e
 
-pub through_unless : (link : Link) (s : Spots) (t : Trio) (n : ℕ) → IsTrio t n → FitsThree s → (march : List MarchElement) (ds : List Direction) (content : List Bool) → IsMarch march → length content ≡ n
-    → (IsCaught march ds link (spots_from t s) content → ⊥) → (q : Three) × (three_run link s (three_at t content) march ds ≡ Some q)
-through_unless link s t n is fits march ds content is_march size passes = go (three_run link s (three_at t content) march ds) refl
-  where
-    go : (r : Option Three) → three_run link s (three_at t content) march ds ≡ r → (q : Three) × (three_run link s (three_at t content) march ds ≡ Some q)
-    go None e = absurd (passes (caught_where link s t n is fits march ds content is_march size e))
-    go (Some q) e = (q, e)
+  pub caught_where : few_run (machine_of link s) cells_in (three_at t content) march ds ≡ None → IsCaught march ds link at content
+  caught_where e =
+      march_caught (cells_behind link at) (is_wrong_there link at) (λ cells. cells) (three_at t) (seat_at t) n (machine_of link s) (λ cells. length cells ≡ n) (Unit {0})
+      (three_sees link s t n is fits) cells_in (seats_ordered link s t n is) march is_march ds content refl e
+
+  pub through_unless : (IsCaught march ds link at content → ⊥) → (q : Three) × (few_run (machine_of link s) cells_in (three_at t content) march ds ≡ Some q)
+  through_unless passes =
+      march_through (cells_behind link at) (is_wrong_there link at) (λ cells. cells) (three_at t) (seat_at t) n (machine_of link s) (λ cells. length cells ≡ n) (Unit {0})
+      (three_sees link s t n is fits) cells_in (seats_ordered link s t n is) march is_march ds content refl tt passes
 
 -- the first three cells of an array
 abbrev pub firsts : Trio
@@ -88,14 +77,15 @@ pub passes_with : (march : List MarchElement) (link : Link) (s : Spots) (content
 passes_with march link s content rest word is_march fits through =
     let cells : List Bool = cells_of content ++ rest in
     subst (λ (at : Spots). IsCaught march (directions_of word (length march)) link at cells → ⊥) (spots_same s fits)
-    (passes_where link s firsts (length cells) (firsts_fit (length cells) (omega arith)) fits march (directions_of word (length march)) cells is_march refl through.end through.ends)
+    (passes_where link s firsts fits march is_march (directions_of word (length march)) cells (firsts_fit (length cells) (omega arith)) through.end
+    (through_run (machine_of link s) cells_in march content word through))
 
 -- so it is detected at no size
 pub detected_never : (march : List MarchElement) (link : Link) (s : Spots) (content : Three) (word : ℕ) → IsMarch march → FitsThree s
     → LetsThrough march link s content word → (size : ℕ) → 3 ≤ size → DetectsAt size march link → ⊥
 detected_never march link s content word is_march fits through size more detects =
     let rest : List Bool = replicate (size - 3) false in
-    let word_fits = through_fits link s march content word through in
+    let word_fits = through_fits (machine_of link s) cells_in march content word through in
     passes_with march link s content rest word is_march fits through
     (detects (directions_of word (length march)) s (cells_of content ++ rest) word_fits.allowed (fits_more s size more fits)
     (omega (arith, length-append (cells_of content) rest, length-replicate (size - 3) false, more)))

@@ -15,12 +15,16 @@ use Rattle.linked_faults.specs.declared.escape.LinkEscape.{LinkEscape}
 use Rattle.linked_faults.specs.Linking.{FitsSpots}
 use Rattle.linked_faults.specs.Detection.{IsCaught, Detects}
 use Rattle.linked_faults.specs.Escapes.{cells_of, has_other, spots_number, three_number, IsEscape, IsNoGreater, IsVerdict, IsVerdictAt}
-use Rattle.linked_faults.specs.inner.Threes.{three_at, three_run}
-use Rattle.linked_faults.specs.inner.Searching.{word_to, LetsThrough, choice, spots_in, NoneBefore, NoneIn, IsLeastIn, IsFirstFound}
+use Rattle.linked_faults.specs.inner.Threes.{three_at, machine_of, cells_in}
+use Rattle.pair_tracker.specs.Few.{few_run}
+use Rattle.pair_tracker.specs.Reached.{word_to}
+use Rattle.pair_tracker.specs.Tracking.{any_end}
+use Rattle.pair_tracker.proofs.Through.{least_whole, some_word, through_fits, through_within, run_through}
+use Rattle.linked_faults.specs.inner.Searching.{LetsThrough, choice, spots_in, NoneBefore, NoneIn, IsLeastIn, IsFirstFound}
 use Rattle.linked_faults.proofs.EverySize.{firsts, firsts_fit, spots_same, caught_where, through_unless, passes_with, detected_never, IsSorted, sorted}
-use Rattle.linked_faults.proofs.Numbers.{number_below, same_number, IsOrder, order_is, fits_placed, in_order}
-use Rattle.linked_faults.proofs.Seen.{FitsThree, spots_from}
-use Rattle.linked_faults.proofs.Words.{least_whole, some_word, through_fits, through_within, run_through}
+use Rattle.linked_faults.specs.inner.Numbers.{number_below, same_number}
+use Rattle.linked_faults.proofs.Numbers.{IsOrder, order_is, fits_placed, in_order}
+use Rattle.linked_faults.proofs.Seen.{FitsThree, IsTrio, spots_from}
 
 -- the places in their orders are three different cells
 fits_choice : (o : ℕ) → o < 6 → FitsThree (choice o)
@@ -37,16 +41,16 @@ fits_order link o h = fits_placed (has_aggressor link.first) (has_other link) (c
 
 -- where no array of three cells is let through, no three cells get through
 none_through : (march : List MarchElement) (link : Link) → IsMarch march → NoneIn march link 6
-    → (s : Spots) → FitsThree s → (q : Three) (ds : List Direction) → IsTrue (is_direction march ds) → three_run link s q march ds ≡ None
-none_through march link is none s fits q ds allowed = go (three_run link s q march ds) refl
+    → (s : Spots) → FitsThree s → (q : Three) (ds : List Direction) → IsTrue (is_direction march ds) → few_run (machine_of link s) cells_in q march ds ≡ None
+none_through march link is none s fits q ds allowed = go (few_run (machine_of link s) cells_in q march ds) refl
   where
     order : IsOrder link s
     order = order_is link s fits
 
-    go : (r : Option Three) → three_run link s q march ds ≡ r → three_run link s q march ds ≡ None
+    go : (r : Option Three) → few_run (machine_of link s) cells_in q march ds ≡ r → few_run (machine_of link s) cells_in q march ds ≡ None
     go None e = e
     go (Some z) e =
-        let through = some_word link s march q z ds is allowed e in
+        let through = some_word (machine_of link s) cells_in march q z ds is allowed e in
         absurd (none order.order order.within q (number_below q) through.0 (subst (λ (at : Spots). LetsThrough march link at q through.0) order.is through.1))
 
 -- so every size is detected
@@ -54,7 +58,7 @@ pub none_detects : (march : List MarchElement) (link : Link) → IsMarch march �
 none_detects march link is none n more ds at content allowed fits size =
     let order : IsSorted at n = sorted at n fits in
     subst (λ (s : Spots). IsCaught march ds link s content) order.is
-    (caught_where link order.spots order.trio n order.is_trio order.fits march ds content is size
+    (caught_where link order.spots order.trio order.fits march is ds content (subst (IsTrio order.trio) (sym size) order.is_trio)
     (none_through march link is none order.spots order.fits (three_at order.trio content) ds allowed))
 
 -- what is found is an escape
@@ -65,8 +69,8 @@ found_escape march link o e is within least =
     record {
       array = record {
         spots = subst (λ (at : Spots). FitsSpots at 3) (sym least.spots) (fits_order link o within);
-        is_word = through_within link (spots_in link o) march e.content e.directions is through;
-        directions = through_fits link (spots_in link o) march e.content e.directions through;
+        is_word = through_within (machine_of link (spots_in link o)) cells_in march e.content e.directions is through;
+        directions = through_fits (machine_of link (spots_in link o)) cells_in march e.content e.directions through;
       };
       passes =
           subst (λ (at : Spots). IsCaught march ds e.link at (cells_of e.content) → ⊥) (sym least.spots)
@@ -81,9 +85,9 @@ escape_through march link f is escape same =
     let ds : List Direction = directions_of f.directions (length march) in
     let passes : IsCaught march ds f.link (spots_from firsts f.spots) (cells_of f.content) → ⊥ =
     subst (λ (at : Spots). IsCaught march ds f.link at (cells_of f.content) → ⊥) (sym (spots_same f.spots escape.array.spots)) escape.passes in
-    let through = through_unless f.link f.spots firsts 3 (firsts_fit 3 (omega arith)) escape.array.spots march ds (cells_of f.content) is refl passes in
+    let through = through_unless f.link f.spots firsts escape.array.spots march is ds (cells_of f.content) (firsts_fit 3 (omega arith)) passes in
     subst (λ (l : Link). LetsThrough march l f.spots f.content f.directions) same
-    (run_through f.link f.spots march f.content through.0 f.directions is escape.array.is_word escape.array.directions through.1)
+    (run_through (machine_of f.link f.spots) cells_in march f.content through.0 f.directions is escape.array.is_word escape.array.directions through.1)
 
 -- no escape in the same places is less
 no_greater : (march : List MarchElement) (link : Link) (o : ℕ) (e f : LinkEscape) → IsLeastIn march link o e → f.link ≡ e.link
@@ -153,10 +157,10 @@ judged march link (Some e) is found =
 
 -- the search over the contents
 pub none_so_far : (march : List MarchElement) (link : Link) (o number : ℕ) (content : Three) → IsMarch march
-    → three_number content ≡ number → NoneBefore march link o number → word_to link (spots_in link o) march 0 content ≡ None → NoneBefore march link o (number + 1)
+    → three_number content ≡ number → NoneBefore march link o number → word_to any_end (machine_of link (spots_in link o)) cells_in march 0 (length march) content ≡ None → NoneBefore march link o (number + 1)
 none_so_far march link o number content is at before none c low word through =
     let nothing : IsLeastOf (LetsThrough march link (spots_in link o) content) None =
-    subst (IsLeastOf (LetsThrough march link (spots_in link o) content)) none (least_whole link (spots_in link o) march content is) in
+    subst (IsLeastOf (LetsThrough march link (spots_in link o) content)) none (least_whole (machine_of link (spots_in link o)) cells_in march content is) in
     ⊎_elim
     (λ (h : three_number c ≡ number).
     let same : c ≡ content = same_number c content (h ∙ sym at) in
@@ -168,11 +172,11 @@ none_so_far march link o number content is at before none c low word through =
     eq_or_lt m n h = eq-or-lt_of_le (omega arith)
 
 pub least_here : (march : List MarchElement) (link : Link) (o number : ℕ) (content : Three) (word : ℕ) (e : LinkEscape) → IsMarch march
-    → three_number content ≡ number → NoneBefore march link o number → word_to link (spots_in link o) march 0 content ≡ Some word
+    → three_number content ≡ number → NoneBefore march link o number → word_to any_end (machine_of link (spots_in link o)) cells_in march 0 (length march) content ≡ Some word
     → e.link ≡ link → e.spots ≡ spots_in link o → e.content ≡ content → e.directions ≡ word → IsLeastIn march link o e
 least_here march link o number content word e is at before found link_is places content_is word_is =
     let least : IsLeastOf (LetsThrough march link (spots_in link o) content) (Some word) =
-    subst (IsLeastOf (LetsThrough march link (spots_in link o) content)) found (least_whole link (spots_in link o) march content is) in
+    subst (IsLeastOf (LetsThrough march link (spots_in link o) content)) found (least_whole (machine_of link (spots_in link o)) cells_in march content is) in
     record {
       link_is = link_is;
       spots = places;

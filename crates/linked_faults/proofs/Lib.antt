@@ -1,5 +1,4 @@
 pub mod Numbers
-pub mod Words
 pub mod Seen
 pub mod Seats
 pub mod Passing

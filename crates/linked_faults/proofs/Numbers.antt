@@ -1,4 +1,4 @@
--- Three bits by their numbers, and the places of three cells in their order.
+-- The places of three cells in their order.
 use Rattle.std.proofs.Math.Nat.{eq-or-lt_of_le}
 use Rattle.std.proofs.Common.{◌≡◌, ◌<◌, ⊎_elim, subst, ℕ, zero, suc, ◌+◌, ◌*◌, Bool, true, false, get_or, List, [], ◌∷◌, refl, ap, sym, ◌∙◌, arith}
 use Rattle.linked_faults.specs.declared.link.Spots.{Spots}
@@ -8,39 +8,8 @@ use Rattle.linked_faults.specs.Linking.{FitsSpots}
 use Rattle.fault_core.specs.Primitive.{has_aggressor}
 use Rattle.linked_faults.specs.declared.link.Link.{Link}
 use Rattle.linked_faults.specs.Escapes.{three_number, number_by, has_other, spots_number, array_number}
+use Rattle.linked_faults.specs.inner.Numbers.{number_below, same_number}
 use Rattle.linked_faults.specs.inner.Searching.{spots_at, choice, placed, spots_in}
-
-abbrev three : Bool → Bool → Bool → Three
-three x y z = record { x = x; y = y; z = z }
-
-abbrev all_threes : List Three
-all_threes =
-    three false false false ∷ three false false true ∷ three false true false ∷ three false true true
-    ∷ three true false false ∷ three true false true ∷ three true true false ∷ three true true true ∷ []
-
-at_each : (P : Three → Type 0) → P (three false false false) → P (three false false true) → P (three false true false) → P (three false true true)
-    → P (three true false false) → P (three true false true) → P (three true true false) → P (three true true true) → (q : Three) → P q
-at_each P a b c d e f g h q = go q.x q.y q.z
-  where
-    go : (x y z : Bool) → P (three x y z)
-    go false false false = a
-    go false false true = b
-    go false true false = c
-    go false true true = d
-    go true false false = e
-    go true false true = f
-    go true true false = g
-    go true true true = h
-
-pub number_below : (q : Three) → three_number q < 8
-number_below q =
-    at_each (λ q. three_number q < 8) (omega arith) (omega arith) (omega arith) (omega arith) (omega arith) (omega arith) (omega arith) (omega arith) q
-
-at_number : (q d : Three) → get_or all_threes (three_number q) d ≡ q
-at_number q d = at_each (λ q. get_or all_threes (three_number q) d ≡ q) refl refl refl refl refl refl refl refl q
-
-pub same_number : (q r : Three) → three_number q ≡ three_number r → q ≡ r
-same_number q r e = sym (at_number q q) ∙ ap (λ k. get_or all_threes k q) e ∙ at_number r q
 
 abbrev plain_number : Spots → ℕ
 plain_number at = 9 * at.a + 3 * at.b + at.v

@@ -1,99 +1,87 @@
--- In which order a list of addresses visits three of them.
-use Rattle.std.proofs.Common.{◌≡◌, ◌≢◌, ◌+◌, ◌<◌, ◌≤◌, ℕ, zero, suc, Bool, true, false, cond, eqb, List, [], ◌∷◌, ◌++◌, reverse, refl, ap, sym, append-nil, ◌∙◌, ⊎_elim, arith}
-use Rattle.std.proofs.lemmas.List.{reverse-append}
-use Rattle.std.proofs.lemmas.Bool.{ne_eqb}
-use Rattle.std.proofs.lemmas.Bool.Decides.{eqb_tells}
-use Rattle.std.specs.List.{range_with_len}
+-- Which of the three cells an address is, and in which order an element visits them.
+use Rattle.std.proofs.Common.{◌≡◌, ◌≢◌, ◌<◌, ℕ, Bool, true, false, cond, eqb, Option, Some, None, List, [], ◌∷◌, map, refl, ap, subst, ◌∙◌, arith}
+use Rattle.std.proofs.lemmas.Bool.{eq-eqb, ne_eqb, eqb-true, eqb-false}
+use Rattle.march_core.specs.declared.operation.Op.{Op}
 use Rattle.march_core.specs.Visits.{Direction, Upward, Downward, addresses}
-use Rattle.linked_faults.specs.inner.Threes.{Trio, cells_in}
-use Rattle.linked_faults.proofs.Seen.{IsTrio}
+use Rattle.pair_tracker.specs.Few.{cells_run}
+use Rattle.pair_tracker.proofs.Tags.{kept_does, Own, Stand, addresses_kept, turned}
+use Rattle.linked_faults.specs.declared.link.Link.{Link}
+use Rattle.linked_faults.specs.declared.link.Spots.{Spots}
+use Rattle.linked_faults.specs.declared.three.Three.{Three}
+use Rattle.linked_faults.specs.declared.three.Seat.{Seat}
+use Rattle.linked_faults.specs.declared.three.Seat.TheVariants.{Low, Mid, High}
+use Rattle.linked_faults.specs.inner.Threes.{Trio, seat_index, machine_of, cells_in}
+use Rattle.linked_faults.proofs.Seen.{IsTrio, IsElsewhere, place_at}
 
-abbrev pub seat : Trio → ℕ → List ℕ → List ℕ
-seat t x rest = cond (eqb x t.low) (0 ∷ rest) (cond (eqb x t.mid) (1 ∷ rest) (cond (eqb x t.high) (2 ∷ rest) rest))
+abbrev pub seat_at : Trio → ℕ → Option Seat
+seat_at t x = cond (eqb x t.low) (Some Low) (cond (eqb x t.mid) (Some Mid) (cond (eqb x t.high) (Some High) None))
 
--- which of the three cells each address is
-abbrev pub seats_of : Trio → List ℕ → List ℕ
-seats_of t [] = []
-seats_of t (x ∷ xs) = seat t x (seats_of t xs)
+abbrev Says : Trio → ℕ → Option Seat → Type 0
+Says t x None = IsElsewhere t x
+Says t x (Some i) = x ≡ place_at t (seat_index i)
 
-pub not_seat : (t : Trio) (x : ℕ) (rest : List ℕ) → x ≢ t.low → x ≢ t.mid → x ≢ t.high → seat t x rest ≡ rest
-not_seat t x rest a b c = rw (ne_eqb x t.low a, ne_eqb x t.mid b, ne_eqb x t.high c) refl
-
-none_left : (t : Trio) (n : ℕ) → IsTrio t n → (k m : ℕ) → t.high < k → seats_of t (range_with_len k m) ≡ []
-none_left t n is k zero h = refl
-none_left t n is k (suc m) h =
-    let f : t.low < t.mid = is.first in
-    let g : t.mid < t.high = is.second in
-    let a : k ≢ t.low = omega arith in
-    let b : k ≢ t.mid = omega arith in
-    let c : k ≢ t.high = omega arith in
-    not_seat t k (seats_of t (range_with_len (k + 1) m)) a b c ∙ none_left t n is (k + 1) m (omega arith)
-
-high_left : (t : Trio) (n : ℕ) → IsTrio t n → (k m : ℕ) → t.mid < k → k ≤ t.high → t.high < k + m → seats_of t (range_with_len k m) ≡ 2 ∷ []
-high_left t n is k zero low h top = absurd (omega arith)
-high_left t n is k (suc m) low h top =
-    let f : t.low < t.mid = is.first in
-    let a : k ≢ t.low = omega arith in
-    let b : k ≢ t.mid = omega arith in
-    rw (ne_eqb k t.low a, ne_eqb k t.mid b)
-    (⊎_elim
-    (λ (e : (eqb k t.high ≡ true) × (k ≡ t.high)). let s : k ≡ t.high = e.1 in rw e.0 (ap (λ l. 2 ∷ l) (none_left t n is (k + 1) m (omega arith))))
-    (λ (e : (eqb k t.high ≡ false) × (k ≢ t.high)). let s : k ≢ t.high = e.1 in rw e.0 (high_left t n is (k + 1) m (omega arith) (omega arith) (omega arith)))
-    (eqb_tells k t.high))
-
-two_left : (t : Trio) (n : ℕ) → IsTrio t n → (k m : ℕ) → t.low < k → k ≤ t.mid → t.high < k + m → seats_of t (range_with_len k m) ≡ 1 ∷ 2 ∷ []
-two_left t n is k zero low h top = absurd (let g : t.mid < t.high = is.second in omega arith)
-two_left t n is k (suc m) low h top =
-    let g : t.mid < t.high = is.second in
-    let a : k ≢ t.low = omega arith in
-    rw (ne_eqb k t.low a)
-    (⊎_elim
-    (λ (e : (eqb k t.mid ≡ true) × (k ≡ t.mid)). let s : k ≡ t.mid = e.1 in rw e.0 (ap (λ l. 1 ∷ l) (high_left t n is (k + 1) m (omega arith) (omega arith) (omega arith))))
-    (λ (e : (eqb k t.mid ≡ false) × (k ≢ t.mid)).
-    let s : k ≢ t.mid = e.1 in
-    let c : k ≢ t.high = omega arith in
-    rw (e.0, ne_eqb k t.high c) (two_left t n is (k + 1) m (omega arith) (omega arith) (omega arith)))
-    (eqb_tells k t.mid))
-
-all_left : (t : Trio) (n : ℕ) → IsTrio t n → (k m : ℕ) → k ≤ t.low → t.high < k + m → seats_of t (range_with_len k m) ≡ 0 ∷ 1 ∷ 2 ∷ []
-all_left t n is k zero h top = absurd (let f : t.low < t.mid = is.first in let g : t.mid < t.high = is.second in omega arith)
-all_left t n is k (suc m) h top =
-    let f : t.low < t.mid = is.first in
-    let g : t.mid < t.high = is.second in
-    ⊎_elim
-    (λ (e : (eqb k t.low ≡ true) × (k ≡ t.low)). let s : k ≡ t.low = e.1 in rw e.0 (ap (λ l. 0 ∷ l) (two_left t n is (k + 1) m (omega arith) (omega arith) (omega arith))))
-    (λ (e : (eqb k t.low ≡ false) × (k ≢ t.low)).
-    let s : k ≢ t.low = e.1 in
-    let b : k ≢ t.mid = omega arith in
-    let c : k ≢ t.high = omega arith in
-    rw (e.0, ne_eqb k t.mid b, ne_eqb k t.high c) (all_left t n is (k + 1) m (omega arith) (omega arith)))
-    (eqb_tells k t.low)
-
-seats-append : (t : Trio) (xs ys : List ℕ) → seats_of t (xs ++ ys) ≡ seats_of t xs ++ seats_of t ys
-seats-append t [] ys = refl
-seats-append t (x ∷ xs) ys = go (eqb x t.low) (eqb x t.mid) (eqb x t.high) (seats_of t xs) (seats_of t (xs ++ ys)) (seats-append t xs ys)
+says : (t : Trio) (x : ℕ) → Says t x (seat_at t x)
+says t x = go (eqb x t.low) (eqb x t.mid) (eqb x t.high) refl refl refl
   where
-    go : (p q r : Bool) (one both : List ℕ) → both ≡ one ++ seats_of t ys
-        → cond p (0 ∷ both) (cond q (1 ∷ both) (cond r (2 ∷ both) both)) ≡ cond p (0 ∷ one) (cond q (1 ∷ one) (cond r (2 ∷ one) one)) ++ seats_of t ys
-    go true q r one both e = ap (λ l. 0 ∷ l) e
-    go false true r one both e = ap (λ l. 1 ∷ l) e
-    go false false true one both e = ap (λ l. 2 ∷ l) e
-    go false false false one both e = e
+    go : (p q r : Bool) → eqb x t.low ≡ p → eqb x t.mid ≡ q → eqb x t.high ≡ r → Says t x (cond p (Some Low) (cond q (Some Mid) (cond r (Some High) None)))
+    go true q r e f g = eqb-true x t.low e
+    go false true r e f g = eqb-true x t.mid f
+    go false false true e f g = eqb-true x t.high g
+    go false false false e f g = record { not_low = eqb-false x t.low e; not_mid = eqb-false x t.mid f; not_high = eqb-false x t.high g }
 
-seats-reverse : (t : Trio) (xs : List ℕ) → seats_of t (reverse xs) ≡ reverse (seats_of t xs)
-seats-reverse t [] = refl
-seats-reverse t (x ∷ xs) =
-    ap (seats_of t) (reverse-append (x ∷ []) xs) ∙ seats-append t (reverse xs) (x ∷ []) ∙ ap (λ l. l ++ seats_of t (x ∷ [])) (seats-reverse t xs)
-    ∙ go (eqb x t.low) (eqb x t.mid) (eqb x t.high) (seats_of t xs)
+pub is_seat : (t : Trio) (x : ℕ) (i : Seat) → seat_at t x ≡ Some i → x ≡ place_at t (seat_index i)
+is_seat t x i e = subst (Says t x) e (says t x)
+
+pub no_seat : (t : Trio) (x : ℕ) → seat_at t x ≡ None → IsElsewhere t x
+no_seat t x e = subst (Says t x) e (says t x)
+
+pub seat_within : (i : Seat) → seat_index i < 3
+seat_within Low = omega arith
+seat_within Mid = omega arith
+seat_within High = omega arith
+
+not_seat : (t : Trio) (x : ℕ) → x ≢ t.low → x ≢ t.mid → x ≢ t.high → seat_at t x ≡ None
+not_seat t x a b c = rw (ne_eqb x t.low a, ne_eqb x t.mid b, ne_eqb x t.high c) refl
+
+abbrev owns : Trio → List (Own Seat)
+owns t = (record { place = t.low; name = Low }) ∷ (record { place = t.mid; name = Mid }) ∷ (record { place = t.high; name = High }) ∷ []
+
+pub seats_ordered : (link : Link) (s : Spots) (t : Trio) (n : ℕ) → IsTrio t n → (d : Direction) (q : Three) (ops : List Op)
+    → cells_run (machine_of link s) q (map (seat_at t) (addresses d n)) ops ≡ cells_run (machine_of link s) q (cells_in d) ops
+seats_ordered link s t n is d q ops =
+    kept_does (machine_of link s) (λ q. refl) q (map (seat_at t) (addresses d n)) ops
+    ∙ ap (λ ts. cells_run (machine_of link s) q ts ops) (addresses_kept (seat_at t) (owns t) n stand d ∙ either d)
   where
-    go : (p q r : Bool) (one : List ℕ)
-        → reverse one ++ cond p (0 ∷ []) (cond q (1 ∷ []) (cond r (2 ∷ []) [])) ≡ reverse (cond p (0 ∷ one) (cond q (1 ∷ one) (cond r (2 ∷ one) one)))
-    go true q r one = sym (reverse-append (0 ∷ []) one)
-    go false true r one = sym (reverse-append (1 ∷ []) one)
-    go false false true one = sym (reverse-append (2 ∷ []) one)
-    go false false false one = append-nil (reverse one)
+    f : t.low < t.mid
+    f = is.first
 
-pub addresses_seats : (t : Trio) (n : ℕ) (d : Direction) → IsTrio t n → seats_of t (addresses d n) ≡ cells_in d
-unfolding addresses
-addresses_seats t n Upward is = all_left t n is 0 n (omega arith) (let w : t.high < n = is.within in omega arith)
-addresses_seats t n Downward is = seats-reverse t (range_with_len 0 n) ∙ ap reverse (all_left t n is 0 n (omega arith) (let w : t.high < n = is.within in omega arith))
+    g : t.mid < t.high
+    g = is.second
+
+    w : t.high < n
+    w = is.within
+
+    stand : Stand (seat_at t) 0 n (owns t)
+    stand = (
+      omega (arith, f, g, w),
+      omega (arith, f, g, w),
+      λ x low high. not_seat t x (omega (arith, f, g, low, high)) (omega (arith, f, g, low, high)) (omega (arith, f, g, low, high)),
+      ap (λ b. cond b (Some Low) (cond (eqb t.low t.mid) (Some Mid) (cond (eqb t.low t.high) (Some High) None))) (eq-eqb t.low t.low refl),
+      (
+        omega (arith, f, g, w),
+        omega (arith, f, g, w),
+        λ x low high. not_seat t x (omega (arith, f, g, low, high)) (omega (arith, f, g, low, high)) (omega (arith, f, g, low, high)),
+        rw (ne_eqb t.mid t.low (omega (arith, f)), eq-eqb t.mid t.mid refl) refl,
+        (
+          omega (arith, f, g, w),
+          omega (arith, f, g, w),
+          λ x low high. not_seat t x (omega (arith, f, g, low, high)) (omega (arith, f, g, low, high)) (omega (arith, f, g, low, high)),
+          rw (ne_eqb t.high t.low (omega (arith, f, g)), ne_eqb t.high t.mid (omega (arith, g)), eq-eqb t.high t.high refl) refl,
+          λ x low high. not_seat t x (omega (arith, f, g, low, high)) (omega (arith, f, g, low, high)) (omega (arith, f, g, low, high)),
+        ),
+      ),
+    )
+
+    either : (d : Direction) → turned d (Some Low ∷ Some Mid ∷ Some High ∷ []) ≡ cells_in d
+    either Upward = refl
+    either Downward = refl

@@ -1,3 +1,4 @@
 pub mod Threes
 pub mod Searching
 pub mod Testing
+pub mod Numbers

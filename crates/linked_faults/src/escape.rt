@@ -6,10 +6,9 @@ ghost use Rattle.linked_faults.specs.Escapes.{three_number, IsVerdict, IsVerdict
 ghost use Rattle.linked_faults.specs.inner.Searching.{choice, placed, spots_in, NoneBefore, NoneIn, IsLeastIn, IsFirstFound};
 
 use crate::link::{Link, Spots};
-use crate::search::{Search, word_from};
-use crate::three::Three;
+use crate::three::{Cells, Three};
 use march_core::March;
-use pair_tracker::DeadEnds;
+use pair_tracker::{DeadEnds, word_through};
 
 /// An array of three cells with a linked fault, its content, and a direction word.
 #[derive(Clone, Copy)]
@@ -55,11 +54,11 @@ fn least_in(march: &March, link: &Link, order: u8) -> Option<LinkEscape>
 {
     march.known();
     let spots = spots_in(link, order);
-    let search = Search { march, link, spots };
+    let cells = Cells { link, spots };
     let mut dead_ends = DeadEnds::unknown();
     for number in 0..8 {
         let content = content_of(number);
-        if let Some(directions) = word_from(&search, &mut dead_ends, 0, Some(content)) {
+        if let Some(directions) = word_through(&cells, march, &mut dead_ends, content) {
             return Some(LinkEscape {
                 link: *link,
                 spots,

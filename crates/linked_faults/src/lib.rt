@@ -18,7 +18,6 @@
 mod escape;
 mod link;
 mod linked;
-mod search;
 mod table;
 mod three;
 

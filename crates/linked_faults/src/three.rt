@@ -1,16 +1,15 @@
-//! Three cells of an array of three, through the elements of a march.
+//! Three cells of an array of three.
 
-ghost use Rattle.std.specs.Prelude.{◌≡◌, ◌<◌, ◌∷◌, [], length};
-ghost use Rattle.march_core.specs.Addresses.{direction_of};
-ghost use Rattle.march_core.specs.March.{element_at};
+ghost use Rattle.std.specs.Prelude.{◌≡◌, ◌<◌};
 ghost use Rattle.linked_faults.specs.Linking.{FitsSpots};
-ghost use Rattle.linked_faults.specs.inner.Threes.{step_three, answer_three, pause_three, ops_run, cells_run, cells_in, end_of};
+ghost use Rattle.linked_faults.specs.inner.Threes.{step_three, answer_three, pause_three, seat_index, machine_of, cells_in};
+ghost use Rattle.linked_faults.specs.Escapes.{three_number};
+ghost use Rattle.linked_faults.specs.inner.Numbers.{same_number, number_below};
+ghost use Rattle.pair_tracker.specs.Tracking.{any_end};
 
 use crate::link::{Link, Spots, act_on, pause_on};
-use array_sim::act_of;
 use fault_core::Act;
-use march_core::{March, Op, is_wrong};
-use pair_tracker::does_allow;
+use pair_tracker::FewCells;
 
 /// The bits of cells 0, 1 and 2.
 #[derive(Clone, Copy, PartialEq, Eq)]
@@ -20,15 +19,33 @@ pub struct Three {
     pub z: bool,
 }
 
+/// One of the three cells, in the order of their addresses.
+#[derive(Clone, Copy)]
+pub(crate) enum Seat {
+    Low,
+    Mid,
+    High,
+}
+
+fn index_of(seat: Seat) -> usize
+    ensures index { result ≡ seat_index seat }
+    ensures within { result < 3 }
+{
+    match seat {
+        Seat::Low => 0,
+        Seat::Mid => 1,
+        Seat::High => 2,
+    }
+}
+
 /// An act on one of the three cells. The second part is the answer of a read.
-fn step(link: &Link, spots: Spots, start: Three, at: usize, act: Act) -> (Three, Option<bool>)
-    requires spots { FitsSpots spots 3 }
-    requires within { at < 3 }
-    ensures cells { result.0 ≡ step_three link.now spots start at act }
-    ensures answer { result.1 ≡ answer_three link.now spots start at act }
+fn step(link: &Link, spots: Spots, start: Three, on: Seat, act: Act) -> (Three, Option<bool>)
+    requires { FitsSpots spots 3 }
+    ensures cells { result.0 ≡ step_three link.now spots start (seat_index on) act }
+    ensures answer { result.1 ≡ answer_three link.now spots start (seat_index on) act }
 {
     let mut cells = [start.x, start.y, start.z];
-    let answer = act_on(link, spots, &mut cells, at, act);
+    let answer = act_on(link, spots, &mut cells, index_of(on), act);
     let next = Three {
         x: cells[0],
         y: cells[1],
@@ -50,77 +67,53 @@ fn pause(link: &Link, spots: Spots, start: Three) -> Three
     }
 }
 
-/// The three cells after these operations on one of them, unless a read differs.
-fn run_ops(link: &Link, spots: Spots, start: Three, at: usize, ops: &[Op]) -> Option<Three>
-    requires spots { FitsSpots spots 3 }
-    requires within { at < 3 }
-    ensures { result ≡ ops_run link.now spots start at ops.now }
-{
-    let mut cells = start;
-    for op in ops {
-        let (next, answer) = step(link, spots, cells, at, act_of(*op));
-        if is_wrong(*op, answer) {
-            return None;
-        }
-        cells = next;
-    }
-    Some(cells)
+/// The three cells of a linked fault in these places.
+#[derive(Drop)]
+pub(crate) struct Cells<'a> {
+    pub(crate) link: &'a Link,
+    pub(crate) spots: Spots,
 }
 
-/// The three cells after these operations on each of them, unless a read differs.
-fn run_cells(
-    link: &Link,
-    spots: Spots,
-    start: Three,
-    first: usize,
-    last: usize,
-    ops: &[Op],
-) -> Option<Three>
-    requires spots { FitsSpots spots 3 }
-    requires first { first < 3 }
-    requires last { last < 3 }
-    ensures { result ≡ cells_run link.now spots start (first ∷ 1 ∷ last ∷ []) ops.now }
-{
-    let one = run_ops(link, spots, start, first, ops)?;
-    let two = run_ops(link, spots, one, 1, ops)?;
-    run_ops(link, spots, two, last, ops)
-}
+const UPWARD: [Seat; 3] = [Seat::Low, Seat::Mid, Seat::High];
 
-/// The three cells after these operations in a direction.
-fn run_sweep(link: &Link, spots: Spots, ops: &[Op], start: Three, is_down: bool) -> Option<Three>
-    requires { FitsSpots spots 3 }
-    ensures { result ≡ cells_run link.now spots start (cells_in (direction_of is_down)) ops.now }
-{
-    if is_down {
-        run_cells(link, spots, start, 2, 0, ops)
-    } else {
-        run_cells(link, spots, start, 0, 2, ops)
-    }
-}
+const DOWNWARD: [Seat; 3] = [Seat::High, Seat::Mid, Seat::Low];
 
-/// Where an element of a march leads in a direction. None where its order doesn't leave the direction open, or
-/// where a read differs. A pause has no direction of its own and counts as upward.
-pub(crate) fn end_of(
-    link: &Link,
-    spots: Spots,
-    march: &March,
-    i: usize,
-    start: Three,
-    is_down: bool,
-) -> Option<Three>
-    requires spots { FitsSpots spots 3 }
-    requires there { i < length march.now }
-    ensures { result ≡ end_of link.now spots (element_at march.now i) start (direction_of is_down) }
-{
-    if march.is_pause(i) {
-        return if is_down {
-            None
-        } else {
-            Some(pause(link, spots, start))
-        };
+impl FewCells for Cells<'_> {
+    type State = Three;
+
+    type Cell = Seat;
+
+    ghost Fits = { λ s. FitsSpots s.spots 3 };
+
+    ghost machine = { λ s. machine_of s.link.now s.spots };
+
+    ghost order = { λ s. cells_in };
+
+    ghost wanted = { λ s. any_end };
+
+    ghost number = { three_number };
+
+    fn act(&self, start: Three, on: Seat, act: Act) -> (Three, Option<bool>) {
+        step(self.link, self.spots, start, on, act)
     }
-    if !does_allow(march.order(i), is_down) {
-        return None;
+
+    fn pause(&self, start: Three) -> Three {
+        pause(self.link, self.spots, start)
     }
-    run_sweep(link, spots, march.ops(i), start, is_down)
+
+    fn cells(&self, is_down: bool) -> &[Seat] {
+        if is_down { &DOWNWARD } else { &UPWARD }
+    }
+
+    fn is_wanted(&self, _end: Three) -> bool {
+        true
+    }
+
+    fn number(&self, cells: Three) -> usize {
+        4 * usize::from(cells.x) + 2 * usize::from(cells.y) + usize::from(cells.z)
+    }
+
+    ghost tells = { same_number };
+
+    ghost few = { number_below };
 }

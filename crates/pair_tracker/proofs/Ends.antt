@@ -9,13 +9,13 @@ use Rattle.cell_machine.specs.Pairs.{pair_of, pair_close}
 use Rattle.pair_tracker.specs.declared.placement.Placement.{Placement}
 use Rattle.pair_tracker.specs.declared.placement.Survivor.{Survivor}
 use Rattle.pair_tracker.specs.Legs.{IsLeg, AreLegEnds, SumsUp}
-use Rattle.pair_tracker.specs.Pairs.{machine_of}
+use Rattle.pair_tracker.specs.Pairs.{machine_of, sides_in}
 use Rattle.pair_tracker.specs.Placements.{pair_in}
 use Rattle.pair_tracker.specs.Survivors.{Survives, IsEnd, AreEnds, AreSurvivors, pair_number, IsLeastOf, LetsThrough, IsLeastWord}
 use Rattle.pair_tracker.specs.Tracking.{Leads, LeadsTo, is_below}
 use Rattle.pair_tracker.specs.Reached.{is_wanted, word_to, all_pairs, with_word, words_from, ends_by, rows_of, IsSpan}
 use Rattle.pair_tracker.proofs.LeastWords.{least_words, least_same}
-use Rattle.pair_tracker.proofs.Numbers.{at_each_pair}
+use Rattle.pair_tracker.specs.inner.Numbers.{at_each_pair}
 use Rattle.pair_tracker.proofs.Passing.{leg_leads, leads_leg, survives_leg, leg_survives}
 use Rattle.pair_tracker.proofs.Found.{each_found, found_there, found_ordered}
 
@@ -66,12 +66,12 @@ pub ends_are : (march : List MarchElement) (p : Primitive) (placement : Placemen
     → AreLegEnds march p placement i j start (ends_by march p placement i j start)
 ends_are march p placement i j is start =
     are_ends (λ final word. IsLeg march p placement i j start final word) (words_from march p placement i j start)
-    (λ q. least_same (LeadsTo (is_wanted (Some q)) (machine_of p) (is_below placement) march i j start) (IsLeg march p placement i j start q)
+    (λ q. least_same (LeadsTo (is_wanted (Some q)) (machine_of p) (sides_in (is_below placement)) march i j start) (IsLeg march p placement i j start q)
     (λ w to. leads_leg p placement march i j start q w is.fits is.is_march is.ordered is.within
-    (subst (λ r. Leads (machine_of p) (is_below placement) march i j start r w) (same_pair q to.end to.is_wanted) to.leads))
+    (subst (λ r. Leads (machine_of p) (sides_in (is_below placement)) march i j start r w) (same_pair q to.end to.is_wanted) to.leads))
     (λ w leg. record { end = q; is_wanted = wants_itself q; leads = leg_leads p placement march i j start q w is.fits is.is_march is.ordered is.within leg })
     (words_from march p placement i j start q)
-    (least_words (is_wanted (Some q)) (machine_of p) (is_below placement) march i j start is.ordered is.within is.is_march.elements_within))
+    (least_words (is_wanted (Some q)) (machine_of p) (sides_in (is_below placement)) march i j start is.ordered is.within is.is_march.elements_within))
 
 pub row_there : (march : List MarchElement) (p : Primitive) (placement : Placement) (i j : ℕ) (start : Pair)
     → get_or (rows_of march p placement i j) (pair_number start) [] ≡ ends_by march p placement i j start
@@ -109,13 +109,13 @@ whole_survivors march p placement i j content found first last is size are =
 -- the least word to any end is the least in which the content is let through
 pub least_through : (march : List MarchElement) (p : Primitive) (placement : Placement) (i j : ℕ) (content : List Bool) (word : Option ℕ)
     → i ≡ 0 → j ≡ length march → IsSpan march p placement i j → length content ≡ 2
-    → word ≡ word_to (is_wanted None) (machine_of p) (is_below placement) march i j (pair_close p (pair_in placement content))
+    → word ≡ word_to (is_wanted None) (machine_of p) (sides_in (is_below placement)) march i j (pair_close p (pair_in placement content))
     → IsLeastWord march p placement content word
 least_through march p placement i j content word first last is size e =
     let n : ℕ = length march in
     let start : Pair = pair_close p (pair_in placement content) in
     let whole : IsSpan march p placement 0 n = whole_span march p placement i j first last is in
-    least_same (LeadsTo (is_wanted None) (machine_of p) (is_below placement) march 0 n start) (λ w. LetsThrough march p placement content w)
+    least_same (LeadsTo (is_wanted None) (machine_of p) (sides_in (is_below placement)) march 0 n start) (λ w. LetsThrough march p placement content w)
     (λ w to. (
       to.end,
       leg_survives p placement march content w to.end is.fits size
@@ -127,7 +127,7 @@ least_through march p placement i j content word first last is size e =
       leads = leg_leads p placement march 0 n start through.0 w is.fits is.is_march whole.ordered whole.within
           (survives_leg p placement march content w through.0 is.fits size through.1);
     }) word
-    (subst (IsLeastOf (LeadsTo (is_wanted None) (machine_of p) (is_below placement) march 0 n start))
-    (sym (e ∙ ap (λ k. word_to (is_wanted None) (machine_of p) (is_below placement) march k j start) first
-    ∙ ap (λ k. word_to (is_wanted None) (machine_of p) (is_below placement) march 0 k start) last))
-    (least_words (is_wanted None) (machine_of p) (is_below placement) march 0 n start whole.ordered whole.within is.is_march.elements_within))
+    (subst (IsLeastOf (LeadsTo (is_wanted None) (machine_of p) (sides_in (is_below placement)) march 0 n start))
+    (sym (e ∙ ap (λ k. word_to (is_wanted None) (machine_of p) (sides_in (is_below placement)) march k j start) first
+    ∙ ap (λ k. word_to (is_wanted None) (machine_of p) (sides_in (is_below placement)) march 0 k start) last))
+    (least_words (is_wanted None) (machine_of p) (sides_in (is_below placement)) march 0 n start whole.ordered whole.within is.is_march.elements_within))

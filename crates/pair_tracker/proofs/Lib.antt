@@ -1,12 +1,13 @@
 pub mod Words
 pub mod Sides
-pub mod Projection
+pub mod Tags
+pub mod Few
 pub mod Machines
 pub mod Reaching
 pub mod Wording
 pub mod WordSteps
 pub mod LeastWords
-pub mod Numbers
 pub mod Passing
 pub mod Found
 pub mod Ends
+pub mod Through

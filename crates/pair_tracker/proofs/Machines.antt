@@ -15,7 +15,17 @@ use Rattle.cell_machine.specs.inner.Seen.{SeesPair}
 use Rattle.cell_machine.proofs.Projection.{length-plain_cells, length-set_if, length-step_cells, states_hold-seen, pair_at-close_of, acts-elsewhere, pair_at-step_victim, pair_at-step_aggressor, step_answer-victim, step_answer-aggressor, step_answer-elsewhere, cell-step_cells_other, cell-plain_cells_other, pair_at-pause_cells, length-pause_cells, cell-pause_cells_other}
 use Rattle.cell_machine.proofs.Closing.{left_state, pair_close-closed}
 pub use Rattle.pair_tracker.specs.Pairs.{machine_of}
-use Rattle.pair_tracker.proofs.Projection.{Laws, same_pair}
+use Rattle.march_core.specs.Operation.{is_wrong_of}
+use Rattle.march_core.specs.Visits.{MarchStep, pausing, visiting}
+use Rattle.array_sim.specs.Differing.{after_step, is_wrong_at}
+use Rattle.array_sim.specs.Run.{act_of}
+use Rattle.pair_tracker.proofs.Few.{Sees}
+use Rattle.pair_tracker.proofs.Tags.{side_at, side_is, no_side}
+
+pub same_pair : (a v : ℕ) (c d : List Bool) → cell c a ≡ cell d a → cell c v ≡ cell d v → pair_at c a v ≡ pair_at d a v
+same_pair a v c d ea ev =
+    let make : Bool → Bool → Pair = λ x y. record { a = x; v = y } in
+    ap (λ x. make x (cell c v)) ea ∙ ap (make (cell d a)) ev
 
 -- the array is closed, as its two cells show
 abbrev pub ShowsClosed : Primitive → ℕ → ℕ → List Bool → Type 0
@@ -84,36 +94,56 @@ own_others : (p : Primitive) (at : Places) (a : ℕ) (s : Side) (cells : List Bo
 own_others p at a A cells act y ya yv = cell-step_cells_other p at cells a act y yv ∙ cell-plain_cells_other cells a act y ya
 own_others p at a V cells act y ya yv = cell-step_cells_other p at cells at.vic act y yv ∙ cell-plain_cells_other cells at.vic act y yv
 
-pub laws_hold : (p : Primitive) (at : Places) (a n : ℕ) → IsPrimitive p → SeesPair p at a n → Laws p at a at.vic n (machine_of p) (ShowsClosed p a at.vic)
-laws_hold p at a n is sees = record {
-  own_answer = λ s cells act within size. own_answers p at a n sees s cells act;
-  own_pair = λ s cells act within size. own_pairs p at a n sees s cells act within size;
-  own_others = λ s cells act y ya yv. own_others p at a s cells act y ya yv;
-  same_length = λ cells x act. length-step_cells p at cells x act;
-  closes = λ cells x act size. closes_all p at a n cells x act is sees size;
-  other_answer = λ cells x act xa xv. step_answer-elsewhere p at a n cells x act sees xa xv;
-  other_cells = λ cells x act within xa xv closed. plain_elsewhere p at a n cells x act is sees xa xv closed;
-  pause_pair = λ cells size. pair_at-pause_cells p at a cells (resized p at a n (length cells) size sees);
-  pause_others = λ cells y ya yv. cell-pause_cells_other p at cells y yv;
-  pause_length = λ cells. length-pause_cells p at cells;
-  pause_closes = λ cells size. pause_closes_all p at a n cells is sees size;
-}
+-- how an array of n cells looks from two of them, where what closing makes of them is known
+module _ (p : Primitive) (at : Places) (a n : ℕ) (sees : SeesPair p at a n) (Closed : List Bool → Type 0)
+    (closes : (cells : List Bool) (x : ℕ) (act : Act) → length cells ≡ n → Closed (step_cells p at cells x act))
+    (pauses : (cells : List Bool) → length cells ≡ n → Closed (pause_cells p at cells))
+    (plain : (cells : List Bool) (x : ℕ) (act : Act) → x < n → x ≢ a → x ≢ at.vic → Closed cells → step_cells p at cells x act ≡ plain_cells cells x act) where
+  abbrev Held : List Bool → Type 0
+  Held cells = (length cells ≡ n) × Closed cells
+
+  keeps : (cells : List Bool) (step : MarchStep) → Held cells → Held (after_step p at cells step)
+  keeps cells (pausing e) h = (length-pause_cells p at cells ∙ h.0, pauses cells h.0)
+  keeps cells (visiting v) h = (length-step_cells p at cells v.address (act_of v.op) ∙ h.0, closes cells v.address (act_of v.op) h.0)
+
+  pub pair_sees : Sees (after_step p at) (is_wrong_at p at) (λ cells. cells) (λ cells. pair_at cells a at.vic) (side_at a at.vic) n (machine_of p) Held (Unit {0})
+  pair_sees = record {
+    size = λ strict cells h. h.0;
+    holds = keeps;
+    own_wrong = λ cells v s e within h.
+        ap (is_wrong_of v.op) (ap (λ x. step_answer p at cells x (act_of v.op)) (side_is a at.vic v.address s e) ∙ own_answers p at a n sees s cells (act_of v.op));
+    own_seen = λ cells v s e within h.
+        let is : v.address ≡ place_of a at.vic s = side_is a at.vic v.address s e in
+        ap (λ x. pair_at (step_cells p at cells x (act_of v.op)) a at.vic) is ∙ own_pairs p at a n sees s cells (act_of v.op) (subst (λ x. x < n) is within) h.0;
+    own_leaves = λ strict cells v s y e out h.
+        let off = no_side a at.vic y out in
+        ap (λ x. cell (step_cells p at cells x (act_of v.op)) y) (side_is a at.vic v.address s e) ∙ own_others p at a s cells (act_of v.op) y off.0 off.1;
+    other_wrong = λ strict cells v out within h.
+        let off = no_side a at.vic v.address out in ap (is_wrong_of v.op) (step_answer-elsewhere p at a n cells v.address (act_of v.op) sees off.0 off.1);
+    other_seen = λ cells v out within h.
+        let off = no_side a at.vic v.address out in
+        ap (λ l. pair_at l a at.vic) (plain cells v.address (act_of v.op) within off.0 off.1 h.1)
+        ∙ same_pair a at.vic (plain_cells cells v.address (act_of v.op)) cells (cell-plain_cells_other cells v.address (act_of v.op) a (λ e. off.0 (sym e)))
+        (cell-plain_cells_other cells v.address (act_of v.op) at.vic (λ e. off.1 (sym e)));
+    other_cells = λ strict cells v out within h. let off = no_side a at.vic v.address out in plain cells v.address (act_of v.op) within off.0 off.1 h.1;
+    other_twice = λ q. refl;
+    pause_seen = λ cells e h. pair_at-pause_cells p at a cells (resized p at a n (length cells) h.0 sees);
+    pause_leaves = λ strict cells e y out h. cell-pause_cells_other p at cells y (no_side a at.vic y out).1;
+  }
+
+-- the array is closed
+pub array_sees : (p : Primitive) (at : Places) (a n : ℕ) → IsPrimitive p → SeesPair p at a n
+    → Sees (after_step p at) (is_wrong_at p at) (λ cells. cells) (λ cells. pair_at cells a at.vic) (side_at a at.vic) n (machine_of p)
+    (λ cells. (length cells ≡ n) × ShowsClosed p a at.vic cells) (Unit {0})
+array_sees p at a n is sees =
+    pair_sees p at a n sees (ShowsClosed p a at.vic) (λ cells x act size. closes_all p at a n cells x act is sees size)
+    (λ cells size. pause_closes_all p at a n cells is sees size) (λ cells x act within xa xv closed. plain_elsewhere p at a n cells x act is sees xa xv closed)
 
 -- two cells alone, where there is no other cell that closing could reach
-pub two_cell_laws : (p : Primitive) (at : Places) (a : ℕ) → SeesPair p at a 2 → a < 2 → Laws p at a at.vic 2 (machine_of p) (λ cells. Unit {0})
-two_cell_laws p at a sees within = record {
-  own_answer = λ s cells act inside size. own_answers p at a 2 sees s cells act;
-  own_pair = λ s cells act inside size. own_pairs p at a 2 sees s cells act inside size;
-  own_others = λ s cells act y ya yv. own_others p at a s cells act y ya yv;
-  same_length = λ cells x act. length-step_cells p at cells x act;
-  closes = λ cells x act size. tt;
-  other_answer = λ cells x act xa xv. step_answer-elsewhere p at a 2 cells x act sees xa xv;
-  other_cells = λ cells x act inside xa xv closed. absurd (no_third x inside xa xv);
-  pause_pair = λ cells size. pair_at-pause_cells p at a cells (resized p at a 2 (length cells) size sees);
-  pause_others = λ cells y ya yv. cell-pause_cells_other p at cells y yv;
-  pause_length = λ cells. length-pause_cells p at cells;
-  pause_closes = λ cells size. tt;
-}
+pub two_see : (p : Primitive) (at : Places) (a : ℕ) → SeesPair p at a 2 → a < 2
+    → Sees (after_step p at) (is_wrong_at p at) (λ cells. cells) (λ cells. pair_at cells a at.vic) (side_at a at.vic) 2 (machine_of p) (λ cells. (length cells ≡ 2) × Unit {0}) (Unit {0})
+two_see p at a sees within =
+    pair_sees p at a 2 sees (λ cells. Unit {0}) (λ cells x act size. tt) (λ cells size. tt) (λ cells x act inside xa xv closed. absurd (no_third x inside xa xv))
   where
     no_third : (x : ℕ) → x < 2 → x ≢ a → x ≢ at.vic → ⊥
     no_third x inside xa xv =

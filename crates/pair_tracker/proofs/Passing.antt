@@ -1,7 +1,6 @@
 -- The run of some elements on two cells is the run of their pair.
-use Rattle.std.proofs.Common.{◌≡◌, ◌-◌, ◌<◌, ◌≤◌, ℕ, Bool, nat_lt, Option, Some, None, is_some, List, [], ◌∷◌, ◌++◌, length, take, drop, refl, ap, sym, subst, ◌∙◌, arith}
+use Rattle.std.proofs.Common.{◌≡◌, ◌≢◌, ◌-◌, ◌<◌, ◌≤◌, ℕ, Bool, nat_lt, Option, Some, None, is_some, List, [], ◌∷◌, ◌++◌, length, map, take, drop, refl, ap, sym, subst, ◌∙◌, arith}
 use Rattle.std.specs.Prelude.{if◌then◌else◌}
-use Rattle.std.specs.Option.{option_and_then}
 use Rattle.std.proofs.lemmas.List.{take_all, take-append-drop}
 use Rattle.std.proofs.lemmas.Grind.{flat_map-append}
 use Rattle.fault_core.specs.declared.cells.Places.{Places}
@@ -9,13 +8,12 @@ use Rattle.fault_core.specs.Primitive.{Primitive}
 use Rattle.fault_core.specs.Cells.{close_of}
 use Rattle.march_core.specs.March.{MarchElement, IsMarch, all_ops, ops_of}
 use Rattle.march_core.specs.inner.Scan.{scan_of}
-use Rattle.march_core.specs.Visits.{Direction, is_direction, directions_of, visits, visits_from}
+use Rattle.march_core.specs.declared.operation.Op.{Op}
+use Rattle.march_core.specs.Visits.{Direction, is_direction, directions_of, visits, visits_from, addresses}
 use Rattle.march_core.proofs.Consistent.{consistent_scan, last_after}
-use Rattle.array_sim.specs.inner.Run.{Outcome, run_of, outcome_of}
-use Rattle.array_sim.specs.Differing.{left_behind, after_step}
-use Rattle.array_sim.specs.Detection.{cells_after}
-use Rattle.array_sim.proofs.Differing.{passes_unless, all_right, all_left}
+use Rattle.array_sim.specs.Differing.{left_behind, after_step, is_wrong_at, SomeDiffers}
 use Rattle.cell_machine.specs.declared.pair.Pair.{Pair}
+use Rattle.cell_machine.specs.declared.pair.Side.{Side}
 use Rattle.cell_machine.specs.Pairs.{pair_close}
 use Rattle.cell_machine.specs.Seen.{pair_at}
 use Rattle.cell_machine.specs.inner.Seen.{SeesPair}
@@ -23,13 +21,14 @@ use Rattle.cell_machine.proofs.Projection.{length-close_of, pair_at-close_of}
 use Rattle.pair_tracker.specs.declared.placement.Placement.{Placement}
 use Rattle.pair_tracker.specs.declared.placement.Placement.TheVariants.{Alone, Below, Above}
 use Rattle.pair_tracker.specs.Legs.{elements_between, directions_between, cells_in, leg_steps, IsLeg}
-use Rattle.pair_tracker.specs.Pairs.{Machine, machine_of, element_run, sides_in, pair_run}
+use Rattle.pair_tracker.specs.Few.{cells_run, few_run}
+use Rattle.pair_tracker.specs.Pairs.{machine_of, sides_in}
 use Rattle.pair_tracker.specs.Placements.{places_in, FitsPlacement, beside_place, victim_place, pair_in}
 use Rattle.pair_tracker.specs.Survivors.{Survives}
 use Rattle.pair_tracker.specs.Tracking.{is_below, Leads}
-use Rattle.pair_tracker.proofs.Projection.{Shows, order_run, order_visit, scan_parts}
-use Rattle.pair_tracker.proofs.Machines.{two_cell_laws}
-use Rattle.pair_tracker.proofs.Sides.{addresses_sides}
+use Rattle.pair_tracker.proofs.Few.{Sees, Agrees, scan_parts, passes_where, through_unless}
+use Rattle.pair_tracker.proofs.Machines.{two_see}
+use Rattle.pair_tracker.proofs.Tags.{side_at, no_side, kept_does, pair_ordered}
 use Rattle.pair_tracker.proofs.Words.{span_from_rest, span_below, rest_from_span, directions_from_first}
 
 -- a placement that fits is about its two cells
@@ -42,17 +41,6 @@ beside_within : (placement : Placement) → beside_place placement < 2
 beside_within Alone = omega arith
 beside_within Below = omega arith
 beside_within Above = omega arith
-
--- the order of the sides, by whether the cell beside the victim has the lower address
-pair_order_run : (m : Machine) (below : Bool) (q : Pair) (es : List MarchElement) (ds : List Direction) → order_run m (sides_in below) q es ds ≡ pair_run m below q es ds
-pair_order_run m below q [] ds = refl
-pair_order_run m below q (e ∷ es) [] = refl
-pair_order_run m below q (e ∷ es) (d ∷ ds) = go (element_run m q e (sides_in below d)) (λ r. pair_order_run m below r es ds)
-  where
-    go : (r : Option Pair) → ((r : Pair) → order_run m (sides_in below) r es ds ≡ pair_run m below r es ds)
-        → option_and_then (λ r. order_run m (sides_in below) r es ds) r ≡ option_and_then (λ r. pair_run m below r es ds) r
-    go None f = refl
-    go (Some r) f = f r
 
 -- the bit that was written last before some elements, and behind them
 record Scanned (es : List MarchElement) : Type 0 where
@@ -92,103 +80,102 @@ cells_of_pair Alone (x ∷ y ∷ []) e = refl
 cells_of_pair Below (x ∷ y ∷ []) e = refl
 cells_of_pair Above (x ∷ y ∷ []) e = refl
 
--- the run of some elements on two cells, seen from their pair
-shown : (p : Primitive) (placement : Placement) (es : List MarchElement) (ds : List Direction) (k : ℕ) (cells : List Bool)
-    → FitsPlacement p placement → Scanned es → length cells ≡ 2
-    → Shows (beside_place placement) (victim_place placement) (pair_run (machine_of p) (is_below placement) (pair_in placement cells) es ds)
-    (run_of p (places_in placement) cells (visits_from k es ds 2)) (λ c. length c ≡ 2)
-shown p placement es ds k cells fits scanned size = placed placement run
+-- the two cells of a placement, by the sides of their places
+abbrev tag_in : Placement → ℕ → Option Side
+tag_in placement = side_at (beside_place placement) (victim_place placement)
+
+abbrev TwoCells : List Bool → Type 0
+TwoCells cells = (length cells ≡ 2) × Unit {0}
+
+sees_in : (p : Primitive) (placement : Placement) → FitsPlacement p placement
+    → Sees (after_step p (places_in placement)) (is_wrong_at p (places_in placement)) (λ cells. cells) (pair_in placement) (tag_in placement) 2 (machine_of p) TwoCells (Unit {0})
+sees_in p Alone fits = two_see p (places_in Alone) 1 (about p Alone fits) (omega arith)
+sees_in p Below fits = two_see p (places_in Below) 0 (about p Below fits) (omega arith)
+sees_in p Above fits = two_see p (places_in Above) 1 (about p Above fits) (omega arith)
+
+ordered_in : (p : Primitive) (placement : Placement) (d : Direction) (q : Pair) (ops : List Op)
+    → cells_run (machine_of p) q (map (tag_in placement) (addresses d 2)) ops ≡ cells_run (machine_of p) q (sides_in (is_below placement) d) ops
+ordered_in p placement d q ops =
+    kept_does (machine_of p) (λ q. refl) q (map (tag_in placement) (addresses d 2)) ops
+    ∙ ap (λ ts. cells_run (machine_of p) q ts ops) (pair_ordered (beside_place placement) (victim_place placement) 2 (apart placement) (beside_within placement) (victim_within placement) d
+    ∙ ap (λ b. sides_in b d) (lower placement))
   where
-    run : (let at : Places = places_in placement in
-        Shows (beside_place placement) at.vic (pair_run (machine_of p) (nat_lt (beside_place placement) at.vic) (pair_at cells (beside_place placement) at.vic) es ds)
-        (run_of p at cells (visits_from k es ds 2)) (λ c. length c ≡ 2))
-    run =
-        let at : Places = places_in placement in
-        let a : ℕ = beside_place placement in
-        let sees : SeesPair p at a 2 = about p placement fits in
-        subst (λ r. Shows a at.vic r (run_of p at cells (visits_from k es ds 2)) (λ c. length c ≡ 2))
-        (pair_order_run (machine_of p) (nat_lt a at.vic) (pair_at cells a at.vic) es ds)
-        (order_visit p at a at.vic 2 (machine_of p) (λ c. Unit {0}) (two_cell_laws p at a sees (beside_within placement)) sees.apart
-        (sides_in (nat_lt a at.vic)) (λ d. addresses_sides a at.vic 2 d sees.apart (beside_within placement) sees.victim)
-        es ds k scanned.last scanned.end cells scanned.is size tt (λ y yn ya yv bit is. absurd (no_third sees y yn ya yv)))
-      where
-        no_third : SeesPair p (places_in placement) (beside_place placement) 2 → (y : ℕ) → y < 2 → (y ≡ beside_place placement → ⊥)
-            → (y ≡ (places_in placement).vic → ⊥) → ⊥
-        no_third sees y yn ya yv =
-            let apart : beside_place placement ≡ (places_in placement).vic → ⊥ = sees.apart in
-            let victim : (places_in placement).vic < 2 = sees.victim in
-            let beside : beside_place placement < 2 = beside_within placement in
-            omega arith
+    apart : (placement : Placement) → beside_place placement ≢ victim_place placement
+    apart Alone = omega arith
+    apart Below = omega arith
+    apart Above = omega arith
 
-    placed : (place : Placement)
-        → (let at : Places = places_in place in
-        Shows (beside_place place) at.vic (pair_run (machine_of p) (nat_lt (beside_place place) at.vic) (pair_at cells (beside_place place) at.vic) es ds)
-        (run_of p at cells (visits_from k es ds 2)) (λ c. length c ≡ 2))
-        → Shows (beside_place place) (victim_place place) (pair_run (machine_of p) (is_below place) (pair_in place cells) es ds)
-        (run_of p (places_in place) cells (visits_from k es ds 2)) (λ c. length c ≡ 2)
-    placed Alone h = h
-    placed Below h = h
-    placed Above h = h
+    victim_within : (placement : Placement) → victim_place placement < 2
+    victim_within Alone = omega arith
+    victim_within Below = omega arith
+    victim_within Above = omega arith
 
-passing : (a v : ℕ) (r : Option Pair) (o : Outcome) (L : List Bool → Type 0) (q : Pair) → Shows a v r o L → o.miss ≡ None → pair_at o.cells a v ≡ q → r ≡ Some q
-passing a v None o L q fails none ends = let e = fails.1 in cc (e, none)
-passing a v (Some r) o L q shows none ends = ap Some (sym shows.1 ∙ ends)
+    lower : (placement : Placement) → nat_lt (beside_place placement) (victim_place placement) ≡ is_below placement
+    lower Alone = refl
+    lower Below = refl
+    lower Above = refl
 
-passed : (a v : ℕ) (r : Option Pair) (o : Outcome) (L : List Bool → Type 0) (q : Pair) → Shows a v r o L → r ≡ Some q → (o.miss ≡ None) × (pair_at o.cells a v ≡ q)
-passed a v None o L q shows e = cc
-passed a v (Some r) o L q shows e = let same : r ≡ q = cc in (shows.0, shows.1 ∙ same)
+-- there is no third cell
+all_agree : (placement : Placement) (last : Option Bool) (cells : List Bool) → Agrees (tag_in placement) 2 [] None last cells
+all_agree placement last cells y within out bit h = absurd (go placement (no_side (beside_place placement) (victim_place placement) y out))
+  where
+    go : (placement : Placement) → (y ≢ beside_place placement) × (y ≢ victim_place placement) → ⊥
+    go Alone off = let a : y ≢ 1 = off.0 in let b : y ≢ 0 = off.1 in omega arith
+    go Below off = let a : y ≢ 0 = off.0 in let b : y ≢ 1 = off.1 in omega arith
+    go Above off = let a : y ≢ 1 = off.0 in let b : y ≢ 0 = off.1 in omega arith
 
--- the run of some elements on the two cells
-abbrev leg_run : List MarchElement → Primitive → Placement → ℕ → ℕ → Pair → ℕ → Outcome
-leg_run march p placement i j start word = run_of p (places_in placement) (cells_in placement start) (leg_steps march i j word)
+-- some elements on two cells lead where they lead on the pair
+module _ (p : Primitive) (placement : Placement) (fits : FitsPlacement p placement) (es : List MarchElement) (scanned : Scanned es) (ds : List Direction) (k : ℕ)
+    (cells : List Bool) (size : length cells ≡ 2) where
+  abbrev at : Places
+  at = places_in placement
 
-leg_left : (p : Primitive) (placement : Placement) (march : List MarchElement) (i j : ℕ) (start : Pair) (word : ℕ) → (leg_run march p placement i j start word).miss ≡ None
-    → (leg_run march p placement i j start word).cells ≡ left_behind (after_step p (places_in placement)) (cells_in placement start) (leg_steps march i j word)
-leg_left p placement march i j start word none = all_left p (places_in placement) (cells_in placement start) (leg_steps march i j word) none
+  abbrev few : Option Pair
+  few = few_run (machine_of p) (sides_in (is_below placement)) (pair_in placement cells) es ds
 
-whole_left : (p : Primitive) (placement : Placement) (march : List MarchElement) (content : List Bool) (ds : List Direction) → (outcome_of march ds p (places_in placement) content).miss ≡ None
-    → (outcome_of march ds p (places_in placement) content).cells ≡ cells_after march ds p (places_in placement) content
-whole_left p placement march content ds none = all_left p (places_in placement) (close_of p (places_in placement) content) (visits march ds (length content)) none
+  abbrev left : List Bool
+  left = left_behind (after_step p at) cells (visits_from k es ds 2)
 
--- some elements lead from a pair to another on two cells exactly where they do so on the pair
-leg_shown : (p : Primitive) (placement : Placement) (march : List MarchElement) (i j : ℕ) (start : Pair) (word : ℕ) → FitsPlacement p placement → IsMarch march
-    → Shows (beside_place placement) (victim_place placement)
-    (pair_run (machine_of p) (is_below placement) start (elements_between march i j) (directions_between word i j))
-    (leg_run march p placement i j start word) (λ c. length c ≡ 2)
-leg_shown p placement march i j start word fits is_march =
-    let es : List MarchElement = elements_between march i j in
-    let ds : List Direction = directions_between word i j in
-    subst (λ q. Shows (beside_place placement) (victim_place placement) (pair_run (machine_of p) (is_below placement) q es ds)
-    (leg_run march p placement i j start word) (λ c. length c ≡ 2))
-    (pair_of_cells placement start)
-    (shown p placement es ds i (cells_in placement start) fits (scanned_between march i j is_march) (length-cells_in placement start))
+  get_through : (SomeDiffers p at cells (visits_from k es ds 2) → ⊥) → few ≡ Some (pair_in placement left)
+  get_through passes =
+      through_unless (after_step p at) (is_wrong_at p at) (λ cells. cells) (pair_in placement) (tag_in placement) 2 (machine_of p) TwoCells (Unit {0}) (sees_in p placement fits)
+      (sides_in (is_below placement)) (ordered_in p placement) tt es ds k scanned.last scanned.end cells scanned.is (size, tt) (λ strict. all_agree placement scanned.last cells) passes
+
+  let_through : (q : Pair) → few ≡ Some q → (SomeDiffers p at cells (visits_from k es ds 2) → ⊥) × (pair_in placement left ≡ q)
+  let_through q e =
+      passes_where (after_step p at) (is_wrong_at p at) (λ cells. cells) (pair_in placement) (tag_in placement) 2 (machine_of p) TwoCells (Unit {0}) (sees_in p placement fits)
+      (sides_in (is_below placement)) (ordered_in p placement) tt es ds k scanned.last scanned.end cells scanned.is (size, tt) (λ strict. all_agree placement scanned.last cells) q e
 
 pub leg_leads : (p : Primitive) (placement : Placement) (march : List MarchElement) (i j : ℕ) (start end : Pair) (word : ℕ)
     → FitsPlacement p placement → IsMarch march → i ≤ j → j ≤ length march → IsLeg march p placement i j start end word
-    → Leads (machine_of p) (is_below placement) march i j start end word
+    → Leads (machine_of p) (sides_in (is_below placement)) march i j start end word
 leg_leads p placement march i j start end word fits is_march ij within leg =
     let most : length march ≤ 64 = is_march.elements_within in
-    let passes = passes_unless p (places_in placement) (cells_in placement start) (leg_steps march i j word) leg.passes in
+    let es : List MarchElement = elements_between march i j in
+    let ds : List Direction = directions_between word i j in
     record {
       span = span_from_rest i j word ij (omega arith) leg.before leg.behind;
       allowed = leg.allowed;
-      ends = passing (beside_place placement) (victim_place placement) _ (leg_run march p placement i j start word) (λ c. length c ≡ 2) end
-          (leg_shown p placement march i j start word fits is_march) passes (ap (pair_in placement) (leg_left p placement march i j start word passes) ∙ leg.ends);
+      ends =
+          ap (λ q. few_run (machine_of p) (sides_in (is_below placement)) q es ds) (sym (pair_of_cells placement start))
+          ∙ get_through p placement fits es (scanned_between march i j is_march) ds i (cells_in placement start) (length-cells_in placement start) leg.passes ∙ ap Some leg.ends;
     }
 
 pub leads_leg : (p : Primitive) (placement : Placement) (march : List MarchElement) (i j : ℕ) (start end : Pair) (word : ℕ)
-    → FitsPlacement p placement → IsMarch march → i ≤ j → j ≤ length march → Leads (machine_of p) (is_below placement) march i j start end word
+    → FitsPlacement p placement → IsMarch march → i ≤ j → j ≤ length march → Leads (machine_of p) (sides_in (is_below placement)) march i j start end word
     → IsLeg march p placement i j start end word
 leads_leg p placement march i j start end word fits is_march ij within leads =
     let most : length march ≤ 64 = is_march.elements_within in
-    let both = passed (beside_place placement) (victim_place placement) _ (leg_run march p placement i j start word) (λ c. length c ≡ 2) end
-    (leg_shown p placement march i j start word fits is_march) leads.ends in
+    let es : List MarchElement = elements_between march i j in
+    let ds : List Direction = directions_between word i j in
+    let both = let_through p placement fits es (scanned_between march i j is_march) ds i (cells_in placement start) (length-cells_in placement start) end
+    (ap (λ q. few_run (machine_of p) (sides_in (is_below placement)) q es ds) (pair_of_cells placement start) ∙ leads.ends) in
     record {
       allowed = leads.allowed;
       before = span_below i j word ij (omega arith) leads.span;
       behind = rest_from_span i j word leads.span;
-      passes = all_right p (places_in placement) (cells_in placement start) (leg_steps march i j word) both.0;
-      ends = ap (pair_in placement) (sym (leg_left p placement march i j start word both.0)) ∙ both.1;
+      passes = both.0;
+      ends = both.1;
     }
 
 -- the whole march on a content is the leg of all its elements from the closed pair
@@ -200,21 +187,14 @@ all_between march =
     let all : length march - 0 ≡ length march = omega arith in
     ap (λ n. take n march) all ∙ take_all (length march) march (omega arith)
 
-whole_run : (p : Primitive) (placement : Placement) (march : List MarchElement) (content : List Bool) (word : ℕ) → FitsPlacement p placement → length content ≡ 2
-    → leg_run march p placement 0 (length march) (start_in p placement content) word
-    ≡ outcome_of march (directions_of word (length march)) p (places_in placement) content
-whole_run p placement march content word fits size =
+-- from the closed content in the steps of the whole march
+starts_closed : (p : Primitive) (placement : Placement) (content : List Bool) → FitsPlacement p placement → length content ≡ 2
+    → cells_in placement (start_in p placement content) ≡ close_of p (places_in placement) content
+starts_closed p placement content fits size =
     let at : Places = places_in placement in
-    let closed : List Bool = close_of p at content in
-    let n : ℕ = length march in
-    let closed_size : length closed ≡ 2 = length-close_of p at content ∙ size in
     let sees : SeesPair p at (beside_place placement) (length content) = subst (SeesPair p at (beside_place placement)) (sym size) (about p placement fits) in
-    let starts : pair_in placement closed ≡ pair_close p (pair_in placement content) = seen placement (pair_at-close_of p at (beside_place placement) content sees) in
-    let cells : cells_in placement (start_in p placement content) ≡ closed = ap (cells_in placement) (sym starts) ∙ cells_of_pair placement closed closed_size in
-    ap (λ c. run_of p at c (visits_from 0 (elements_between march 0 n) (directions_between word 0 n) 2)) cells
-    ∙ ap (λ es. run_of p at closed (visits_from 0 es (directions_between word 0 n) 2)) (all_between march)
-    ∙ ap (λ ds. run_of p at closed (visits_from 0 march ds 2)) (directions_from_first word n)
-    ∙ ap (λ k. run_of p at closed (visits_from 0 march (directions_of word n) k)) (sym size)
+    ap (cells_in placement) (sym (seen placement (pair_at-close_of p at (beside_place placement) content sees)))
+    ∙ cells_of_pair placement (close_of p at content) (length-close_of p at content ∙ size)
   where
     seen : (place : Placement)
         → (let at : Places = places_in place in
@@ -224,42 +204,44 @@ whole_run p placement march content word fits size =
     seen Below h = h
     seen Above h = h
 
+whole_steps : (march : List MarchElement) (content : List Bool) (word : ℕ) → length content ≡ 2
+    → leg_steps march 0 (length march) word ≡ visits march (directions_of word (length march)) (length content)
+whole_steps march content word size =
+    ap (λ es. visits_from 0 es (directions_between word 0 (length march)) 2) (all_between march)
+    ∙ ap (λ ds. visits_from 0 march ds 2) (directions_from_first word (length march)) ∙ ap (visits march (directions_of word (length march))) (sym size)
+
+same_directions : (march : List MarchElement) (word : ℕ)
+    → is_direction (elements_between march 0 (length march)) (directions_between word 0 (length march)) ≡ is_direction march (directions_of word (length march))
+same_directions march word = ap (λ es. is_direction es (directions_between word 0 (length march))) (all_between march) ∙ ap (is_direction march) (directions_from_first word (length march))
+
 pub survives_leg : (p : Primitive) (placement : Placement) (march : List MarchElement) (content : List Bool) (word : ℕ) (q : Pair)
     → FitsPlacement p placement → length content ≡ 2 → Survives march p placement content word q
     → IsLeg march p placement 0 (length march) (start_in p placement content) q word
 survives_leg p placement march content word q fits size survives =
-    let n : ℕ = length march in
-    let ds : List Direction = directions_of word n in
-    let ran = whole_run p placement march content word fits size in
-    let none = passes_unless p (places_in placement) (close_of p (places_in placement) content) (visits march ds (length content)) survives.passes in
-    let leg_passes = ap (λ (o : Outcome). o.miss) ran ∙ none in
+    let at : Places = places_in placement in
+    let closed = sym (starts_closed p placement content fits size) in
+    let steps = sym (whole_steps march content word size) in
     record {
-      allowed = ap (λ es. is_direction es (directions_between word 0 n)) (all_between march) ∙ ap (is_direction march) (directions_from_first word n) ∙ survives.fits.allowed;
+      allowed = same_directions march word ∙ survives.fits.allowed;
       before = survives.is_word;
       behind = survives.fits.rest;
-      passes = all_right p (places_in placement) (cells_in placement (start_in p placement content)) (leg_steps march 0 n word) leg_passes;
-      ends =
-          ap (pair_in placement) (sym (leg_left p placement march 0 n (start_in p placement content) word leg_passes))
-          ∙ ap (λ (o : Outcome). pair_in placement o.cells) ran ∙ ap (pair_in placement) (whole_left p placement march content ds none) ∙ survives.ends;
+      passes = subst (λ c. SomeDiffers p at c (leg_steps march 0 (length march) word) → ⊥) closed
+          (subst (λ l. SomeDiffers p at (close_of p at content) l → ⊥) steps survives.passes);
+      ends = subst (λ c. pair_in placement (left_behind (after_step p at) c (leg_steps march 0 (length march) word)) ≡ q) closed
+          (subst (λ l. pair_in placement (left_behind (after_step p at) (close_of p at content) l) ≡ q) steps survives.ends);
     }
 
 pub leg_survives : (p : Primitive) (placement : Placement) (march : List MarchElement) (content : List Bool) (word : ℕ) (q : Pair)
     → FitsPlacement p placement → length content ≡ 2 → IsLeg march p placement 0 (length march) (start_in p placement content) q word
     → Survives march p placement content word q
 leg_survives p placement march content word q fits size leg =
-    let n : ℕ = length march in
-    let ds : List Direction = directions_of word n in
-    let ran = whole_run p placement march content word fits size in
-    let leg_passes = passes_unless p (places_in placement) (cells_in placement (start_in p placement content)) (leg_steps march 0 n word) leg.passes in
-    let none = ap (λ (o : Outcome). o.miss) (sym ran) ∙ leg_passes in
+    let at : Places = places_in placement in
+    let closed = starts_closed p placement content fits size in
+    let steps = whole_steps march content word size in
     record {
       is_word = leg.before;
-      fits = record {
-        allowed = sym (ap (λ es. is_direction es (directions_between word 0 n)) (all_between march) ∙ ap (is_direction march) (directions_from_first word n)) ∙ leg.allowed;
-        rest = leg.behind;
-      };
-      passes = all_right p (places_in placement) (close_of p (places_in placement) content) (visits march ds (length content)) none;
-      ends =
-          ap (pair_in placement) (sym (whole_left p placement march content ds none))
-          ∙ ap (λ (o : Outcome). pair_in placement o.cells) (sym ran) ∙ ap (pair_in placement) (leg_left p placement march 0 n (start_in p placement content) word leg_passes) ∙ leg.ends;
+      fits = record { allowed = sym (same_directions march word) ∙ leg.allowed; rest = leg.behind };
+      passes = subst (λ l. SomeDiffers p at (close_of p at content) l → ⊥) steps (subst (λ c. SomeDiffers p at c (leg_steps march 0 (length march) word) → ⊥) closed leg.passes);
+      ends = subst (λ l. pair_in placement (left_behind (after_step p at) (close_of p at content) l) ≡ q) steps
+          (subst (λ c. pair_in placement (left_behind (after_step p at) c (leg_steps march 0 (length march) word)) ≡ q) closed leg.ends);
     }

@@ -1,8 +1,9 @@
 -- The least word is found element by element: upward where the rest can lead to the end, and else downward with its bit.
-use Rattle.std.proofs.Common.{◌≡◌, ◌≤◌, ◌<◌, ◌+◌, ◌-◌, ◌*◌, ◌^◌, ℕ, suc, Bool, true, false, cond, ◌||◌, Option, Some, None, List, [], ◌∷◌, length, refl, ap, sym, subst, ◌∙◌, arith}
+use Rattle.std.proofs.Common.{◌≡◌, ◌≤◌, ◌<◌, ◌+◌, ◌-◌, ◌*◌, ◌^◌, ℕ, zero, suc, Bool, true, false, cond, ◌||◌, Option, Some, None, List, [], ◌∷◌, length, refl, ap, sym, subst, ◌∙◌, arith}
 use Rattle.std.proofs.Math.Nat.{pow-suc}
 use Rattle.std.proofs.Math.Pow.{pow_mono}
 use Rattle.march_core.specs.Visits.{Direction, Upward, Downward}
+use Rattle.pair_tracker.specs.DeadEnds.{AreFrom}
 use Rattle.pair_tracker.specs.Ways.{Leading, holds_at, ways_at, can_reach, ways_to, ways_word, word_by, word_behind}
 use Rattle.pair_tracker.proofs.Words.{span_below}
 use Rattle.pair_tracker.proofs.Wording.{is_word}
@@ -87,3 +88,12 @@ word_room wanted lead i es (Some q) word weight h e is =
     let most : 2 ^ (64 - i) ≤ 2 ^ 64 = pow_mono {i = 64 - i} {j = 64} (omega arith) in
     let twice : 2 ^ (64 - i) ≡ 2 ^ (63 - i) * 2 = ap (λ k. 2 ^ k) double ∙ pow-suc 2 (63 - i) in
     omega arith
+
+-- so many elements are left
+pub length-from : {E : Type 0} (count : ℕ) (from : ℕ → List E) → AreFrom count from → (n i : ℕ) → i + n ≡ count → length (from i) ≡ n
+length-from count from are zero i e =
+    let last : i ≡ count = omega arith in
+    ap (λ k. length (from k)) last ∙ ap length are.none
+length-from count from are (suc n) i e =
+    let first = are.first i (omega arith) in
+    ap length first.1 ∙ ap suc (length-from count from are n (i + 1) (omega arith))

@@ -198,24 +198,10 @@ one_split i word h span =
         let rest : 64 - (i + 1) ≡ 63 - i = omega arith in
         (d, span.is ∙ ap (λ n. span.digits * 2 ^ n) rest ∙ ap (λ n. n * 2 ^ (63 - i)) e ∙ sym (weight_bit (63 - i) d))
 
--- words of the first elements
-pub span_none : IsSpanWord 0 0 0
-span_none = record { digits = 0; is = refl; within = omega arith }
-
-pub span_more : (i u : ℕ) (d : Direction) → i < 64 → IsSpanWord 0 i u → IsSpanWord 0 (i + 1) (u + weight_in (2 ^ (63 - i)) d)
-span_more i u d h span = span_join 0 i (i + 1) u (weight_in (2 ^ (63 - i)) d) (omega arith) (omega arith) (omega arith) span (span_one i d h)
-
 pub directions_from_first : (word n : ℕ) → directions_between word 0 n ≡ directions_of word n
 directions_from_first word n =
     let all : n - 0 ≡ n = omega arith in
     ap (λ m. map (direction_at word) (range_with_len 0 m)) all
-
-pub directions_more : (i u : ℕ) (d : Direction) → i < 64 → IsSpanWord 0 i u
-    → directions_of (u + weight_in (2 ^ (63 - i)) d) (i + 1) ≡ directions_of u i ++ d ∷ []
-directions_more i u d h span =
-    let w : ℕ = weight_in (2 ^ (63 - i)) d in
-    sym (directions_from_first (u + w) (i + 1)) ∙ directions_join 0 i (i + 1) u w (omega arith) (omega arith) (omega arith) span (span_one i d h)
-    ∙ ap (λ ds. ds ++ directions_between w i (i + 1)) (directions_from_first u i) ∙ ap (λ ds. directions_of u i ++ ds) (directions_one i d)
 
 -- spans by their bounds and their remainders
 pub span_from_rest : (i j word : ℕ) → i ≤ j → j ≤ 64 → word < 2 ^ (64 - i) → word % 2 ^ (64 - j) ≡ 0 → IsSpanWord i j word

@@ -1,3 +1,4 @@
+pub mod Few
 pub mod Pairs
 pub mod Placements
 pub mod Survivors
@@ -5,3 +6,5 @@ pub mod Legs
 pub mod Tracking
 pub mod Ways
 pub mod Reached
+pub mod DeadEnds
+pub mod inner

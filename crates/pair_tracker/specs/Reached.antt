@@ -1,5 +1,5 @@
 -- Public. The words that a search through some elements of a march finds, what is known of states that lead nowhere, and the ends of a summary by these words.
-use Rattle.std.specs.Prelude.{◌≡◌, ◌≤◌, ◌+◌, ◌*◌, ℕ, Bool, true, false, ◌&&◌, Option, Some, None, List, [], ◌∷◌, map, length, slice_index_or}
+use Rattle.std.specs.Prelude.{◌≤◌, ℕ, Bool, true, false, ◌&&◌, Option, Some, None, List, [], ◌∷◌, map, length}
 use Rattle.std.specs.List.{filter_map}
 use Rattle.std.specs.Option.{option_map}
 use Rattle.fault_core.specs.Primitive.{Primitive, IsPrimitive, same_bit}
@@ -9,10 +9,12 @@ use Rattle.pair_tracker.specs.declared.placement.Placement.{Placement}
 use Rattle.pair_tracker.specs.declared.placement.Survivor.{Survivor}
 use Rattle.pair_tracker.specs.declared.search.DeadEnds.{DeadEnds}
 use Rattle.pair_tracker.specs.Legs.{Leg, elements_between}
-use Rattle.pair_tracker.specs.Pairs.{Machine, machine_of}
+use Rattle.pair_tracker.specs.DeadEnds.{AreDead}
+use Rattle.pair_tracker.specs.Few.{Machine, Order, end_of}
+use Rattle.pair_tracker.specs.Pairs.{machine_of, sides_in}
 use Rattle.pair_tracker.specs.Placements.{FitsPlacement}
 use Rattle.pair_tracker.specs.Survivors.{pair_number}
-use Rattle.pair_tracker.specs.Tracking.{end_of, is_below}
+use Rattle.pair_tracker.specs.Tracking.{is_below}
 use Rattle.pair_tracker.specs.Ways.{word_by}
 
 -- one end is wanted, or any
@@ -21,25 +23,21 @@ is_wanted None q = true
 is_wanted (Some end) q = same_bit q.a end.a && same_bit q.v end.v
 
 -- the least word of the elements i to j-1 that leads to an end that is wanted
-abbrev pub word_to : (Pair → Bool) → Machine → Bool → List MarchElement → ℕ → ℕ → Pair → Option ℕ
-word_to wanted m below march i j start = word_by wanted (end_of m below) i (elements_between march i j) start
+abbrev pub word_to : {Q I : Type 0} → (Q → Bool) → Machine Q I → Order I → List MarchElement → ℕ → ℕ → Q → Option ℕ
+word_to wanted m order march i j start = word_by wanted (end_of m order) i (elements_between march i j) start
 
--- whether a state before an element is known to lead nowhere
-abbrev pub is_dead : DeadEnds → ℕ → ℕ → Bool
-is_dead dead i n = slice_index_or dead.known (8 * i + n) false
+-- the elements before this number are of a march
+pub record IsWithin (march : List MarchElement) (j : ℕ) : Type 0 where
+  pub is_march : IsMarch march
+  pub within : j ≤ length march
 
--- what was known stays known
-abbrev pub StaysDead : DeadEnds → DeadEnds → Type 0
-StaysDead old new = (i n : ℕ) → is_dead old i n ≡ true → is_dead new i n ≡ true
-
--- what is known is so
-abbrev pub AreDeadEnds : (Pair → Bool) → Machine → Bool → List MarchElement → ℕ → DeadEnds → Type 0
-AreDeadEnds wanted m below march j dead = (i : ℕ) (q : Pair) → is_dead dead i (pair_number q) ≡ true
-    → word_to wanted m below march i j q ≡ None
+-- what is known of the elements before this number of a march is so
+abbrev pub AreDeadEnds : {Q I : Type 0} → (Q → ℕ) → (Q → Bool) → Machine Q I → Order I → List MarchElement → ℕ → DeadEnds → Type 0
+AreDeadEnds number wanted m order march j dead = AreDead number wanted (end_of m order) (λ i. elements_between march i j) dead
 
 -- what is known of the elements of a summary, whichever their end
 abbrev pub KnowsOf : Leg → DeadEnds → Type 0
-KnowsOf leg dead = AreDeadEnds (is_wanted None) (machine_of leg.prim) (is_below leg.placement) leg.march leg.end dead
+KnowsOf leg dead = AreDeadEnds pair_number (is_wanted None) (machine_of leg.prim) (sides_in (is_below leg.placement)) leg.march leg.end dead
 
 -- the pairs in their order
 abbrev pub all_pairs : List Pair
@@ -52,7 +50,7 @@ with_word words q = option_map (λ word. record { pair = q; directions = word })
 
 -- the least words from a start to each pair
 abbrev pub words_from : List MarchElement → Primitive → Placement → ℕ → ℕ → Pair → Pair → Option ℕ
-words_from march p placement i j start end = word_to (is_wanted (Some end)) (machine_of p) (is_below placement) march i j start
+words_from march p placement i j start end = word_to (is_wanted (Some end)) (machine_of p) (sides_in (is_below placement)) march i j start
 
 -- the pairs with their least words
 abbrev pub ends_by : List MarchElement → Primitive → Placement → ℕ → ℕ → Pair → List Survivor

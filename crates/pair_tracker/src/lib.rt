@@ -16,13 +16,17 @@
 #![tactic(auto)]
 
 mod element_step;
+mod march_search;
+mod pair_cells;
 mod placement;
 mod search;
 mod summary;
 mod tracker;
 
-pub use element_step::does_allow;
+pub use element_step::{FewCells, does_allow};
+pub use march_search::word_through;
+pub use pair_cells::{number_of, sides_in};
 pub use placement::{Placement, Survivor};
-pub use search::{DeadEnds, weight_of};
+pub use search::{DeadEnds, Ways, word_from};
 pub use summary::Summary;
 pub use tracker::survivors;

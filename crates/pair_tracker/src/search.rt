@@ -1,19 +1,9 @@
 //! The least direction word that leads from a pair to an end that is wanted: at each element upward, unless no
 //! choice leads on from there.
-ghost use Rattle.std.specs.Prelude.{◌≡◌, ◌⊎◌, ◌<◌, ◌≤◌, ◌^◌, ◌-◌, ℕ, false, length, true, None, Some};
+ghost use Rattle.std.specs.Prelude.{◌≡◌, ◌⊎◌, ◌<◌, ◌≤◌, ◌+◌, ◌^◌, ◌-◌, ◌∷◌, ℕ, Bool, List, false, true, None, Some};
 ghost use Rattle.march_core.specs.Addresses.{direction_of};
-ghost use Rattle.march_core.specs.March.{element_at};
-ghost use Rattle.cell_machine.specs.declared.pair.Pair.{Pair};
-ghost use Rattle.pair_tracker.specs.Pairs.{machine_of};
-ghost use Rattle.pair_tracker.specs.Survivors.{pair_number};
-ghost use Rattle.pair_tracker.specs.Reached.{is_wanted, word_to, is_dead, StaysDead, AreDeadEnds};
-ghost use Rattle.pair_tracker.specs.Tracking.{end_of};
-ghost use Rattle.pair_tracker.specs.Ways.{word_behind};
-
-use crate::element_step::end_of;
-use cell_machine::Pair;
-use fault_core::Prim;
-use march_core::March;
+ghost use Rattle.pair_tracker.specs.DeadEnds.{is_dead, StaysDead, AreDead, AreFrom};
+ghost use Rattle.pair_tracker.specs.Ways.{Leading, word_by, word_behind};
 
 /// What a search has found out: from which states before an element no choice of directions leads to its end. It has
 /// up to eight states, by their numbers. Searches to the same end share it.
@@ -53,22 +43,47 @@ impl DeadEnds {
     }
 }
 
-/// The number of a pair: the aggressor's bit first.
-fn number_of(pair: Pair) -> usize
-    ensures number { result ≡ pair_number pair }
-    ensures below { result < 4 }
-{
-    2 * usize::from(pair.a) + usize::from(pair.v)
-}
+/// Elements that each lead on from a state in one of two directions, and the ends that are wanted.
+pub trait Ways {
+    type State: Copy;
 
-/// What is looked for: a way through the elements of a march before `end` to this pair, or to any.
-#[derive(Clone, Copy)]
-pub(crate) struct Search<'a> {
-    pub(crate) march: &'a March,
-    pub(crate) prim: &'a Prim,
-    pub(crate) is_below: bool,
-    pub(crate) end: usize,
-    pub(crate) wanted: Option<Pair>,
+    ghost Holds: { Self → Type 0 };
+
+    ghost Element: { Type 0 };
+
+    ghost count: { Self → ℕ };
+
+    ghost from: { Self → ℕ → List Element };
+
+    ghost lead: { Self → Leading Self.State Element };
+
+    ghost wanted: { Self → Self.State → Bool };
+
+    ghost number: { Self.State → ℕ };
+
+    /// How many elements there are.
+    fn count(&self) -> usize
+        requires { Holds self.now }
+        ensures { result ≡ count self.now };
+
+    /// Where an element leads in a direction.
+    fn lead(&self, i: usize, start: Self::State, is_down: bool) -> Option<Self::State>
+        requires holds { Holds self.now }
+        requires there { i < count self.now }
+        ensures { (e : Element) → from self.now i ≡ e ∷ from self.now (i + 1) → result ≡ lead self.now e start (direction_of is_down) };
+
+    /// Whether a state is an end that is wanted.
+    fn is_wanted(&self, end: Self::State) -> bool
+        ensures { result ≡ wanted self.now end };
+
+    /// The number of a state.
+    fn number(&self, state: Self::State) -> usize
+        ensures number { result ≡ number state }
+        ensures below { result < 8 };
+
+    ghost tells: { (q r : Self.State) → number q ≡ number r → q ≡ r };
+
+    ghost few: { (q : Self.State) → number q < 8 };
 }
 
 /// What the bit of an element adds to a direction word.
@@ -79,54 +94,38 @@ pub fn weight_of(element: usize) -> u64
     1 << (63 - element)
 }
 
-fn is_wanted(wanted: Option<Pair>, pair: Pair) -> bool
-    ensures { result ≡ is_wanted wanted pair }
-{
-    match wanted {
-        None => true,
-        Some(end) => pair.a == end.a && pair.v == end.v,
-    }
-}
-
-/// The least direction word of the elements from `i` on that leads from a pair, where there is one, to an end that
+/// The least direction word of the elements from `i` on that leads from a state, where there is one, to an end that
 /// is wanted.
-pub(crate) fn word_from(
-    search: &Search<'_>,
+pub fn word_from<W: Ways>(
+    ways: &W,
     dead_ends: &mut DeadEnds,
     i: usize,
-    start: Option<Pair>,
+    start: Option<W::State>,
 ) -> Option<u64>
-    requires ordered { i ≤ search.now.end }
-    requires within { search.now.end ≤ length search.now.march.now }
-    requires dead { AreDeadEnds (is_wanted search.now.wanted)
-        (machine_of search.now.prim.now) search.now.is_below search.now.march.now search.now.end dead_ends.old }
-    ensures word { result ≡ word_behind (word_to (is_wanted search.now.wanted)
-        (machine_of search.now.prim.now) search.now.is_below search.now.march.now i search.now.end) start }
-    ensures dead { AreDeadEnds (is_wanted search.now.wanted)
-        (machine_of search.now.prim.now) search.now.is_below search.now.march.now search.now.end dead_ends.new }
+    requires holds { W.Holds ways.now }
+    requires from { AreFrom (W.count ways.now) (W.from ways.now) }
+    requires within { i ≤ W.count ways.now }
+    requires dead { AreDead W.number (W.wanted ways.now) (W.lead ways.now) (W.from ways.now) dead_ends.old }
+    ensures word { result ≡ word_behind (word_by (W.wanted ways.now) (W.lead ways.now) i (W.from ways.now i)) start }
+    ensures dead { AreDead W.number (W.wanted ways.now) (W.lead ways.now) (W.from ways.now) dead_ends.new }
     ensures kept { StaysDead dead_ends.old dead_ends.new }
-    ensures noted { result ≡ None → i < search.now.end → (q : Pair) → start ≡ Some q → is_dead dead_ends.new i (pair_number q) ≡ true }
+    ensures noted { result ≡ None → i < W.count ways.now → (q : W.State) → start ≡ Some q → is_dead dead_ends.new i (W.number q) ≡ true }
 {
-    let pair = start?;
-    if i >= search.end {
-        return if is_wanted(search.wanted, pair) {
-            Some(0)
-        } else {
-            None
-        };
+    let state = start?;
+    if i >= ways.count() {
+        return if ways.is_wanted(state) { Some(0) } else { None };
     }
-    search.march.known();
-    if dead_ends.has(i, number_of(pair)) {
+    if dead_ends.has(i, ways.number(state)) {
         return None;
     }
-    let up = end_of(search.prim, search.is_below, search.march, i, pair, false);
-    if let Some(word) = word_from(search, dead_ends, i + 1, up) {
+    let up = ways.lead(i, state, false);
+    if let Some(word) = word_from(ways, dead_ends, i + 1, up) {
         return Some(word);
     }
-    let down = end_of(search.prim, search.is_below, search.march, i, pair, true);
-    if let Some(word) = word_from(search, dead_ends, i + 1, down) {
+    let down = ways.lead(i, state, true);
+    if let Some(word) = word_from(ways, dead_ends, i + 1, down) {
         return Some(weight_of(i) + word);
     }
-    dead_ends.insert(i, number_of(pair));
+    dead_ends.insert(i, ways.number(state));
     None
 }

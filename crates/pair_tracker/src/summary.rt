@@ -6,11 +6,14 @@ ghost use Rattle.pair_tracker.specs.Placements.{FitsPlacement, pair_in};
 ghost use Rattle.pair_tracker.specs.Tracking.{is_below};
 ghost use Rattle.pair_tracker.specs.Survivors.{AreSurvivors, IsLeastWord, pair_number};
 ghost use Rattle.pair_tracker.specs.Legs.{SumsUp, AreLegEnds, ends_from};
-ghost use Rattle.pair_tracker.specs.Pairs.{machine_of};
-ghost use Rattle.pair_tracker.specs.Reached.{is_wanted, word_to, is_dead, StaysDead, AreDeadEnds, KnowsOf};
+ghost use Rattle.pair_tracker.specs.Pairs.{machine_of, sides_in};
+ghost use Rattle.pair_tracker.specs.Reached.{is_wanted, word_to, AreDeadEnds, KnowsOf};
+ghost use Rattle.pair_tracker.specs.DeadEnds.{is_dead, StaysDead};
 
+use crate::march_search::word_between;
+use crate::pair_cells::Cells;
 use crate::placement::{Placement, Survivor};
-use crate::search::{DeadEnds, Search, word_from};
+use crate::search::DeadEnds;
 use arrayvec::ArrayVec;
 use cell_machine::{Pair, close};
 use fault_core::Prim;
@@ -125,23 +128,21 @@ impl<'a> Summary<'a> {
 
     /// The least direction word that leads from a start to an end, or to any.
     fn word(&self, start: Pair, wanted: Option<Pair>, dead_ends: &mut DeadEnds) -> Option<u64>
-        requires { AreDeadEnds (is_wanted wanted) (machine_of self.now.prim)
-            (is_below self.now.placement) self.now.march self.now.end dead_ends.old }
+        requires { AreDeadEnds pair_number (is_wanted wanted) (machine_of self.now.prim)
+            (sides_in (is_below self.now.placement)) self.now.march self.now.end dead_ends.old }
         ensures word { result ≡ word_to (is_wanted wanted) (machine_of self.now.prim)
-            (is_below self.now.placement) self.now.march self.now.first self.now.end start }
-        ensures dead { AreDeadEnds (is_wanted wanted) (machine_of self.now.prim)
-            (is_below self.now.placement) self.now.march self.now.end dead_ends.new }
+            (sides_in (is_below self.now.placement)) self.now.march self.now.first self.now.end start }
+        ensures dead { AreDeadEnds pair_number (is_wanted wanted) (machine_of self.now.prim)
+            (sides_in (is_below self.now.placement)) self.now.march self.now.end dead_ends.new }
         ensures kept { StaysDead dead_ends.old dead_ends.new }
         ensures noted { result ≡ None → self.now.first < self.now.end → is_dead dead_ends.new self.now.first (pair_number start) ≡ true }
     {
-        let search = Search {
-            march: self.march,
+        let cells = Cells {
             prim: &self.prim,
             is_below: is_below(self.placement),
-            end: self.end,
             wanted,
         };
-        word_from(&search, dead_ends, self.first, Some(start))
+        word_between(&cells, self.march, dead_ends, self.first, self.end, start)
     }
 
     /// The final pairs that the elements lead to from this start with no read that differs: each once, with the least

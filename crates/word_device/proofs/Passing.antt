@@ -11,7 +11,7 @@ use Rattle.march_core.specs.Runs.{upward, is_write, data_value}
 use Rattle.march_core.specs.inner.Scan.{after_op, is_right, scan_of}
 use Rattle.march_core.specs.Visits.{Visit, cell_visits, address_visits, addresses}
 use Rattle.march_core.proofs.Consistent.{consistent_scan, last_after}
-use Rattle.pair_tracker.proofs.Projection.{right_first, scan_parts}
+use Rattle.pair_tracker.proofs.Few.{right_first, scan_parts}
 use Rattle.pair_tracker.proofs.Sides.{contains, Distinct, AllBelow, addresses_distinct, addresses_below, addresses_all}
 use Rattle.backgrounds.specs.Backgrounds.{word_of}
 use Rattle.memory_desc.specs.Descriptions.{Description}

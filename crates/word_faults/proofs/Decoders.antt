@@ -1,5 +1,5 @@
 -- A fault of the decoder of words is, at each bit, that fault of the decoder of cells.
-use Rattle.std.proofs.Common.{◌≡◌, ◌≢◌, ◌<◌, ◌≤◌, ◌^◌, ◌%◌, ◌==◌, ℕ, IsTrue, nat_lt, Bool, true, false, Option, Some, None, List, length, refl, ap, sym, subst, ◌∙◌, arith, min, max, zero, suc}
+use Rattle.std.proofs.Common.{◌≡◌, ◌≢◌, ◌<◌, ◌≤◌, ◌^◌, ◌%◌, ◌==◌, ℕ, IsTrue, Bool, true, false, Option, Some, None, List, length, refl, ap, sym, subst, ◌∙◌, arith, min, max, zero, suc}
 use Rattle.std.specs.Prelude.{if◌then◌else◌, ◌&&◌, ◌||◌, slice_set, slice_index}
 use Rattle.std.specs.Int.{bit_at}
 use Rattle.std.proofs.lemmas.List.{length-set}
@@ -22,12 +22,8 @@ use Rattle.decoder_faults.specs.declared.fault.Wired.TheVariants.{And, Or, Own}
 use Rattle.decoder_faults.specs.declared.fault.DecoderFault.{DecoderFault}
 use Rattle.decoder_faults.specs.Decoding.{AddressPair, FitsPair, HasFault, Decoder, Reach, no_cell, one_cell, two_cells, wired_bit, write_through, read_through, act_through, answer_through}
 use Rattle.decoder_faults.specs.Detection.{cells_behind, is_wrong_there, IsCaught, DetectsDecoder}
-use Rattle.decoder_faults.specs.inner.Pairs.{machine_of}
-use Rattle.decoder_faults.proofs.Seen.{seen}
-use Rattle.decoder_faults.proofs.Among.{caught_among}
-use Rattle.decoder_faults.proofs.EverySize.{passes_where}
+use Rattle.decoder_faults.proofs.EverySize.{own_run, passes_where, caught_among}
 use Rattle.cell_machine.specs.declared.pair.Pair.{Pair}
-use Rattle.pair_tracker.specs.Pairs.{pair_run}
 use Rattle.word_faults.specs.Laws.{DecoderFails}
 use Rattle.word_faults.specs.Decoders.{write_words, wired_words, read_words, decoded}
 use Rattle.word_faults.proofs.Memories.{IsLawful}
@@ -132,11 +128,11 @@ among : (march : List MarchElement) (fault : DecoderFault) → IsMarch march →
     (at : AddressPair) (content : List Bool) → IsTrue (is_direction march directions) → FitsPair at size → HasFault decoder fault at size → length content ≡ size
     → IsCaught march directions decoder content
 among march fault is size two detects directions decoder at content fits places has count =
-    go (pair_run (machine_of fault) (nat_lt at.x at.y) (seen at content) march directions) refl
+    go (own_run fault at march directions content) refl (subst (FitsPair at) (sym count) places) (subst (HasFault decoder fault at) (sym count) has)
   where
-    go : (r : Option Pair) → pair_run (machine_of fault) (nat_lt at.x at.y) (seen at content) march directions ≡ r → IsCaught march directions decoder content
-    go None e = caught_among decoder fault at size places has march directions content count e
-    go (Some q) e = absurd (passes_where fault at size places march directions content is count q e (detects size two directions at content fits places count))
+    go : (r : Option Pair) → own_run fault at march directions content ≡ r → FitsPair at (length content) → HasFault decoder fault at (length content) → IsCaught march directions decoder content
+    go None e within there = caught_among fault at march is directions content within decoder there e
+    go (Some q) e within there = absurd (passes_where fault at march is directions content within q e (detects size two directions at content fits places count))
 
 pub decoder_fails : (march : List MarchElement) (d : Description) → IsMarch march → IsMemory d → DecoderFails march d
 decoder_fails march d marches is mo test forms fault detected m at decoder has places fault_is =

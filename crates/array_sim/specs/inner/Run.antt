@@ -1,11 +1,10 @@
 -- Inner. For proofs and private contracts alone, beside Run: a run of the steps of a march on an array with one instance of a primitive.
-use Rattle.std.specs.Prelude.{Bool, if◌then◌else◌, Option, Some, None, List, [], ◌∷◌, length}
+use Rattle.std.specs.Prelude.{Bool, if◌then◌else◌, Option, Some, None, List, [], ◌∷◌}
 use Rattle.fault_core.specs.declared.cells.Places.{Places}
 use Rattle.fault_core.specs.Primitive.{Primitive}
-use Rattle.fault_core.specs.Cells.{close_of, step_cells, step_answer, pause_cells}
-use Rattle.march_core.specs.March.{MarchElement}
+use Rattle.fault_core.specs.Cells.{step_cells, step_answer, pause_cells}
 use Rattle.march_core.specs.Operation.{is_wrong_of}
-use Rattle.march_core.specs.Visits.{MarchStep, pausing, visiting, miss_at, Direction, visits}
+use Rattle.march_core.specs.Visits.{MarchStep, pausing, visiting, miss_at}
 use Rattle.march_core.specs.declared.visit.Miss.{Miss}
 use Rattle.array_sim.specs.Run.{act_of}
 
@@ -22,7 +21,3 @@ run_of p at cells (visiting v ∷ steps) =
     if is_wrong_of v.op (step_answer p at cells v.address (act_of v.op))
     then (record { cells = step_cells p at cells v.address (act_of v.op); miss = Some (miss_at v) })
     else run_of p at (step_cells p at cells v.address (act_of v.op)) steps
-
--- a march in these directions on this content, which is closed first
-abbrev pub outcome_of : List MarchElement → List Direction → Primitive → Places → List Bool → Outcome
-outcome_of march directions p at content = run_of p at (close_of p at content) (visits march directions (length content))

@@ -6,7 +6,7 @@ use Rattle.cell_machine.specs.declared.pair.Pair.{Pair}
 use Rattle.cell_machine.specs.declared.pair.Side.{Side}
 use Rattle.cell_machine.specs.declared.pair.Side.TheVariants.{A, V}
 use Rattle.cell_machine.specs.Pairs.{pair_of, bit_on, written_on}
-use Rattle.pair_tracker.specs.Pairs.{Machine}
+use Rattle.pair_tracker.specs.Few.{Machine}
 use Rattle.decoder_faults.specs.declared.fault.DecoderFault.{DecoderFault}
 use Rattle.decoder_faults.specs.declared.fault.DecoderFault.TheVariants.{NoCell, OtherCell, BothCells, TakenCell}
 use Rattle.decoder_faults.specs.declared.pair.SideReach.{SideReach}
@@ -41,11 +41,10 @@ abbrev pub pair_reply : SideReach → Pair → Act → Option Bool
 pair_reply reach q Read = Some (pair_read reach q)
 pair_reply reach q other = None
 
-abbrev pub machine_of : DecoderFault → Machine
-machine_of fault =
-    record {
-      step = λ q on act. pair_act (side_reach fault on) q act;
-      answer = λ q on act. pair_reply
-          (side_reach fault on) q act;
-      pause = λ q. q;
-    }
+abbrev pub machine_of : DecoderFault → Machine Pair Side
+machine_of fault = record {
+  step = λ q on act. pair_act (side_reach fault on) q act;
+  answer = λ q on act. pair_reply (side_reach fault on) q act;
+  other = λ q. q;
+  pause = λ q. q;
+}

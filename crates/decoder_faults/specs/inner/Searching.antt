@@ -1,12 +1,13 @@
 -- Inner. Only helps proofs: what the search for the least escape finds where x has the lower address, or the higher.
-use Rattle.std.specs.Prelude.{◌≡◌, ◌<◌, ℕ, Bool, true, false, None, Some, List, length}
+use Rattle.std.specs.Prelude.{◌≡◌, ◌<◌, ℕ, Bool, true, false, Some, List, length}
 use Rattle.march_core.specs.March.{MarchElement}
 use Rattle.cell_machine.specs.declared.pair.Pair.{Pair}
 use Rattle.cell_machine.specs.Seen.{pair_at}
 use Rattle.pair_tracker.specs.declared.search.DeadEnds.{DeadEnds}
-use Rattle.pair_tracker.specs.Reached.{is_wanted, AreDeadEnds}
-use Rattle.pair_tracker.specs.Survivors.{IsLeastOf}
-use Rattle.pair_tracker.specs.Tracking.{LeadsTo}
+use Rattle.pair_tracker.specs.Pairs.{sides_in}
+use Rattle.pair_tracker.specs.Reached.{AreDeadEnds}
+use Rattle.pair_tracker.specs.Survivors.{IsLeastOf, pair_number}
+use Rattle.pair_tracker.specs.Tracking.{any_end, GetsThrough}
 use Rattle.escape_array.specs.Escapes.{content_number}
 use Rattle.decoder_faults.specs.declared.fault.DecoderFault.{DecoderFault}
 use Rattle.decoder_faults.specs.declared.escape.DecoderEscape.{DecoderEscape}
@@ -24,12 +25,11 @@ start_in below content = let at : AddressPair = addresses_in below in pair_at co
 
 -- no read differs in the directions of a word
 abbrev pub LetsThrough : List MarchElement → DecoderFault → Bool → List Bool → ℕ → Type 0
-LetsThrough march fault below content word =
-    LeadsTo (is_wanted None) (machine_of fault) below march 0 (length march) (start_in below content) word
+LetsThrough march fault below content word = GetsThrough (machine_of fault) (sides_in below) march (start_in below content) word
 
 -- what a search has found out
 abbrev pub KnowsOf : List MarchElement → DecoderFault → Bool → DeadEnds → Type 0
-KnowsOf march fault below dead = AreDeadEnds (is_wanted None) (machine_of fault) below march (length march) dead
+KnowsOf march fault below dead = AreDeadEnds pair_number any_end (machine_of fault) (sides_in below) march (length march) dead
 
 -- no content before this one is let through
 abbrev pub NoneBefore : List MarchElement → DecoderFault → Bool → ℕ → Type 0

@@ -1,10 +1,12 @@
 -- Inner. Only helps proofs: the tables of the elements of a march, in which the code looks up where each leads.
-use Rattle.std.specs.Prelude.{◌≡◌, ◌+◌, ◌*◌, ℕ, Bool, true, false, if◌then◌else◌, Option, Some, None, List, [], ◌∷◌, slice_index_or}
+use Rattle.std.specs.Prelude.{◌≡◌, ◌+◌, ◌*◌, ℕ, Bool, true, false, if◌then◌else◌, Option, Some, None, List, [], ◌∷◌, drop, slice_index_or}
 use Rattle.std.specs.Option.{option_and_then, option_map}
 use Rattle.march_core.specs.March.{MarchElement}
 use Rattle.march_core.specs.Visits.{Direction, Upward, Downward, allows}
 use Rattle.cell_machine.specs.declared.pair.Side.{Side}
 use Rattle.cell_machine.specs.declared.pair.Side.TheVariants.{A, V}
+use Rattle.pair_tracker.specs.declared.search.DeadEnds.{DeadEnds}
+use Rattle.pair_tracker.specs.DeadEnds.{AreDead}
 use Rattle.dynamic_core.specs.Primitive.{DynamicPrimitive}
 use Rattle.dynamic_prover.specs.declared.own_cells.OwnCells.{OwnCells}
 use Rattle.dynamic_prover.specs.declared.shape.Shape.{Shape}
@@ -12,6 +14,7 @@ use Rattle.dynamic_prover.specs.declared.leg.SweepLeg.{SweepLeg}
 use Rattle.dynamic_prover.specs.declared.leg.Leg.{Leg}
 use Rattle.dynamic_prover.specs.declared.leg.Leg.TheVariants.{Pause, Sweep}
 use Rattle.dynamic_prover.specs.inner.Own.{disarmed}
+use Rattle.dynamic_prover.specs.inner.Ways.{any_end}
 use Rattle.dynamic_prover.specs.inner.Shapes.{in_direction, end_in}
 
 abbrev pub bit_number : Bool → ℕ
@@ -56,3 +59,7 @@ AreLegs p [] [] = Unit {0}
 AreLegs p [] (l ∷ ls) = ⊥
 AreLegs p (e ∷ es) [] = ⊥
 AreLegs p (e ∷ es) (l ∷ ls) = IsLeg p e l × AreLegs p es ls
+
+-- what a search has found out of a shape
+abbrev pub KnowsOf : Shape → List Leg → DeadEnds → Type 0
+KnowsOf shape legs dead = AreDead own_number any_end (leg_end shape) (λ i. drop i legs) dead

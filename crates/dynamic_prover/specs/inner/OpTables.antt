@@ -6,7 +6,8 @@ use Rattle.cell_machine.specs.declared.pair.Side.{Side}
 use Rattle.dynamic_core.specs.Primitive.{DynamicPrimitive}
 use Rattle.dynamic_prover.specs.declared.own_cells.OwnCells.{OwnCells}
 use Rattle.dynamic_prover.specs.declared.op_table.OpTable.{OpTable}
-use Rattle.dynamic_prover.specs.inner.Own.{own_run}
+use Rattle.pair_tracker.specs.Few.{ops_run}
+use Rattle.dynamic_prover.specs.inner.Own.{machine_of}
 use Rattle.dynamic_prover.specs.inner.Legs.{end_from}
 
 abbrev pub ends_by : OpTable → Op → List (Option OwnCells)
@@ -17,4 +18,4 @@ ends_by t R1 = t.read_1
 
 -- a table leads where each operation on this cell leads
 abbrev pub IsOpTable : DynamicPrimitive → Side → OpTable → Type 0
-IsOpTable p s t = (op : Op) (q : OwnCells) → end_from (ends_by t op) q ≡ own_run p q s (op ∷ [])
+IsOpTable p s t = (op : Op) (q : OwnCells) → end_from (ends_by t op) q ≡ ops_run (machine_of p) q s (op ∷ [])

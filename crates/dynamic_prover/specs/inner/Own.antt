@@ -1,16 +1,14 @@
 -- Inner. Only helps proofs: what an instance of a dynamic primitive does to its own two cells.
-use Rattle.std.specs.Prelude.{Bool, true, false, ◌&&◌, if◌then◌else◌, Option, Some, None, List, [], ◌∷◌}
+use Rattle.std.specs.Prelude.{Bool, true, false, ◌&&◌, if◌then◌else◌, Option, Some, None}
 use Rattle.fault_core.specs.declared.primitive.Act.{Act}
 use Rattle.fault_core.specs.declared.cells.Places.{Places}
 use Rattle.fault_core.specs.Primitive.{same_bit}
 use Rattle.fault_core.specs.Cells.{same_act, answer_or}
-use Rattle.march_core.specs.declared.operation.Op.{Op}
-use Rattle.march_core.specs.Operation.{is_wrong_of}
-use Rattle.array_sim.specs.Run.{act_of}
 use Rattle.cell_machine.specs.declared.pair.Pair.{Pair}
 use Rattle.cell_machine.specs.declared.pair.Side.{Side}
 use Rattle.cell_machine.specs.declared.pair.Side.TheVariants.{A, V}
 use Rattle.cell_machine.specs.Pairs.{with_victim, bit_on, plain_pair, plain_reply}
+use Rattle.pair_tracker.specs.Few.{Machine}
 use Rattle.dynamic_core.specs.Primitive.{TwoActs, DynamicSense, DynamicPrimitive, left_by, has_aggressor}
 use Rattle.dynamic_prover.specs.declared.own_cells.OwnCells.{OwnCells}
 
@@ -78,15 +76,18 @@ own_step p q s act = own_where p (own_matches (own_actor_of p) q.armed s act) q.
 abbrev pub own_answer : DynamicPrimitive → OwnCells → Side → Act → Option Bool
 own_answer p q s act = reply_where p (own_matches (own_actor_of p) q.armed s act) q.pair s act
 
--- the operations on one of the two cells, unless a read differs
-abbrev pub own_run : DynamicPrimitive → OwnCells → Side → List Op → Option OwnCells
-own_run p q s [] = Some q
-own_run p q s (op ∷ ops) =
-    if is_wrong_of op (own_answer p q s (act_of op)) then None else own_run p (own_step p q s (act_of op)) s ops
-
 -- nothing is armed
 abbrev pub disarmed : OwnCells → OwnCells
 disarmed q = own_as q.pair false
+
+-- what an instance makes of its own two cells; an act on another cell and a pause leave nothing armed
+abbrev pub machine_of : DynamicPrimitive → Machine OwnCells Side
+machine_of p = record {
+  step = λ q s act. own_step p q s act;
+  answer = λ q s act. own_answer p q s act;
+  other = λ q. disarmed q;
+  pause = λ q. disarmed q;
+}
 
 -- where an instance stands in an array of its two cells alone: the aggressor, or a bystander, comes first
 abbrev pub two_places : DynamicPrimitive → Places

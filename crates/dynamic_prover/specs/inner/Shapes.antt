@@ -1,16 +1,16 @@
 -- Inner. Only helps proofs: the shape of an array with one instance, which alone decides. It is the order of the instance's cells, and whether any
 -- other cell lies below or above both.
 use Rattle.std.specs.Prelude.{◌-◌, ℕ, zero, suc, Bool, true, false, if◌then◌else◌, nat_lt, Option, Some, None, List, [], ◌∷◌, ◌++◌}
-use Rattle.std.specs.Option.{option_and_then}
-use Rattle.march_core.specs.declared.operation.Op.{Op}
-use Rattle.march_core.specs.March.{MarchElement, pause, sweep, order_of}
-use Rattle.march_core.specs.Visits.{Direction, Upward, Downward, allows}
+use Rattle.march_core.specs.March.{MarchElement}
+use Rattle.march_core.specs.Visits.{Direction, Upward, Downward}
 use Rattle.cell_machine.specs.declared.pair.Side.{Side}
 use Rattle.cell_machine.specs.declared.pair.Side.TheVariants.{A, V}
 use Rattle.dynamic_core.specs.Primitive.{DynamicPrimitive}
 use Rattle.dynamic_prover.specs.declared.own_cells.OwnCells.{OwnCells}
 use Rattle.dynamic_prover.specs.declared.shape.Shape.{Shape}
-use Rattle.dynamic_prover.specs.inner.Own.{own_run, disarmed}
+use Rattle.pair_tracker.specs.Few.{Order, end_of}
+use Rattle.pair_tracker.specs.Ways.{Leading}
+use Rattle.dynamic_prover.specs.inner.Own.{machine_of}
 
 abbrev pub is_some_cell : ℕ → Bool
 is_some_cell zero = false
@@ -51,28 +51,10 @@ one_more (Some s) = Some s ∷ []
 abbrev pub tags_of : Shape → List (Option Side)
 tags_of s = other_cells s.below ++ Some s.first ∷ (one_more s.second ++ other_cells s.above)
 
--- operations on other cells leave nothing armed
-abbrev pub passed : List Op → OwnCells → OwnCells
-passed [] q = q
-passed (op ∷ ops) q = disarmed q
-
--- the operations on each of these cells in turn, unless a read differs
-abbrev pub tags_run : DynamicPrimitive → OwnCells → List (Option Side) → List Op → Option OwnCells
-tags_run p q [] ops = Some q
-tags_run p q (None ∷ ts) ops = tags_run p (passed ops q) ts ops
-tags_run p q (Some s ∷ ts) ops = option_and_then (λ r. tags_run p r ts ops) (own_run p q s ops)
-
--- one element in a direction
-abbrev pub element_run : DynamicPrimitive → Shape → MarchElement → OwnCells → Direction → Option OwnCells
-element_run p shape pause q d = Some (disarmed q)
-element_run p shape (sweep order ops) q d = tags_run p q (tags_of (in_direction d shape)) ops
+-- the order in which a direction visits the cells of a shape
+abbrev pub order_of : Shape → Order Side
+order_of s d = tags_of (in_direction d s)
 
 -- where an element leads in a direction, if its order leaves that open and no read differs
-abbrev pub end_in : DynamicPrimitive → Shape → MarchElement → OwnCells → Direction → Option OwnCells
-end_in p shape e q d = if allows (order_of e) d then element_run p shape e q d else None
-
--- the elements one after another
-abbrev pub shape_run : DynamicPrimitive → Shape → OwnCells → List MarchElement → List Direction → Option OwnCells
-shape_run p shape q [] ds = Some q
-shape_run p shape q (e ∷ es) [] = Some q
-shape_run p shape q (e ∷ es) (d ∷ ds) = option_and_then (λ r. shape_run p shape r es ds) (element_run p shape e q d)
+abbrev pub end_in : DynamicPrimitive → Shape → Leading OwnCells MarchElement
+end_in p shape e q d = end_of (machine_of p) (order_of shape) e q d

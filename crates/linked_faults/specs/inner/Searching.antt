@@ -1,38 +1,25 @@
 -- Inner. Only helps proofs: what the search for the least escape finds.
-use Rattle.std.specs.Prelude.{◌≡◌, ◌<◌, ◌==◌, ℕ, Bool, true, false, if◌then◌else◌, Option, Some, None, List, length}
+use Rattle.std.specs.Prelude.{◌≡◌, ◌<◌, ◌==◌, ℕ, Bool, true, false, if◌then◌else◌, Some, List, length}
 use Rattle.fault_core.specs.Primitive.{has_aggressor}
 use Rattle.march_core.specs.March.{MarchElement}
-use Rattle.march_core.specs.Visits.{directions_of, is_direction}
 use Rattle.pair_tracker.specs.declared.search.DeadEnds.{DeadEnds}
-use Rattle.pair_tracker.specs.Legs.{elements_between}
-use Rattle.pair_tracker.specs.Reached.{is_dead}
+use Rattle.pair_tracker.specs.Reached.{AreDeadEnds}
 use Rattle.pair_tracker.specs.Survivors.{IsLeastOf}
-use Rattle.pair_tracker.specs.Tracking.{IsSpanWord}
-use Rattle.pair_tracker.specs.Ways.{word_by}
+use Rattle.pair_tracker.specs.Tracking.{any_end, GetsThrough}
 use Rattle.linked_faults.specs.declared.link.Link.{Link}
 use Rattle.linked_faults.specs.declared.link.Spots.{Spots}
 use Rattle.linked_faults.specs.declared.three.Three.{Three}
 use Rattle.linked_faults.specs.declared.escape.LinkEscape.{LinkEscape}
 use Rattle.linked_faults.specs.Escapes.{three_number, has_other}
-use Rattle.linked_faults.specs.inner.Threes.{three_run, end_of}
-
-abbrev pub any_end : Three → Bool
-any_end q = true
-
--- the least word of the elements from i on that leads from a state to the end
-abbrev pub word_to : Link → Spots → List MarchElement → ℕ → Three → Option ℕ
-word_to link at march i start = word_by any_end (end_of link at) i (elements_between march i (length march)) start
+use Rattle.linked_faults.specs.inner.Threes.{machine_of, cells_in}
 
 -- what is known to lead nowhere does
 abbrev pub KnowsOf : List MarchElement → Link → Spots → DeadEnds → Type 0
-KnowsOf march link at dead = (i : ℕ) (q : Three) → is_dead dead i (three_number q) ≡ true → word_to link at march i q ≡ None
+KnowsOf march link at dead = AreDeadEnds three_number any_end (machine_of link at) cells_in march (length march) dead
 
 -- no read differs in the directions of a word
-pub record LetsThrough (march : List MarchElement) (link : Link) (at : Spots) (content : Three) (word : ℕ) : Type 0 where
-  pub end : Three
-  pub span : IsSpanWord 0 (length march) word
-  pub allowed : is_direction march (directions_of word (length march)) ≡ true
-  pub ends : three_run link at content march (directions_of word (length march)) ≡ Some end
+abbrev pub LetsThrough : List MarchElement → Link → Spots → Three → ℕ → Type 0
+LetsThrough march link at content word = GetsThrough (machine_of link at) cells_in march content word
 
 -- the places of three cells in an array of three
 abbrev pub spots_at : ℕ → ℕ → ℕ → Spots

@@ -1,16 +1,14 @@
 -- Inner. Only helps proofs: three cells of an array, and a march on three cells alone.
-use Rattle.std.specs.Prelude.{Bool, if◌then◌else◌, ℕ, Option, Some, None, List, [], ◌∷◌}
-use Rattle.std.specs.Option.{option_and_then}
+use Rattle.std.specs.Prelude.{Bool, ℕ, Option, Some, List, [], ◌∷◌}
 use Rattle.fault_core.specs.declared.primitive.Act.{Act}
 use Rattle.fault_core.specs.Cells.{cell}
-use Rattle.march_core.specs.declared.operation.Op.{Op}
-use Rattle.march_core.specs.March.{MarchElement, pause, sweep, order_of}
-use Rattle.march_core.specs.Visits.{Direction, Upward, Downward, allows}
-use Rattle.march_core.specs.Operation.{is_wrong_of}
-use Rattle.array_sim.specs.Run.{act_of}
+use Rattle.march_core.specs.Visits.{Upward, Downward}
+use Rattle.pair_tracker.specs.Few.{Machine, Order}
 use Rattle.linked_faults.specs.declared.link.Link.{Link}
 use Rattle.linked_faults.specs.declared.link.Spots.{Spots}
 use Rattle.linked_faults.specs.declared.three.Three.{Three}
+use Rattle.linked_faults.specs.declared.three.Seat.{Seat}
+use Rattle.linked_faults.specs.declared.three.Seat.TheVariants.{Low, Mid, High}
 use Rattle.linked_faults.specs.Linking.{linked_cells, linked_answer, linked_pause}
 use Rattle.linked_faults.specs.Escapes.{cells_of}
 
@@ -35,31 +33,20 @@ answer_three link at q i act = linked_answer link at (cells_of q) i act
 abbrev pub pause_three : Link → Spots → Three → Three
 pause_three link at q = three_of (linked_pause link at (cells_of q))
 
--- the three cells after these operations on one of them, unless a read differs
-abbrev pub ops_run : Link → Spots → Three → ℕ → List Op → Option Three
-ops_run link at q i [] = Some q
-ops_run link at q i (op ∷ ops) =
-    if is_wrong_of op (answer_three link at q i (act_of op)) then None else ops_run link at (step_three link at q i (act_of op)) i ops
+abbrev pub seat_index : Seat → ℕ
+seat_index Low = 0
+seat_index Mid = 1
+seat_index High = 2
 
--- the operations on each of these cells in turn
-abbrev pub cells_run : Link → Spots → Three → List ℕ → List Op → Option Three
-cells_run link at q [] ops = Some q
-cells_run link at q (i ∷ is) ops = option_and_then (λ r. cells_run link at r is ops) (ops_run link at q i ops)
+-- what a linked fault makes of its three cells; an act on another cell leaves them
+abbrev pub machine_of : Link → Spots → Machine Three Seat
+machine_of link at = record {
+  step = λ q s act. step_three link at q (seat_index s) act;
+  answer = λ q s act. answer_three link at q (seat_index s) act;
+  other = λ q. q;
+  pause = λ q. pause_three link at q;
+}
 
-abbrev pub cells_in : Direction → List ℕ
-cells_in Upward = 0 ∷ 1 ∷ 2 ∷ []
-cells_in Downward = 2 ∷ 1 ∷ 0 ∷ []
-
-abbrev pub element_run : Link → Spots → Three → MarchElement → Direction → Option Three
-element_run link at q pause d = Some (pause_three link at q)
-element_run link at q (sweep order ops) d = cells_run link at q (cells_in d) ops
-
--- the elements one after another, each in its direction
-abbrev pub three_run : Link → Spots → Three → List MarchElement → List Direction → Option Three
-three_run link at q [] ds = Some q
-three_run link at q (e ∷ es) [] = Some q
-three_run link at q (e ∷ es) (d ∷ ds) = option_and_then (λ r. three_run link at r es ds) (element_run link at q e d)
-
--- the three cells after an element in a direction, where its order leaves that open and no read differs
-abbrev pub end_of : Link → Spots → MarchElement → Three → Direction → Option Three
-end_of link at e q d = if allows (order_of e) d then element_run link at q e d else None
+abbrev pub cells_in : Order Seat
+cells_in Upward = Some Low ∷ Some Mid ∷ Some High ∷ []
+cells_in Downward = Some High ∷ Some Mid ∷ Some Low ∷ []

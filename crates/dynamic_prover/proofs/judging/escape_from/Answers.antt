@@ -7,6 +7,7 @@ use Rattle.dynamic_prover.specs.inner.Own.{own_as}
 use Rattle.dynamic_prover.specs.inner.Ways.{any_end, can_pass, least_ways}
 use Rattle.dynamic_prover.specs.inner.Legs.{leg_end}
 use Rattle.dynamic_prover.specs.inner.Spots.{shape_at}
+use Rattle.dynamic_prover.proofs.Tables.{legs_from}
 use Rattle.dynamic_prover.proofs.judging.escape_from.Goals as goal
 
 pub returns-clause-escape : goal.returns-clause-escape
@@ -21,3 +22,6 @@ returns-clause-escape c =
       said.0,
       record { prim = refl; size = refl; agg = refl; vic = refl; content = c.content.ensures; directions = said.1 },
     )
+
+pub word_from-requires-clause-from : goal.word_from-requires-clause-from
+word_from-requires-clause-from c = legs_from c.args.legs.now c.requires.few

@@ -1,4 +1,4 @@
--- The pairs by their numbers.
+-- Inner. Only helps proofs: the pairs by their numbers.
 use Rattle.std.proofs.Common.{◌≡◌, ◌<◌, Bool, true, false, get_or, refl, ap, sym, ◌∙◌, arith}
 use Rattle.cell_machine.specs.declared.pair.Pair.{Pair}
 use Rattle.pair_tracker.specs.Survivors.{pair_number}
@@ -15,8 +15,8 @@ at_each_pair P w x y z q = go q.a q.v
     go true false = y
     go true true = z
 
-pub number_below : (q : Pair) → pair_number q < 4
-number_below q = at_each_pair (λ q. pair_number q < 4) (omega arith) (omega arith) (omega arith) (omega arith) q
+pub number_below : (q : Pair) → pair_number q < 8
+number_below q = at_each_pair (λ q. pair_number q < 8) (omega arith) (omega arith) (omega arith) (omega arith) q
 
 pub at_number : (q d : Pair) → get_or all_pairs (pair_number q) d ≡ q
 at_number q d = at_each_pair (λ q. get_or all_pairs (pair_number q) d ≡ q) refl refl refl refl q
