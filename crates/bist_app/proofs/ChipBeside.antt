@@ -13,11 +13,18 @@ use Rattle.word_device.proofs.Joint.{joint_fails, joint_passes}
 use Rattle.word_device.proofs.Marching.{begun_ready}
 use Rattle.chip_plan.specs.Groups.{start_of}
 use Rattle.chip_rtl.specs.ChipTree.{ChipTree}
-use Rattle.chip_rtl.specs.Together.{ChipCycle}
+use Rattle.chip_rtl.specs.ChipLaws.{AllTested, memories}
+use Rattle.chip_rtl.specs.Together.{IsChip, ChipCycle}
+use Rattle.chip_rtl.specs.TopFits.{AllFit}
+use Rattle.chip_rtl.specs.Tops.{top_ports}
 use Rattle.chip_rtl.specs.ChipTest.{ChipTest, UnitMeets, unit_values, words_of}
-use Rattle.word_device.specs.Chips.{closed_words}
+use Rattle.fault_core.specs.Primitive.{IsPrimitive}
+use Rattle.array_sim.specs.Detection.{Detects}
+use Rattle.word_device.specs.Chips.{FitsMemory, closed_words}
 use Rattle.bench.specs.Memories.{Memory, words_with}
+use Rattle.bench.specs.Beside.{HasWords}
 use Rattle.bench.proofs.Beside.{chip_of, chip_as}
+use Rattle.bist_app.proofs.ChipRuns.{chip_runs}
 use Rattle.bist_app.specs.ChipBeside.{unit_ports, IsBeside, UnitTests}
 
 -- ---- a memory that is at rest
@@ -133,38 +140,60 @@ module _ (c : ChipTree) (us : List TestUnit) (budget : ℕ) (groups : List ℕ) 
 -- ---- the test of a unit
 
 module _ (c : ChipTree) (us : List TestUnit) (budget : ℕ) (groups : List ℕ) (test : ChipTest c us budget groups) (i : ℕ) (u : TestUnit) (g : ℕ) (is_unit : slice_get us i ≡ Some u)
-    (is_group : slice_get groups i ≡ Some g) (is : IsMarch u.march) (mem : IsMemory u.memory) where
-  pub unit_tests : UnitTests c i u (start_of groups (lengths us) g)
+    (is_group : slice_get groups i ≡ Some g) (is : IsMarch u.march) (mem : IsMemory u.memory) (legal : IsChip c) (tested : AllTested c.units us) (fit : AllFit c.units)
+    (ports : c.top.ports ≡ top_ports (memories us)) (few : length us ≤ 16) where
+  plain_ends : (m : Memory (List ℕ)) → HasWords u.memory m → (cs : List ChipCycle) → IsBeside (words_with None) c i u.memory m cs
+      → (t : ℕ) → start_of groups (lengths us) g + test_length u ≤ t → t < length cs → (unit_ports i cs t).fail ≡ false
   unfolding s d q memory
+  plain_ends m has cs run t late h =
+      let start = start_of groups (lengths us) g in
+      let last = t - start in
+      let on : start + last ≡ t = omega arith in
+      let plain = at_start (shape_of u.memory) (IsPlain u.memory) (plain_still u.memory) (unit_ports i cs) (chip_of None m) start
+      (λ k l. idle c us budget groups test i u g is_unit is_group None m cs run k (omega arith) l) (record { words = has.words; planted = refl }) in
+      let ends = joint_passes u.march u.memory is mem (chip_at (shape_of u.memory) (chip_of None m) (unit_ports i cs) start) (λ j. unit_ports i cs (start + j))
+      (λ j. words_of run.inputs i (start + j)) last plain
+      (joined c us budget groups test i u g is_unit is_group None m cs run has.under_way last (omega arith) (omega arith)) in
+      ap (λ k. (unit_ports i cs k).fail) (sym on) ∙ ends.passes
+
+  planted_ends : (m : Memory (List ℕ)) (planted : Planted) → HasWords u.memory m → IsPrimitive planted.prim → Detects u.march planted.prim
+      → FitsMemory planted u.memory.words u.memory.bits → (cs : List ChipCycle)
+      → IsBeside (words_with (Some planted)) c i u.memory (record m { state = closed_words planted m.state }) cs
+      → (t : ℕ) → start_of groups (lengths us) g + test_length u ≤ t → t < length cs → (unit_ports i cs t).fail ≡ true
+  unfolding s d q memory
+  planted_ends m planted has prim detects fits cs run t late h =
+      let start = start_of groups (lengths us) g in
+      let last = t - start in
+      let on : start + last ≡ t = omega arith in
+      let closed : Memory (List ℕ) = record m { state = closed_words planted m.state } in
+      let inside : planted.vic.word < length m.state = subst (λ (n : ℕ). planted.vic.word < n) (sym has.words) fits.word in
+      let first : HasDetected u.march u.memory planted (chip_of (Some planted) closed) = record {
+        words = length-closed_words planted m.state ∙ has.words;
+        planted = refl;
+        primitive = prim;
+        places = fits;
+        closed = closed_twice planted m.state prim inside;
+        detected = detects u.memory.words mem.words_low;
+      } in
+      let found = at_start (shape_of u.memory) (HasDetected u.march u.memory planted) (detected_still u.march u.memory planted) (unit_ports i cs) (chip_of (Some planted) closed) start
+      (λ k l. idle c us budget groups test i u g is_unit is_group (Some planted) closed cs run k (omega arith) l) first in
+      let ends = joint_fails u.march u.memory mem (chip_at (shape_of u.memory) (chip_of (Some planted) closed) (unit_ports i cs) start) planted (λ j. unit_ports i cs (start + j))
+      (λ j. words_of run.inputs i (start + j)) last found
+      (joined c us budget groups test i u g is_unit is_group (Some planted) closed cs run has.under_way last (omega arith) (omega arith)) in
+      ap (λ k. (unit_ports i cs k).fail) (sym on) ∙ ends.fail
+
+  pub unit_tests : UnitTests c i u (start_of groups (lengths us) g)
   unit_tests = record {
-    passes = λ m has cs run t late h.
-        let start = start_of groups (lengths us) g in
-        let last = t - start in
-        let on : start + last ≡ t = omega arith in
-        let plain = at_start (shape_of u.memory) (IsPlain u.memory) (plain_still u.memory) (unit_ports i cs) (chip_of None m) start
-        (λ k l. idle c us budget groups test i u g is_unit is_group None m cs run k (omega arith) l) (record { words = has.words; planted = refl }) in
-        let ends = joint_passes u.march u.memory is mem (chip_at (shape_of u.memory) (chip_of None m) (unit_ports i cs) start) (λ j. unit_ports i cs (start + j))
-        (λ j. words_of run.inputs i (start + j)) last plain
-        (joined c us budget groups test i u g is_unit is_group None m cs run has.under_way last (omega arith) (omega arith)) in
-        ap (λ k. (unit_ports i cs k).fail) (sym on) ∙ ends.passes;
-    fails = λ m planted has prim detects fits cs run t late h.
-        let start = start_of groups (lengths us) g in
-        let last = t - start in
-        let on : start + last ≡ t = omega arith in
+    passes = λ m has. record {
+      runs = λ registers rdata others count starts low.
+          chip_runs c us budget groups test legal tested fit ports few i u is_unit (words_with None) m registers rdata others count starts low;
+      ends = plain_ends m has;
+    };
+    fails = λ m planted has prim detects fits.
         let closed : Memory (List ℕ) = record m { state = closed_words planted m.state } in
-        let inside : planted.vic.word < length m.state = subst (λ (n : ℕ). planted.vic.word < n) (sym has.words) fits.word in
-        let first : HasDetected u.march u.memory planted (chip_of (Some planted) closed) = record {
-          words = length-closed_words planted m.state ∙ has.words;
-          planted = refl;
-          primitive = prim;
-          places = fits;
-          closed = closed_twice planted m.state prim inside;
-          detected = detects u.memory.words mem.words_low;
-        } in
-        let found = at_start (shape_of u.memory) (HasDetected u.march u.memory planted) (detected_still u.march u.memory planted) (unit_ports i cs) (chip_of (Some planted) closed) start
-        (λ k l. idle c us budget groups test i u g is_unit is_group (Some planted) closed cs run k (omega arith) l) first in
-        let ends = joint_fails u.march u.memory mem (chip_at (shape_of u.memory) (chip_of (Some planted) closed) (unit_ports i cs) start) planted (λ j. unit_ports i cs (start + j))
-        (λ j. words_of run.inputs i (start + j)) last found
-        (joined c us budget groups test i u g is_unit is_group (Some planted) closed cs run has.under_way last (omega arith) (omega arith)) in
-        ap (λ k. (unit_ports i cs k).fail) (sym on) ∙ ends.fail;
+        record {
+          runs = λ registers rdata others count starts low.
+              chip_runs c us budget groups test legal tested fit ports few i u is_unit (words_with (Some planted)) closed registers rdata others count starts low;
+          ends = planted_ends m planted has prim detects fits;
+        };
   }

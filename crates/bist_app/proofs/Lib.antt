@@ -35,6 +35,7 @@ pub mod TakenNames
 pub mod ChipTexts
 pub mod ChipChecks
 pub mod OneChip
+pub mod ChipRuns
 pub mod ChipBeside
 pub mod TestedChip
 pub mod Conforming

@@ -8,10 +8,9 @@ use Rattle.memory_desc.proofs.OneOutcome.{reads_one as one_memory}
 use Rattle.chip_desc.specs.ChipTable.{Reads as ReadsChip}
 use Rattle.chip_desc.proofs.OneText.{reads_one as one_chip}
 use Rattle.bist_app.specs.Headline.{Only, InputHas}
-use Rattle.std.specs.Prelude.{zero, slice_get}
+use Rattle.std.specs.Prelude.{◌≤◌, zero, length, slice_get}
 use Rattle.march_core.specs.March.{IsMarch}
-use Rattle.chip_rtl.specs.ChipTree.{ChipTree}
-use Rattle.chip_rtl.specs.ChipTest.{ChipTest}
+use Rattle.chip_rtl.specs.ChipFile.{ChipFile}
 use Rattle.bist_app.specs.ChipBeside.{EachUnitTests}
 use Rattle.bist_app.specs.Chip.{GivesUnit, GivesUnits, IsChipTested, LeavesChip, DecidesChip}
 use Rattle.bist_app.specs.TestedChip.{IsUnitOf, AreUnitsOf, IsTestedChip, LeavesTestedChip}
@@ -88,11 +87,18 @@ one_unit files (d ∷ ds) (x ∷ us) are zero u e =
     subst (λ (y : TestUnit). IsMarch y.march × IsMemory y.memory) same (is_march files d.march x.march are.0.march_text, are.0.is_memory)
 one_unit files (d ∷ ds) (x ∷ us) are (suc i) u e = one_unit files ds us are.1 i u e
 
-units_test : (files : Files) (ds : List UnitDescription) (us : List TestUnit) → AreUnitsOf files ds us → (c : ChipTree) (budget : ℕ) (groups : List ℕ) → ChipTest c us budget groups
-    → EachUnitTests c us groups
-units_test files ds us are c budget groups test i u g is_unit is_group =
+as_many : (files : Files) (ds : List UnitDescription) (us : List TestUnit) → AreUnitsOf files ds us → length us ≡ length ds
+as_many files [] [] are = refl
+as_many files [] (u ∷ us) are = absurd are
+as_many files (d ∷ ds) [] are = absurd are
+as_many files (d ∷ ds) (u ∷ us) are = ap suc (as_many files ds us are.1)
+
+units_test : (files : Files) (ds : List UnitDescription) (us : List TestUnit) → AreUnitsOf files ds us → length ds ≤ 16 → (text name : List ℕ) (budget : ℕ)
+    (file : ChipFile text name us budget) → EachUnitTests file.chip us file.groups
+units_test files ds us are few text name budget file i u g is_unit is_group =
     let is = one_unit files ds us are i u is_unit in
-    unit_tests c us budget groups test i u g is_unit is_group is.0 is.1
+    unit_tests file.chip us budget file.groups file.tests i u g is_unit is_group is.0 is.1 file.legal file.modules file.text.0 file.ports
+    (subst (λ (n : ℕ). n ≤ 16) (sym (as_many files ds us are)) few)
 
 -- ---- the write
 
@@ -135,7 +141,7 @@ tested_chip words files old new n s =
           file = t.file;
           shown = t.shown;
           freely = t.freely;
-          beside = units_test files i.chip.units i.units i.unit_texts t.file.chip i.chip.budget t.file.groups t.file.tests;
+          beside = units_test files i.chip.units i.units i.unit_texts i.is_chip.few t.text i.chip.name i.chip.budget t.file;
           says = subst (λ (d : Done). Says old.said new.said d.line) t.done_is s.says;
           others = w.others;
         },

@@ -1,6 +1,6 @@
 -- Trusted. A chip beside the memory of one of its units, whatever this and the registers hold at first, and whatever the other units read: how the
 -- test of that unit ends.
-use Rattle.std.specs.Prelude.{◌≡◌, ◌+◌, ◌<◌, ◌≤◌, ◌^◌, ◌%◌, ℕ, zero, suc, Bool, true, false, List, [], ◌∷◌, length, Some, None, slice_get}
+use Rattle.std.specs.Prelude.{◌≡◌, ◌≢◌, ◌+◌, ◌<◌, ◌≤◌, ◌^◌, ◌%◌, ℕ, zero, suc, Bool, true, false, List, [], ◌∷◌, length, Some, None, slice_get, codes}
 use Rattle.fault_core.specs.Primitive.{IsPrimitive}
 use Rattle.array_sim.specs.Detection.{Detects}
 use Rattle.verilog_tree.specs.Meaning.{Env}
@@ -15,7 +15,8 @@ use Rattle.bench.specs.Memories.{Behaviour, Memory, cycle_answer, memory_at, wor
 use Rattle.bench.specs.Beside.{HasWords}
 use Rattle.chip_plan.specs.Groups.{start_of}
 use Rattle.chip_rtl.specs.ChipTree.{ChipTree}
-use Rattle.chip_rtl.specs.Together.{ChipCycle, ChipHistory}
+use Rattle.chip_rtl.specs.Together.{ChipStarts, ChipCycle, ChipHistory}
+use Rattle.chip_rtl.specs.Tops.{rdata_of}
 use Rattle.chip_rtl.specs.ChipTest.{TestUnit, OneReset, test_length, lengths, unit_values, words_of}
 
 -- the outputs of unit i by cycle; nothing stands there behind the last
@@ -33,13 +34,26 @@ pub record IsBeside {S : Type 0} (b : Behaviour S) (c : ChipTree) (i : ℕ) (d :
   pub answers : (t : ℕ) → suc t < length cycles → words_of inputs i (suc t)
       ≡ cycle_answer b (shape_of d) (memory_at b (shape_of d) m (unit_ports i cycles) t) (command_on (unit_ports i cycles t)) % 2 ^ d.bits
 
--- from the cycle on in which the test is over that starts in cycle s, bit i of `fail` is this
-abbrev pub UnitEnds : {S : Type 0} → Bool → Behaviour S → ChipTree → ℕ → TestUnit → ℕ → Memory S → Type 0
-UnitEnds failed b c i u s m =
-    (cycles : List ChipCycle) → IsBeside b c i u.memory m cycles
-    → (t : ℕ) → s + test_length u ≤ t → t < length cycles → (unit_ports i cycles t).fail ≡ failed
+-- such a history from these registers, with this word on `rdata` of unit i in the first cycle, and with these other inputs
+pub record RunsFrom {S : Type 0} (b : Behaviour S) (c : ChipTree) (i : ℕ) (d : Description) (m : Memory S) (registers : ℕ → Env) (rdata : ℕ) (others : ℕ → Env)
+    (cycles : List ChipCycle) : Type 0 where
+  pub run : IsBeside b c i d m cycles
+  pub starts : run.registers ≡ registers
+  pub first : 0 < length cycles → words_of run.inputs i 0 ≡ rdata
+  pub given : (t : ℕ) (ins : Env) → slice_get run.inputs t ≡ Some ins
+      → (name : List ℕ) → name ≢ codes "reset" → name ≢ rdata_of i → ins name ≡ others t name
 
--- the test passes every sound memory, and fails one with an instance of a primitive that the unit's march detects, at any place
+-- From any registers, word and other inputs within their widths there are such histories, as long as one likes; and in each, from the cycle on in
+-- which the test is over that starts in cycle s, bit i of `fail` is this.
+pub record UnitEnds {S : Type 0} (failed : Bool) (b : Behaviour S) (c : ChipTree) (i : ℕ) (u : TestUnit) (s : ℕ) (m : Memory S) : Type 0 where
+  pub runs : (registers : ℕ → Env) (rdata : ℕ) (others : ℕ → Env) (count : ℕ) → ((t : ℕ) → ChipStarts c registers (others t))
+      → rdata < 2 ^ u.memory.bits
+      → (cycles : List ChipCycle) × (length cycles ≡ count) × RunsFrom b c i u.memory m registers rdata others cycles
+  pub ends : (cycles : List ChipCycle) → IsBeside b c i u.memory m cycles
+      → (t : ℕ) → s + test_length u ≤ t → t < length cycles → (unit_ports i cycles t).fail ≡ failed
+
+-- the test passes every sound memory, and fails one with an instance of a primitive that the unit's march detects, in one cell or in two of different
+-- words
 pub record UnitTests (c : ChipTree) (i : ℕ) (u : TestUnit) (s : ℕ) : Type 0 where
   pub passes : (m : Memory (List ℕ)) → HasWords u.memory m → UnitEnds false (words_with None) c i u s m
   pub fails : (m : Memory (List ℕ)) (p : Planted) → HasWords u.memory m → IsPrimitive p.prim → Detects u.march p.prim

@@ -1,5 +1,5 @@
 -- Trusted. What `compile` comes to where it ends with status 0 or 1 over told files: the answer of the top call, without the order of its checks.
-use Rattle.std.specs.Prelude.{◌≡◌, ◌≢◌, ◌≤◌, ℕ, Bool, List, length, Option, Some, IfSome, codes, slice_index_or}
+use Rattle.std.specs.Prelude.{◌≡◌, ◌≢◌, ◌≤◌, ℕ, Bool, List, length, Option, Some, IfSome, codes}
 use Rattle.std.specs.List.{AllByRecursion}
 use Rattle.bist_host.specs.Files.{Files, HostState, Says}
 use Rattle.march_core.specs.March.{MarchElement}
@@ -22,7 +22,7 @@ use Rattle.port_check.specs.declared.answer.PortAnswer.{PortAnswer}
 use Rattle.port_check.specs.Answers.{IsAnswer}
 use Rattle.bench.specs.Beside.{PassesBeside, FailsBeside}
 use Rattle.word_faults.specs.Dynamic.{FailsDynamic}
-use Rattle.word_faults.specs.Laws.{FailsEachLinked, FailsEachDecoder}
+use Rattle.word_faults.specs.Laws.{BeginsAfresh, FailsEachLinked, FailsEachDecoder}
 use Rattle.report.specs.Report.{IsMixedReport, DetectsOf}
 use Rattle.report_lines.specs.Lines.{total_line}
 use Rattle.bist_endings.specs.Words.{Words, word}
@@ -44,11 +44,11 @@ FileHas files name P = (bytes : List ℕ) × (files name ≡ Some bytes) × P by
 abbrev pub InputHas : Files → List ℕ → (List ℕ → Type 0) → Type 0
 InputHas files name P = FileHas files name (λ bytes. (length bytes ≤ input_limit) × P bytes)
 
--- Where the march detects this item, the module fails beside each memory with an instance of it; of a dynamic item, where the background 0 is the
--- first of the memory's.
+-- Where the march detects this item, the module fails beside each memory with an instance of it; of a dynamic item, where the background
+-- before can't begin it.
 abbrev pub FailsWhereDetected : ModuleTree → List MarchElement → Description → Item → Type 0
 FailsWhereDetected mo march d (Plain p) = Detects march p → FailsBeside mo march d p
-FailsWhereDetected mo march d (Dyn p) = slice_index_or d.backgrounds 0 1 ≡ 0 → DetectsDyn march p → FailsDynamic mo march d p
+FailsWhereDetected mo march d (Dyn p) = BeginsAfresh march d → DetectsDyn march p → FailsDynamic mo march d p
 
 -- The files MARCH, MEMORY and FAULTS were read as a march, a memory and a list, and spell no others. Now the bytes of VERILOG are the text of a
 -- module and of no other: its layout, with parentheses round each operator and begin and end round each body, where its names are legal and its
@@ -58,7 +58,7 @@ FailsWhereDetected mo march d (Dyn p) = slice_index_or d.backgrounds 0 1 ≡ 0 �
 -- it `en`, `done` and `fail` have 0. The answer of its open run, by which `check` tells, is that it conforms, and no other. Beside a memory of the
 -- description, whatever its registers and the memory hold at first, it ends without `fail` and every read is right, if nothing is planted there;
 -- and with `fail`, where that is an instance of an item that the march detects, in one cell or in cells of two words. So it does beside one with a
--- linked fault at bits of three words, and beside one whose decoder has a fault, that the march detects. The bytes of REPORT are the report of the
+-- linked fault at bits of different words, and beside one whose decoder has a fault, that the march detects. The bytes of REPORT are the report of the
 -- list. Some item isn't detected exactly where the status is 1. How many there are and how many are detected was said, and all other files are as
 -- before.
 pub record IsCompilation (words : Words) (files files' : Files) (said said' : Option (List ℕ)) (status : ℕ) : Type 0 where

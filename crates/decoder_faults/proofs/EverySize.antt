@@ -1,26 +1,21 @@
 -- What the two cells of a fault get through, an array of any size does.
-use Rattle.std.proofs.Common.{◌≡◌, ◌++◌, ◌-◌, ◌≤◌, ℕ, Bool, true, false, nat_lt, Option, Some, None, List, [], ◌∷◌, length, replicate, length-append, refl, ap, ◌∙◌, arith}
+use Rattle.std.proofs.Common.{◌≡◌, ◌++◌, ◌-◌, ◌≤◌, ℕ, Bool, true, false, nat_lt, Option, Some, List, [], ◌∷◌, length, replicate, length-append, refl, ap, ◌∙◌, arith}
 use Rattle.std.proofs.lemmas.List.{length-replicate}
 use Rattle.march_core.specs.March.{MarchElement, IsMarch}
 use Rattle.march_core.specs.Visits.{Direction, directions_of}
 use Rattle.cell_machine.specs.declared.pair.Pair.{Pair}
 use Rattle.pair_tracker.specs.Few.{few_run}
 use Rattle.pair_tracker.specs.Pairs.{sides_in}
-use Rattle.pair_tracker.proofs.Few.{Sees, march_passes, march_through, march_caught}
+use Rattle.pair_tracker.proofs.Few.{march_passes, march_through}
 use Rattle.pair_tracker.proofs.Tags.{side_at}
 use Rattle.pair_tracker.proofs.Through.{through_run, through_fits}
 use Rattle.decoder_faults.specs.declared.fault.DecoderFault.{DecoderFault}
-use Rattle.decoder_faults.specs.Decoding.{AddressPair, FitsPair, Decoder, reach_of, HasFault}
+use Rattle.decoder_faults.specs.Decoding.{AddressPair, FitsPair, reach_of}
 use Rattle.decoder_faults.specs.Detection.{cells_behind, is_wrong_there, IsCaught, DetectsDecoderAt}
 use Rattle.decoder_faults.specs.inner.Pairs.{machine_of}
 use Rattle.decoder_faults.specs.inner.Searching.{addresses_in, start_in, LetsThrough}
-use Rattle.decoder_faults.proofs.Passing.{has_alone, decoder_sees, sides_ordered}
-use Rattle.decoder_faults.proofs.Seen.{seen, reach_elsewhere}
-
--- the fault alone, where every other address reaches its own cell
-alone : (fault : DecoderFault) (at : AddressPair) (n : ℕ) → FitsPair at n
-    → Sees (cells_behind (reach_of fault at)) (is_wrong_there (reach_of fault at)) (λ cells. cells) (seen at) (side_at at.x at.y) n (machine_of fault) (λ cells. length cells ≡ n) (Unit {0})
-alone fault at n fits = decoder_sees (Unit {0}) (reach_of fault at) fault at n fits (has_alone fault at n fits) (λ strict z zx zy. reach_elsewhere fault at z zx zy)
+use Rattle.decoder_faults.proofs.Passing.{decoder_sees, sides_ordered}
+use Rattle.decoder_faults.proofs.Seen.{seen}
 
 -- the run of the two cells of an array
 abbrev pub own_run : DecoderFault → AddressPair → List MarchElement → List Direction → List Bool → Option Pair
@@ -37,21 +32,12 @@ module _ (fault : DecoderFault) (at : AddressPair) (march : List MarchElement) (
   pub passes_where : (q : Pair) → own_run fault at march ds content ≡ Some q → IsCaught march ds (reach_of fault at) content → ⊥
   passes_where q e =
       march_passes (cells_behind (reach_of fault at)) (is_wrong_there (reach_of fault at)) (λ cells. cells) (seen at) (side_at at.x at.y) n (machine_of fault) HasSize (Unit {0})
-      (alone fault at n fits) (sides_in (nat_lt at.x at.y)) (sides_ordered fault at n fits) march is ds content refl tt q e
+      (decoder_sees fault at n fits) (sides_in (nat_lt at.x at.y)) (sides_ordered fault at n fits) march is ds content refl tt q e
 
   pub through_unless : (IsCaught march ds (reach_of fault at) content → ⊥) → (q : Pair) × (own_run fault at march ds content ≡ Some q)
   through_unless passes =
       march_through (cells_behind (reach_of fault at)) (is_wrong_there (reach_of fault at)) (λ cells. cells) (seen at) (side_at at.x at.y) n (machine_of fault) HasSize (Unit {0})
-      (alone fault at n fits) (sides_in (nat_lt at.x at.y)) (sides_ordered fault at n fits) march is ds content refl tt passes
-
-  -- where they don't, a read differs beside whatever else is wrong with the decoder
-  pub caught_among : (decoder : Decoder) → HasFault decoder fault at n → own_run fault at march ds content ≡ None → IsCaught march ds decoder content
-  caught_among decoder has e =
-      march_caught (cells_behind decoder) (is_wrong_there decoder) (λ cells. cells) (seen at) (side_at at.x at.y) n (machine_of fault) HasSize ⊥
-      (decoder_sees ⊥ decoder fault at n fits has (λ no. absurd no)) (sides_in (nat_lt at.x at.y)) (sides_ordered fault at n fits) march is ds content refl e
-
-  pub caught_where : own_run fault at march ds content ≡ None → IsCaught march ds (reach_of fault at) content
-  caught_where e = caught_among (reach_of fault at) (has_alone fault at n fits) e
+      (decoder_sees fault at n fits) (sides_in (nat_lt at.x at.y)) (sides_ordered fault at n fits) march is ds content refl tt passes
 
 -- the two addresses in arrays of two cells, and of more
 pub fits_in : (below : Bool) (n : ℕ) → 2 ≤ n → FitsPair (addresses_in below) n

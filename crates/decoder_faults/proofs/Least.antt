@@ -1,17 +1,16 @@
 -- The search in the order of the placements and of the contents finds the least escape, and none exactly where every size is detected.
-use Rattle.std.proofs.Common.{◌≡◌, ◌≢◌, ◌+◌, ◌<◌, ◌≤◌, ℕ, zero, suc, Bool, true, false, not, ◌&&◌, nat_lt, Option, Some, None, is_some, List, [], ◌∷◌, length, refl, ap, sym, subst, ◌∙◌, ◌⊎◌, inl, inr, ⊎_elim, append-nil, arith}
-use Rattle.std.specs.Bool.{IsTrue}
+use Rattle.std.proofs.Common.{◌≡◌, ◌≢◌, ◌+◌, ◌<◌, ◌≤◌, ℕ, zero, suc, Bool, true, false, not, ◌&&◌, Option, Some, None, is_some, List, [], ◌∷◌, length, refl, ap, sym, subst, ◌∙◌, ◌⊎◌, inl, inr, ⊎_elim, append-nil, arith}
 use Rattle.std.specs.Prelude.{MatchOption}
 use Rattle.std.proofs.Math.Nat.{eq-or-lt_of_le}
 use Rattle.std.proofs.lemmas.Bool.{cases_lt}
 use Rattle.march_core.specs.March.{MarchElement, IsMarch}
-use Rattle.march_core.specs.Visits.{Direction, is_direction, directions_of}
+use Rattle.march_core.specs.Visits.{Direction, directions_of}
 use Rattle.cell_machine.specs.declared.pair.Pair.{Pair}
 use Rattle.pair_tracker.specs.Few.{few_run}
 use Rattle.pair_tracker.specs.Pairs.{sides_in}
 use Rattle.pair_tracker.specs.Reached.{word_to}
 use Rattle.pair_tracker.specs.Tracking.{any_end, GetsThrough}
-use Rattle.pair_tracker.proofs.Through.{least_whole, some_word, through_fits, through_within, run_through}
+use Rattle.pair_tracker.proofs.Through.{least_whole, through_fits, through_within, run_through}
 use Rattle.pair_tracker.specs.Survivors.{IsLeastOf}
 use Rattle.escape_array.specs.Escapes.{content_number}
 use Rattle.escape_array.proofs.LeastArray.{content_below, same_content}
@@ -19,14 +18,14 @@ use Rattle.decoder_faults.specs.declared.fault.DecoderFault.{DecoderFault}
 use Rattle.decoder_faults.specs.declared.escape.DecoderEscape.{DecoderEscape}
 use Rattle.cell_machine.specs.Pairs.{pair_of}
 use Rattle.decoder_faults.specs.Conditions.{catches, some_element, meets}
-use Rattle.decoder_faults.specs.Decoding.{AddressPair, FitsPair, reach_of, HasFault}
-use Rattle.decoder_faults.specs.Detection.{IsCaught, DetectsDecoder, DetectsAmong}
+use Rattle.decoder_faults.specs.Decoding.{AddressPair, FitsPair, reach_of}
+use Rattle.decoder_faults.specs.Detection.{IsCaught, DetectsAmong}
 use Rattle.decoder_faults.specs.Escapes.{addresses_of, IsEscape, IsNoGreater, IsLeastEscape, IsVerdict, IsVerdictAt}
 use Rattle.decoder_faults.specs.inner.Pairs.{machine_of}
 use Rattle.decoder_faults.specs.inner.Searching.{addresses_in, start_in, LetsThrough, NoneBefore, IsLeastIn}
-use Rattle.decoder_faults.proofs.EverySize.{caught_where, caught_among, through_unless, fits_in, lower_in, passes_with, detected_never}
+use Rattle.decoder_faults.proofs.Among.{caught_among, met_detects}
+use Rattle.decoder_faults.proofs.EverySize.{through_unless, fits_in, lower_in, passes_with, detected_never}
 use Rattle.decoder_faults.proofs.Meeting.{gets_nowhere, gets_through}
-use Rattle.decoder_faults.proofs.Seen.{seen}
 
 -- the content of two cells that a pair stands for
 abbrev cells_for : Bool → Pair → List Bool
@@ -37,30 +36,6 @@ nothing_through : (march : List MarchElement) (fault : DecoderFault) (below : Bo
     → GetsThrough (machine_of fault) (sides_in below) march q word → ⊥
 nothing_through march fault true q word none through = none (cells_for true q) refl (content_below (cells_for true q) refl) word through
 nothing_through march fault false q word none through = none (cells_for false q) refl (content_below (cells_for false q) refl) word through
-
--- where no array of two cells is let through, no two cells get through
-none_through : (march : List MarchElement) (fault : DecoderFault) → IsMarch march → NoneBefore march fault true 4 → NoneBefore march fault false 4
-    → (below : Bool) (q : Pair) (ds : List Direction) → IsTrue (is_direction march ds) → few_run (machine_of fault) (sides_in below) q march ds ≡ None
-none_through march fault is under over below q ds allowed = go (few_run (machine_of fault) (sides_in below) q march ds) refl
-  where
-    none : (b : Bool) → NoneBefore march fault b 4
-    none true = under
-    none false = over
-
-    go : (r : Option Pair) → few_run (machine_of fault) (sides_in below) q march ds ≡ r → few_run (machine_of fault) (sides_in below) q march ds ≡ None
-    go None e = e
-    go (Some z) e =
-        let through = some_word (machine_of fault) (sides_in below) march q z ds is allowed e in
-        absurd (nothing_through march fault below q through.0 (none below) through.1)
-
--- so every size is detected, and beside whatever else is wrong with the decoder
-pub none_detects : (march : List MarchElement) (fault : DecoderFault) → IsMarch march → NoneBefore march fault true 4 → NoneBefore march fault false 4 → DetectsDecoder march fault
-none_detects march fault is under over n more ds at content allowed fits size =
-    caught_where fault at march is ds content (subst (FitsPair at) (sym size) fits) (none_through march fault is under over (nat_lt at.x at.y) (seen at content) ds allowed)
-
-detects_among : (march : List MarchElement) (fault : DecoderFault) → IsMarch march → NoneBefore march fault true 4 → NoneBefore march fault false 4 → DetectsAmong march fault
-detects_among march fault is under over n ds decoder at content allowed fits has size =
-    caught_among fault at march is ds content (subst (FitsPair at) (sym size) fits) decoder (subst (HasFault decoder fault at) (sym size) has) (none_through march fault is under over (nat_lt at.x at.y) (seen at content) ds allowed)
 
 -- what is found is an escape
 pub found_escape : (march : List MarchElement) (fault : DecoderFault) (below : Bool) (e : DecoderEscape) → IsMarch march → IsLeastIn march fault below e → IsEscape march e
@@ -210,10 +185,9 @@ judged_below march fault e is found = escape_judged march fault true e is found 
 pub judged_above : (march : List MarchElement) (fault : DecoderFault) (result : Option DecoderEscape) → IsMarch march → NoneBefore march fault true 4
     → MatchOption result (NoneBefore march fault false 4) (λ e. IsLeastIn march fault false e) → Judged march fault result
 judged_above march fault None is none_below found =
-    let detects = none_detects march fault is none_below found in
     let both : meets march fault ≡ true =
     ap (λ b. b && some_element (catches fault false) march) (met march fault true is none_below) ∙ met march fault false is found in
-    (detects, λ size more. detects size more, sym (ap not both), λ none. detects_among march fault is none_below found)
+    (met_detects march fault both, λ size more. met_detects march fault both size more, sym (ap not both), λ none. caught_among march fault both)
 judged_above march fault (Some e) is none found = escape_judged march fault false e is found (least_above march fault e is none found)
 
 -- the search over the contents

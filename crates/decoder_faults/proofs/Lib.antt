@@ -4,6 +4,7 @@ pub mod EverySize
 pub mod Least
 pub mod Elements
 pub mod Meeting
+pub mod Among
 pub mod Classic
 pub mod Lines
 pub mod TakenCells

@@ -25,20 +25,20 @@ use Rattle.decoder_faults.proofs.Elements.{Held, caught_by, Ends, sides_by, swee
 use Rattle.pair_tracker.proofs.Passing.{all_between}
 
 -- whether a direction visits x first
-abbrev x_first_in : Bool → Direction → Bool
+abbrev pub x_first_in : Bool → Direction → Bool
 x_first_in true Upward = true
 x_first_in true Downward = false
 x_first_in false Upward = false
 x_first_in false Downward = true
 
-sides_ordered : (below : Bool) (d : Direction) → sides_in below d ≡ sides_by (x_first_in below d)
+pub sides_ordered : (below : Bool) (d : Direction) → sides_in below d ≡ sides_by (x_first_in below d)
 sides_ordered true Upward = refl
 sides_ordered true Downward = refl
 sides_ordered false Upward = refl
 sides_ordered false Downward = refl
 
 -- whether an element may go in a direction, and doesn't catch the fault there
-abbrev passes_in : DecoderFault → Bool → MarchElement → Direction → Bool
+abbrev pub passes_in : DecoderFault → Bool → MarchElement → Direction → Bool
 passes_in fault below e d = allows (order_of e) d && not (caught_by fault (x_first_in below d) (ops_of e))
 
 -- where it leads, by whether it passes
@@ -55,7 +55,7 @@ leads_where fault next true false None ends = absurd ends
 leads_where fault next true true (Some q) ends = absurd ends
 leads_where fault next true false (Some q) ends = ends
 
-no_ops : (fault : DecoderFault) (x_first : Bool) → caught_by fault x_first [] ≡ false
+pub no_ops : (fault : DecoderFault) (x_first : Bool) → caught_by fault x_first [] ≡ false
 no_ops (NoCell answer) x_first = refl
 no_ops OtherCell x_first = refl
 no_ops (BothCells wired) x_first = refl
@@ -137,7 +137,7 @@ shows_twice wired false Up (Some bit) = or_false (not (does_tell wired bit))
 shows_twice wired false Down (Some bit) = refl
 shows_twice wired false Any (Some bit) = or_false (not (does_tell wired bit))
 
-element_passes : (fault : DecoderFault) (below : Bool) (e : MarchElement) → passes_in fault below e Upward || passes_in fault below e Downward ≡ not (catches fault below e)
+pub element_passes : (fault : DecoderFault) (below : Bool) (e : MarchElement) → passes_in fault below e Upward || passes_in fault below e Downward ≡ not (catches fault below e)
 element_passes (NoCell answer) below e = same_twice (order_of e) (has_read (not answer) (ops_of e))
 element_passes OtherCell below e = same_twice (order_of e) (is_some (turned_by e))
 element_passes (BothCells wired) below e = shows_twice wired below (order_of e) (turned_by e)

@@ -9,24 +9,10 @@ use Rattle.decoder_faults.specs.declared.fault.DecoderFault.TheVariants.{NoCell,
 use Rattle.decoder_faults.specs.Conditions.{catches, some_element, meets}
 use Rattle.decoder_faults.specs.Detection.{DetectsDecoder}
 use Rattle.decoder_faults.specs.inner.Pairs.{machine_of}
-use Rattle.decoder_faults.specs.inner.Searching.{start_in, NoneBefore}
+use Rattle.decoder_faults.specs.inner.Searching.{start_in}
 use Rattle.decoder_faults.proofs.EverySize.{detected_never}
-use Rattle.decoder_faults.proofs.Least.{none_detects}
-use Rattle.decoder_faults.proofs.Meeting.{gets_nowhere, gets_through}
-
-both : (a b : Bool) → (a && b) ≡ true → (a ≡ true) × (b ≡ true)
-both true true h = (refl, refl)
-both true false h = cc
-both false b h = cc
-
-none_where : (march : List MarchElement) (fault : DecoderFault) (below : Bool) → IsMarch march → some_element (catches fault below) march ≡ true
-    → NoneBefore march fault below 4
-none_where march fault below is some content size low word through = gets_nowhere fault below march (start_in below content) word is some through
-
-detected : (march : List MarchElement) (fault : DecoderFault) → IsMarch march → meets march fault ≡ true → DetectsDecoder march fault
-detected march fault is met =
-    let parts = both (some_element (catches fault true) march) (some_element (catches fault false) march) met in
-    none_detects march fault is (none_where march fault true is parts.0) (none_where march fault false is parts.1)
+use Rattle.decoder_faults.proofs.Among.{met_detects}
+use Rattle.decoder_faults.proofs.Meeting.{gets_through}
 
 never_where : (march : List MarchElement) (fault : DecoderFault) (below : Bool) → IsMarch march → some_element (catches fault below) march ≡ false
     → DetectsDecoder march fault → ⊥
@@ -35,7 +21,7 @@ never_where march fault below is none detects =
     let through : (word : ℕ) × GetsThrough (machine_of fault) (sides_in below) march (start_in below content) word = gets_through fault below march (start_in below content) is none in
     detected_never march fault below content through.0 is refl through.1 2 (omega arith) (detects 2 (omega arith))
 
-met_where : (march : List MarchElement) (fault : DecoderFault) → IsMarch march → DetectsDecoder march fault → meets march fault ≡ true
+pub met_where : (march : List MarchElement) (fault : DecoderFault) → IsMarch march → DetectsDecoder march fault → meets march fault ≡ true
 met_where march fault is detects = go (some_element (catches fault true) march) (some_element (catches fault false) march) refl refl
   where
     go : (a b : Bool) → some_element (catches fault true) march ≡ a → some_element (catches fault false) march ≡ b → meets march fault ≡ true
@@ -46,6 +32,6 @@ met_where march fault is detects = go (some_element (catches fault true) march) 
 pub as_no_cell : (march : List MarchElement) (answer : Bool) (wired : Wired) → IsMarch march
     → DetectsDecoder march (TakenCell answer wired) ↔ DetectsDecoder march (NoCell answer)
 as_no_cell march answer wired is = (
-  λ detects. detected march (NoCell answer) is (met_where march (TakenCell answer wired) is detects),
-  λ detects. detected march (TakenCell answer wired) is (met_where march (NoCell answer) is detects),
+  λ detects. met_detects march (NoCell answer) (met_where march (TakenCell answer wired) is detects),
+  λ detects. met_detects march (TakenCell answer wired) (met_where march (NoCell answer) is detects),
 )

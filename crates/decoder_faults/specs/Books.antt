@@ -2,7 +2,7 @@
 use Rattle.std.specs.Prelude.{◌≡◌, ◌≢◌, ◌==◌, ◌+◌, ℕ, if◌then◌else◌}
 use Rattle.decoder_faults.specs.declared.fault.DecoderFault.{DecoderFault}
 use Rattle.decoder_faults.specs.declared.fault.DecoderFault.TheVariants.{NoCell, OtherCell, BothCells, TakenCell}
-use Rattle.decoder_faults.specs.Decoding.{AddressPair, Decoder, Reach, no_cell, one_cell, two_cells, reach_of}
+use Rattle.decoder_faults.specs.Decoding.{AddressPair, Decoder, Reach, no_cell, one_cell, two_cells, reach_of, HasFault}
 
 -- 1 where the cells are the same
 abbrev pub once : ℕ → ℕ → ℕ
@@ -31,3 +31,16 @@ IsOfBooks (TakenCell answer wired) at = Reaches (reach_of (TakenCell answer wire
 
 abbrev pub AreOfBooks : Type 0
 AreOfBooks = (fault : DecoderFault) (at : AddressPair) → at.x ≢ at.y → IsOfBooks fault at
+
+-- of two cells that an address reaches, the first is its own
+abbrev pub OwnIsFirst : ℕ → Reach → Type 0
+OwnIsFirst address (no_cell answer) = Unit {0}
+OwnIsFirst address (one_cell c) = Unit {0}
+OwnIsFirst address (two_cells wired c d) = c ≡ address
+
+abbrev pub OwnAreFirst : Type 0
+OwnAreFirst = (fault : DecoderFault) (at : AddressPair) (address : ℕ) → at.x ≢ at.y → OwnIsFirst address (reach_of fault at address)
+
+-- each fault is there, at any two addresses
+abbrev pub AreThere : Type 0
+AreThere = (fault : DecoderFault) (at : AddressPair) → at.x ≢ at.y → HasFault (reach_of fault at) fault at

@@ -74,14 +74,7 @@ abbrev pub answer_through : Reach → List Bool → Act → Option Bool
 answer_through reach cells Read = Some (read_through reach cells)
 answer_through reach cells other = None
 
--- it reaches neither of the two cells
-abbrev pub Spares : AddressPair → Reach → Type 0
-Spares at (no_cell answer) = Unit {0}
-Spares at (one_cell c) = (c ≢ at.x) × (c ≢ at.y)
-Spares at (two_cells wired c d) = (c ≢ at.x) × (c ≢ at.y) × (d ≢ at.x) × (d ≢ at.y)
-
--- a decoder that has the fault at two addresses, whose cells no other address of the array reaches, whatever else is wrong with it
-pub record HasFault (decoder : Decoder) (fault : DecoderFault) (at : AddressPair) (size : ℕ) : Type 0 where
+-- a decoder that has the fault at two addresses, whatever the others reach
+pub record HasFault (decoder : Decoder) (fault : DecoderFault) (at : AddressPair) : Type 0 where
   pub at_x : decoder at.x ≡ reach_of_x fault at
   pub at_y : decoder at.y ≡ reach_of_y fault at
-  pub others : (address : ℕ) → address < size → address ≢ at.x → address ≢ at.y → Spares at (decoder address)

@@ -33,9 +33,9 @@ DetectsDecoderAt size march fault =
 abbrev pub DetectsDecoder : List MarchElement → DecoderFault → Type 0
 DetectsDecoder march fault = (size : ℕ) → 2 ≤ size → DetectsDecoderAt size march fault
 
--- it is caught so beside whatever else is wrong with the decoder
+-- it is caught so whatever the other addresses reach
 abbrev pub DetectsAmong : List MarchElement → DecoderFault → Type 0
 DetectsAmong march fault =
-    (size : ℕ) (directions : List Direction) (decoder : Decoder) (at : AddressPair) (content : List Bool)
-    → IsTrue (is_direction march directions) → FitsPair at size → HasFault decoder fault at size → length content ≡ size
+    (directions : List Direction) (decoder : Decoder) (at : AddressPair) (content : List Bool)
+    → IsTrue (is_direction march directions) → FitsPair at (length content) → HasFault decoder fault at
     → IsCaught march directions decoder content

@@ -1,5 +1,5 @@
 //! Laws of these faults, the contracts of functions that do nothing.
-ghost use Rattle.decoder_faults.specs.Books.{AreOfBooks};
+ghost use Rattle.decoder_faults.specs.Books.{AreOfBooks, OwnAreFirst, AreThere};
 ghost use Rattle.decoder_faults.specs.TakenCells.{AreAsNoCell};
 
 /// A march detects `TakenCell` exactly where it detects `NoCell` with the same answer: the two are told by reads of
@@ -9,7 +9,9 @@ pub fn taken_cells_are_as_none()
 {}
 
 /// The faults are the four of the books: x reaches no cell, and no address cell x; both addresses reach cell y, and none cell x; x reaches
-/// both cells, and both addresses cell y; x reaches no cell, and y both.
+/// both cells, and both addresses cell y; x reaches no cell, and y both. Of two cells the first is the address's own. The decoder with a fault has it.
 pub fn decoder_faults_are_of_books()
-    ensures { AreOfBooks }
+    ensures books { AreOfBooks }
+    ensures own { OwnAreFirst }
+    ensures there { AreThere }
 {}

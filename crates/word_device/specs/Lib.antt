@@ -1,4 +1,5 @@
 pub mod Chips
+pub mod Memories
 pub mod Ports
 pub mod Boxes
 pub mod Runs

@@ -1,6 +1,6 @@
 -- Where a state of the memory is seen as cells that the march catches, some reply in the run of the background 0 differs.
-use Rattle.std.proofs.Common.{◌≡◌, ◌≢◌, ◌<◌, ◌^◌, ◌%◌, ℕ, zero, suc, Bool, true, false, Option, Some, None, List, [], ◌∷◌, ◌++◌, length, map, refl, sym, subst, arith}
-use Rattle.std.specs.Prelude.{slice_index_or}
+use Rattle.std.proofs.Common.{◌≡◌, ◌≢◌, ◌<◌, ◌^◌, ◌%◌, ℕ, zero, suc, Bool, true, false, Option, Some, None, List, [], ◌∷◌, ◌++◌, length, map, refl, sym, subst, ◌⊎◌, inl, inr, arith}
+use Rattle.std.specs.Prelude.{slice_get, slice_index_or}
 use Rattle.std.specs.List.{flat_map}
 use Rattle.march_core.specs.March.{MarchElement}
 use Rattle.march_core.specs.Runs.{up, is_write}
@@ -14,7 +14,7 @@ use Rattle.bench.specs.Memories.{Behaviour}
 use Rattle.word_faults.proofs.Memories.{IsLawful, replies}
 
 module _ {S : Type 0} (b : Behaviour S) (Good : S → Type 0) (lawful : IsLawful b Good) (bits : ℕ) where
-  stepped : S → Option WordOp → S
+  unfoldable pub stepped : S → Option WordOp → S
   stepped s None = b.paused s
   stepped s (Some o) = b.after s o
 
@@ -31,7 +31,7 @@ module _ {S : Type 0} (b : Behaviour S) (Good : S → Type 0) (lawful : IsLawful
   later (Some o) xs s d =
       record { number = suc d.number; op = d.op; reply = d.reply; is_op = d.is_op; is_read = d.is_read; is_reply = d.is_reply; differs = d.differs }
 
-  behind : S → List (Option WordOp) → S
+  unfoldable pub behind : S → List (Option WordOp) → S
   behind s [] = s
   behind s (x ∷ xs) = behind (stepped s x) xs
 
@@ -79,45 +79,48 @@ module _ {S : Type 0} (b : Behaviour S) (Good : S → Type 0) (lawful : IsLawful
         (caught_steps (before ++ visiting v ∷ after_) rest (b.after s o) (lawful.good_after s o good) v before after_ refl
         (subst (λ (c : C). is_wrong (left_behind after c before) v ≡ true) (sym (visits_as s w good)) wrong)))
 
-    module _ (march : List MarchElement) (d : Description) (same_bits : d.bits ≡ bits)
-        (caught : (s : S) → Good s → SomeDiffersBy after is_wrong (view s) (visits march (up march) d.words)) where
-      -- the runs of the backgrounds, up to the run of the background 0
-      caught_in : (set : List ℕ) (k : ℕ) → k < length set → slice_index_or set k 0 ≡ 0 → (s : S) → Good s
-          → SomeReplyDiffers bits (flat_map (λ x. map (word_step bits x) (visits march (up march) d.words)) set)
-          (replies b Good lawful s (flat_map (λ x. map (word_step bits x) (visits march (up march) d.words)) set))
-      caught_in [] k inside solid s good = absurd (omega arith)
-      caught_in (x ∷ xs) zero inside solid s good =
-          let rest : List (Option WordOp) = flat_map (λ y. map (word_step bits y) (visits march (up march) d.words)) xs in
-          let found = caught s good in
-          subst (λ y. SomeReplyDiffers bits (map (word_step bits y) (visits march (up march) d.words) ++ rest)
-          (replies b Good lawful s (map (word_step bits y) (visits march (up march) d.words) ++ rest))) (sym solid)
-          (caught_steps (visits march (up march) d.words) rest s good found.0 found.1.before found.1.behind found.1.split found.1.wrong)
-      caught_in (x ∷ xs) (suc k) inside solid s good =
-          skipped (map (word_step bits x) (visits march (up march) d.words)) (flat_map (λ y. map (word_step bits y) (visits march (up march) d.words)) xs) s
-          (caught_in xs k (omega arith) solid (behind s (map (word_step bits x) (visits march (up march) d.words)))
-          (good_behind (map (word_step bits x) (visits march (up march) d.words)) s good))
+    -- the runs of the backgrounds, up to one of the background 0: the first, or else any where each begins with a state of this kind
+    module _ (march : List MarchElement) (d : Description) (same_bits : d.bits ≡ bits) (Begun : S → Type 0)
+        (caught : (rest : List (Option WordOp)) (s : S) → Good s → Begun s
+        → SomeReplyDiffers bits (map (word_step bits 0) (visits march (up march) d.words) ++ rest) (replies b Good lawful s (map (word_step bits 0) (visits march (up march) d.words) ++ rest))) where
+      abbrev one_run : ℕ → List (Option WordOp)
+      one_run x = map (word_step bits x) (visits march (up march) d.words)
 
-      pub catches : IsMemory d → (s : S) → Good s → SomeReplyDiffers d.bits (word_steps march d) (replies b Good lawful s (word_steps march d))
-      catches memory s good =
+      abbrev Fails : List ℕ → S → Type 0
+      Fails set s = SomeReplyDiffers bits (flat_map one_run set) (replies b Good lawful s (flat_map one_run set))
+
+      first_run : (x : ℕ) (xs : List ℕ) (s : S) → x ≡ 0 → Good s → Begun s → Fails (x ∷ xs) s
+      first_run x xs s solid good begun =
+          let rest : List (Option WordOp) = flat_map one_run xs in
+          subst (λ y. SomeReplyDiffers bits (one_run y ++ rest) (replies b Good lawful s (one_run y ++ rest))) (sym solid) (caught rest s good begun)
+
+      later_run : ((x : ℕ) (s : S) → Good s → Begun (behind s (one_run x))) → (set : List ℕ) (k : ℕ) → k < length set → slice_index_or set k 0 ≡ 0 → (s : S) → Good s → Begun s → Fails set s
+      later_run begins [] k inside solid s good begun = absurd (omega arith)
+      later_run begins (x ∷ xs) zero inside solid s good begun = first_run x xs s solid good begun
+      later_run begins (x ∷ xs) (suc k) inside solid s good begun =
+          skipped (one_run x) (flat_map one_run xs) s
+          (later_run begins xs k (omega arith) solid (behind s (one_run x)) (good_behind (one_run x) s good) (begins x s good))
+
+      some_run : (set : List ℕ) (k : ℕ) → k < length set → slice_index_or set k 0 ≡ 0 → (slice_get set 0 ≡ Some 0) ⊎ ((x : ℕ) (s : S) → Good s → Begun (behind s (one_run x)))
+          → (s : S) → Good s → Begun s → Fails set s
+      some_run set k inside solid (inr begins) s good begun = later_run begins set k inside solid s good begun
+      some_run [] k inside solid (inl first) s good begun = absurd (omega arith)
+      some_run (x ∷ xs) k inside solid (inl first) s good begun = first_run x xs s (let zero_is : x ≡ 0 = cc in zero_is) good begun
+
+      pub catches_begun : IsMemory d → (slice_get d.backgrounds 0 ≡ Some 0) ⊎ ((x : ℕ) (s : S) → Good s → Begun (behind s (one_run x))) → (s : S) → Good s → Begun s
+          → SomeReplyDiffers d.bits (word_steps march d) (replies b Good lawful s (word_steps march d))
+      catches_begun memory begins s good begun =
           let solid = memory.tested.solid in
-          let all = caught_in d.backgrounds solid.0 solid.1 solid.2 s good in
           subst (λ n. SomeReplyDiffers n (flat_map (λ x. map (word_step n x) (visits march (up march) d.words)) d.backgrounds)
-          (replies b Good lawful s (flat_map (λ x. map (word_step n x) (visits march (up march) d.words)) d.backgrounds))) (sym same_bits) all
+          (replies b Good lawful s (flat_map (λ x. map (word_step n x) (visits march (up march) d.words)) d.backgrounds))) (sym same_bits)
+          (some_run d.backgrounds solid.0 solid.1 solid.2 begins s good begun)
 
-    -- where the background 0 is the first, from one state alone
-    pub catches_first : (march : List MarchElement) (d : Description) → d.bits ≡ bits → IsMemory d → slice_index_or d.backgrounds 0 1 ≡ 0
-        → (s : S) → Good s → SomeDiffersBy after is_wrong (view s) (visits march (up march) d.words)
-        → SomeReplyDiffers d.bits (word_steps march d) (replies b Good lawful s (word_steps march d))
-    catches_first march d same_bits memory solid s good caught =
-        subst (λ n. SomeReplyDiffers n (flat_map (λ x. map (word_step n x) (visits march (up march) d.words)) d.backgrounds)
-        (replies b Good lawful s (flat_map (λ x. map (word_step n x) (visits march (up march) d.words)) d.backgrounds))) (sym same_bits)
-        (by d.backgrounds solid)
-      where
-        by : (set : List ℕ) → slice_index_or set 0 1 ≡ 0 → SomeReplyDiffers bits (flat_map (λ x. map (word_step bits x) (visits march (up march) d.words)) set)
-            (replies b Good lawful s (flat_map (λ x. map (word_step bits x) (visits march (up march) d.words)) set))
-        by [] e = cc
-        by (x ∷ xs) e =
-            let rest : List (Option WordOp) = flat_map (λ y. map (word_step bits y) (visits march (up march) d.words)) xs in
-            subst (λ y. SomeReplyDiffers bits (map (word_step bits y) (visits march (up march) d.words) ++ rest)
-            (replies b Good lawful s (map (word_step bits y) (visits march (up march) d.words) ++ rest))) (sym e)
-            (caught_steps (visits march (up march) d.words) rest s good caught.0 caught.1.before caught.1.behind caught.1.split caught.1.wrong)
+    -- a run of the background 0
+    pub one_caught : (vs : List MarchStep) (rest : List (Option WordOp)) (s : S) → Good s → SomeDiffersBy after is_wrong (view s) vs
+        → SomeReplyDiffers bits (map (word_step bits 0) vs ++ rest) (replies b Good lawful s (map (word_step bits 0) vs ++ rest))
+    one_caught vs rest s good found = caught_steps vs rest s good found.0 found.1.before found.1.behind found.1.split found.1.wrong
+
+    pub catches : (march : List MarchElement) (d : Description) → d.bits ≡ bits → ((s : S) → Good s → SomeDiffersBy after is_wrong (view s) (visits march (up march) d.words))
+        → IsMemory d → (s : S) → Good s → SomeReplyDiffers d.bits (word_steps march d) (replies b Good lawful s (word_steps march d))
+    catches march d same_bits caught memory s good =
+        catches_begun march d same_bits (λ s. Unit {0}) (λ rest s good begun. one_caught (visits march (up march) d.words) rest s good (caught s good)) memory (inr (λ x s good. tt)) s good tt

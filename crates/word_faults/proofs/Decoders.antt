@@ -1,44 +1,40 @@
 -- A fault of the decoder of words is, at each bit, that fault of the decoder of cells.
-use Rattle.std.proofs.Common.{◌≡◌, ◌≢◌, ◌<◌, ◌≤◌, ◌^◌, ◌%◌, ◌==◌, ℕ, IsTrue, Bool, true, false, Option, Some, None, List, length, refl, ap, sym, subst, ◌∙◌, arith, min, max, zero, suc}
+use Rattle.std.proofs.Common.{◌≡◌, ◌≢◌, ◌<◌, ◌^◌, ◌%◌, ◌==◌, ℕ, Bool, true, false, Some, List, length, refl, ap, sym, subst, ◌∙◌, arith, min, max, zero, suc}
 use Rattle.std.specs.Prelude.{if◌then◌else◌, ◌&&◌, ◌||◌, slice_set, slice_index}
 use Rattle.std.specs.Int.{bit_at}
 use Rattle.std.proofs.lemmas.List.{length-set}
 use Rattle.std.proofs.lemmas.Nat.Bits.{bit_at_and, bit_at_or, bit_at-lt, bit_at_ones}
-use Rattle.march_core.specs.declared.operation.Op.{Op}
-use Rattle.march_core.specs.declared.operation.Op.TheVariants.{W0, W1, R0, R1}
+use Rattle.fault_core.specs.declared.primitive.Act.TheVariants.{Write, Read}
 use Rattle.march_core.specs.March.{MarchElement, IsMarch}
 use Rattle.march_core.specs.Runs.{up, is_write, data_value}
-use Rattle.march_core.specs.Visits.{Visit, visiting, visits, Direction, is_direction}
+use Rattle.march_core.specs.Visits.{Visit, visiting, visits}
 use Rattle.array_sim.specs.Run.{act_of}
 use Rattle.array_sim.specs.Differing.{SomeDiffersBy}
 use Rattle.backgrounds.specs.Backgrounds.{word_of}
 use Rattle.memory_desc.specs.Descriptions.{Description, IsMemory}
 use Rattle.word_march.specs.Commands.{word_op}
-use Rattle.word_device.specs.Chips.{has_bit}
-use Rattle.word_device.proofs.Catching.{has_bit_solid}
-use Rattle.word_device.proofs.Lanes.{lane, lane_set, lane_cell, length-lane, has_bit-zero}
+use Rattle.word_march.specs.declared.operations.WordOp.{WordOp}
+use Rattle.word_device.specs.Chips.{has_bit, act_on}
+use Rattle.word_device.proofs.Lanes.{lane_set, lane_cell, length-lane, has_bit-zero}
 use Rattle.decoder_faults.specs.declared.fault.Wired.{Wired}
 use Rattle.decoder_faults.specs.declared.fault.Wired.TheVariants.{And, Or, Own}
-use Rattle.decoder_faults.specs.declared.fault.DecoderFault.{DecoderFault}
-use Rattle.decoder_faults.specs.Decoding.{AddressPair, FitsPair, HasFault, Decoder, Reach, no_cell, one_cell, two_cells, wired_bit, write_through, read_through, act_through, answer_through}
-use Rattle.decoder_faults.specs.Detection.{cells_behind, is_wrong_there, IsCaught, DetectsDecoder}
-use Rattle.decoder_faults.proofs.EverySize.{own_run, passes_where, caught_among}
-use Rattle.cell_machine.specs.declared.pair.Pair.{Pair}
+use Rattle.decoder_faults.specs.Decoding.{FitsPair, Decoder, Reach, no_cell, one_cell, two_cells, wired_bit, write_through, read_through, act_through, answer_through}
+use Rattle.decoder_faults.specs.Detection.{cells_behind, is_wrong_there}
+use Rattle.decoder_faults.proofs.Among.{caught_among}
+use Rattle.decoder_faults.proofs.TakenCells.{met_where}
 use Rattle.word_faults.specs.Laws.{DecoderFails}
+use Rattle.word_faults.specs.Cells.{column}
 use Rattle.word_faults.specs.Decoders.{write_words, wired_words, read_words, decoded}
 use Rattle.word_faults.proofs.Memories.{IsLawful}
 use Rattle.word_faults.proofs.Attaching.{ends_failing}
 use Rattle.word_faults.proofs.Catching.{catches}
-use Rattle.word_faults.proofs.Solid.{wrong_read, word_differs, up_fits}
-
-first_bit : ℕ → ℕ
-first_bit k = 0
+use Rattle.word_faults.proofs.Solid.{act_solid, wrong_read, word_differs, up_fits}
 
 -- ---- one bit of each word
 
-bits_of : (wired : Wired) (x y : ℕ) → has_bit (wired_words wired x y) 0 ≡ wired_bit wired (has_bit x 0) (has_bit y 0)
+bits_of : (wired : Wired) (x y j : ℕ) → has_bit (wired_words wired x y) j ≡ wired_bit wired (has_bit x j) (has_bit y j)
 unfolding has_bit
-bits_of And x y = ap (λ (n : ℕ). n == 1) (bit_at_and x y 0) ∙ of_min (bit_at x 0) (bit_at y 0) (bit_at-lt x 0) (bit_at-lt y 0)
+bits_of And x y j = ap (λ (n : ℕ). n == 1) (bit_at_and x y j) ∙ of_min (bit_at x j) (bit_at y j) (bit_at-lt x j) (bit_at-lt y j)
   where
     of_min : (a c : ℕ) → a < 2 → c < 2 → (min a c == 1) ≡ ((a == 1) && (c == 1))
     of_min zero zero h k = refl
@@ -47,7 +43,7 @@ bits_of And x y = ap (λ (n : ℕ). n == 1) (bit_at_and x y 0) ∙ of_min (bit_a
     of_min (suc zero) (suc zero) h k = refl
     of_min (suc (suc a)) c h k = absurd (omega (arith, h))
     of_min a (suc (suc c)) h k = absurd (omega (arith, k))
-bits_of Or x y = ap (λ (n : ℕ). n == 1) (bit_at_or x y 0) ∙ of_max (bit_at x 0) (bit_at y 0) (bit_at-lt x 0) (bit_at-lt y 0)
+bits_of Or x y j = ap (λ (n : ℕ). n == 1) (bit_at_or x y j) ∙ of_max (bit_at x j) (bit_at y j) (bit_at-lt x j) (bit_at-lt y j)
   where
     of_max : (a c : ℕ) → a < 2 → c < 2 → (max a c == 1) ≡ ((a == 1) || (c == 1))
     of_max zero zero h k = refl
@@ -56,28 +52,34 @@ bits_of Or x y = ap (λ (n : ℕ). n == 1) (bit_at_or x y 0) ∙ of_max (bit_at 
     of_max (suc zero) (suc zero) h k = refl
     of_max (suc (suc a)) c h k = absurd (omega (arith, h))
     of_max a (suc (suc c)) h k = absurd (omega (arith, k))
-bits_of Own x y = refl
+bits_of Own x y j = refl
 
-write_as : (reach : Reach) (ws : List ℕ) (word : ℕ) (bit : Bool) → has_bit word 0 ≡ bit → lane first_bit (write_words reach ws word) ≡ write_through reach (lane first_bit ws) bit
-unfolding first_bit
-write_as (no_cell answer) ws word bit h = refl
-write_as (one_cell c) ws word bit h = lane_set (λ k. 0) ws c word ∙ ap (slice_set (lane (λ k. 0) ws) c) h
-write_as (two_cells wired c e) ws word bit h =
-    lane_set (λ k. 0) (slice_set ws c word) e word ∙ ap (λ l. slice_set l e (has_bit word 0)) (lane_set (λ k. 0) ws c word)
-    ∙ ap (λ x. slice_set (slice_set (lane (λ k. 0) ws) c x) e x) h
+write_as : (j : ℕ) (reach : Reach) (ws : List ℕ) (word : ℕ) → column j (write_words reach ws word) ≡ write_through reach (column j ws) (has_bit word j)
+write_as j (no_cell answer) ws word = refl
+write_as j (one_cell c) ws word = lane_set (λ k. j) ws c word
+write_as j (two_cells wired c e) ws word =
+    lane_set (λ k. j) (slice_set ws c word) e word ∙ ap (λ l. slice_set l e (has_bit word j)) (lane_set (λ k. j) ws c word)
 
-read_as : (bits : ℕ) → 0 < bits → (reach : Reach) (ws : List ℕ) → has_bit (read_words bits reach ws) 0 ≡ read_through reach (lane first_bit ws)
-unfolding first_bit has_bit
-read_as bits some (no_cell true) ws = rw (bit_at_ones bits 0 some) refl
-read_as bits some (no_cell false) ws = has_bit-zero 0
-read_as bits some (one_cell c) ws = sym (lane_cell (λ k. 0) ws c)
-read_as bits some (two_cells wired c e) ws =
-    bits_of wired (slice_index ws c) (slice_index ws e)
-    ∙ ap (λ x. wired_bit wired x (has_bit (slice_index ws e) 0)) (sym (lane_cell (λ k. 0) ws c))
-    ∙ ap (λ x. wired_bit wired (cell_at ws c) x) (sym (lane_cell (λ k. 0) ws e))
+pub read_as : (bits j : ℕ) → j < bits → (reach : Reach) (ws : List ℕ) → has_bit (read_words bits reach ws) j ≡ read_through reach (column j ws)
+unfolding has_bit
+read_as bits j some (no_cell true) ws = rw (bit_at_ones bits j some) refl
+read_as bits j some (no_cell false) ws = has_bit-zero j
+read_as bits j some (one_cell c) ws = sym (lane_cell (λ k. j) ws c)
+read_as bits j some (two_cells wired c e) ws =
+    bits_of wired (slice_index ws c) (slice_index ws e) j
+    ∙ ap (λ x. wired_bit wired x (has_bit (slice_index ws e) j)) (sym (lane_cell (λ k. j) ws c))
+    ∙ ap (λ x. wired_bit wired (cell_at ws c) x) (sym (lane_cell (λ k. j) ws e))
   where
     cell_at : List ℕ → ℕ → Bool
-    cell_at ws c = read_through (one_cell c) (lane (λ k. 0) ws)
+    cell_at ws c = read_through (one_cell c) (column j ws)
+
+pub acts_as : (bits j : ℕ) (decoder : Decoder) (ws : List ℕ) (o : WordOp) → column j ((decoded bits decoder).after ws o) ≡ act_through (decoder o.index) (column j ws) (act_on o j)
+acts_as bits j decoder ws o = go o.write
+  where
+    go : (write : Bool) → column j (if write then write_words (decoder o.index) ws o.word else ws)
+        ≡ act_through (decoder o.index) (column j ws) (if write then Write (has_bit o.word j) else Read)
+    go true = write_as j (decoder o.index) ws o.word
+    go false = refl
 
 -- ---- the steps of the march
 
@@ -91,7 +93,10 @@ lawful bits words decoder = record {
   same_after = λ s k x y. refl;
   same_reply = λ s k x y. refl;
   good_after = λ s o good. by o.write s o.index o.word good;
+  good_idled = λ s good. good;
   good_paused = λ s good. good;
+  idled_paused = λ s good. refl;
+  paused_idled = λ s good. refl;
   settled = λ s good. refl;
 }
   where
@@ -100,39 +105,20 @@ lawful bits words decoder = record {
     by false s k word good = good
 
 module _ (bits : ℕ) (some : 0 < bits) (decoder : Decoder) where
-  visits_as : (ws : List ℕ) (v : Visit)
-      → lane first_bit ((decoded bits decoder).after ws (word_op bits 0 v)) ≡ cells_behind decoder (lane first_bit ws) (visiting v)
-  visits_as ws v = go v.op
-    where
-      go : (op : Op) → lane first_bit (if is_write op then write_words (decoder v.address) ws (word_of 0 (data_value op) bits) else ws)
-          ≡ act_through (decoder v.address) (lane first_bit ws) (act_of op)
-      go W0 = write_as (decoder v.address) ws (word_of 0 false bits) false (has_bit_solid bits 0 false some)
-      go W1 = write_as (decoder v.address) ws (word_of 0 true bits) true (has_bit_solid bits 0 true some)
-      go R0 = refl
-      go R1 = refl
+  visits_as : (ws : List ℕ) (v : Visit) → column 0 ((decoded bits decoder).after ws (word_op bits 0 v)) ≡ cells_behind decoder (column 0 ws) (visiting v)
+  visits_as ws v = acts_as bits 0 decoder ws (word_op bits 0 v) ∙ ap (act_through (decoder v.address) (column 0 ws)) (act_solid bits 0 v some)
 
-  wrong_as : (ws : List ℕ) (v : Visit) → is_wrong_there decoder (lane first_bit ws) v ≡ true
+  wrong_as : (ws : List ℕ) (v : Visit) → is_wrong_there decoder (column 0 ws) v ≡ true
       → (is_write v.op ≡ false) × ((decoded bits decoder).reply ws (word_op bits 0 v) % 2 ^ bits ≢ word_of 0 (data_value v.op) bits)
   wrong_as ws v wrong =
-      let bad = wrong_read v.op (answer_through (decoder v.address) (lane first_bit ws) (act_of v.op)) wrong in
+      let bad = wrong_read v.op (answer_through (decoder v.address) (column 0 ws) (act_of v.op)) wrong in
       let reply : (decoded bits decoder).reply ws (word_op bits 0 v) ≡ read_words bits (decoder v.address) ws =
       ap (λ (w : Bool). if w then 0 else read_words bits (decoder v.address) ws) bad.0 in
-      let shown : answer_through (decoder v.address) (lane first_bit ws) (act_of v.op) ≡ Some (has_bit ((decoded bits decoder).reply ws (word_op bits 0 v)) 0) =
-      ap (answer_through (decoder v.address) (lane first_bit ws)) bad.1 ∙ ap Some (sym (read_as bits some (decoder v.address) ws)) ∙ ap (λ n. Some (has_bit n 0)) (sym reply) in
+      let shown : answer_through (decoder v.address) (column 0 ws) (act_of v.op) ≡ Some (has_bit ((decoded bits decoder).reply ws (word_op bits 0 v)) 0) =
+      ap (answer_through (decoder v.address) (column 0 ws)) bad.1 ∙ ap Some (sym (read_as bits 0 some (decoder v.address) ws)) ∙ ap (λ n. Some (has_bit n 0)) (sym reply) in
       (bad.0, word_differs bits 0 v ((decoded bits decoder).reply ws (word_op bits 0 v)) some (λ e. bad.2 (shown ∙ e)))
 
 -- ---- the test
-
--- what is detected alone is detected among others
-among : (march : List MarchElement) (fault : DecoderFault) → IsMarch march → (size : ℕ) → 2 ≤ size → DetectsDecoder march fault → (directions : List Direction) (decoder : Decoder)
-    (at : AddressPair) (content : List Bool) → IsTrue (is_direction march directions) → FitsPair at size → HasFault decoder fault at size → length content ≡ size
-    → IsCaught march directions decoder content
-among march fault is size two detects directions decoder at content fits places has count =
-    go (own_run fault at march directions content) refl (subst (FitsPair at) (sym count) places) (subst (HasFault decoder fault at) (sym count) has)
-  where
-    go : (r : Option Pair) → own_run fault at march directions content ≡ r → FitsPair at (length content) → HasFault decoder fault at (length content) → IsCaught march directions decoder content
-    go None e within there = caught_among fault at march is directions content within decoder there e
-    go (Some q) e within there = absurd (passes_where fault at march is directions content within q e (detects size two directions at content fits places count))
 
 pub decoder_fails : (march : List MarchElement) (d : Description) → IsMarch march → IsMemory d → DecoderFails march d
 decoder_fails march d marches is mo test forms fault detected m at decoder has places fault_is =
@@ -140,12 +126,12 @@ decoder_fails march d marches is mo test forms fault detected m at decoder has p
     let law = lawful d.bits d.words decoder in
     let Good : List ℕ → Type 0 = λ ws. length ws ≡ d.words in
     ends_failing (decoded d.bits decoder) Good law mo march d test forms is
-    (catches (decoded d.bits decoder) Good law d.bits (cells_behind decoder) (is_wrong_there decoder) (lane first_bit)
+    (catches (decoded d.bits decoder) Good law d.bits (cells_behind decoder) (is_wrong_there decoder) (column 0)
     (λ s v good. visits_as d.bits some decoder s v) (λ s e good. refl) (λ s v good wrong. wrong_as d.bits some decoder s v wrong) march d refl
     (λ s good. by s good) is) m has.words has.under_way
   where
-    by : (s : List ℕ) → length s ≡ d.words → SomeDiffersBy (cells_behind decoder) (is_wrong_there decoder) (lane first_bit s) (visits march (up march) d.words)
+    by : (s : List ℕ) → length s ≡ d.words → SomeDiffersBy (cells_behind decoder) (is_wrong_there decoder) (column 0 s) (visits march (up march) d.words)
     by s good =
-        let size : length (lane first_bit s) ≡ d.words = length-lane first_bit s ∙ good in
-        subst (λ (n : ℕ). SomeDiffersBy (cells_behind decoder) (is_wrong_there decoder) (lane first_bit s) (visits march (up march) n)) size
-        (among march fault marches d.words is.words_low detected (up march) decoder at (lane first_bit s) (up_fits march) places fault_is size)
+        let size : length (column 0 s) ≡ d.words = length-lane (λ k. 0) s ∙ good in
+        subst (λ (n : ℕ). SomeDiffersBy (cells_behind decoder) (is_wrong_there decoder) (column 0 s) (visits march (up march) n)) size
+        (caught_among march fault (met_where march fault marches detected) (up march) decoder at (column 0 s) (up_fits march) (subst (FitsPair at) (sym size) places) fault_is)

@@ -1,15 +1,15 @@
--- A linked fault at bits of three words is, in a lane through these bits, that fault at three cells.
-use Rattle.std.proofs.Common.{◌≡◌, ◌≢◌, ◌<◌, ◌≤◌, ◌^◌, ◌%◌, ℕ, Bool, true, false, cond, eqb, ◌&&◌, ◌||◌, Option, Some, None, List, length, refl, ap, sym, subst, ◌∙◌, ⊎_elim, arith}
+-- A linked fault at bits of different words is, in a lane through these bits, that fault at cells.
+use Rattle.std.proofs.Common.{◌≡◌, ◌≢◌, ◌<◌, ◌≤◌, ◌^◌, ◌%◌, ℕ, Bool, true, false, cond, eqb, ◌&&◌, ◌||◌, Option, Some, None, IsSome, List, [], ◌∷◌, ◌++◌, length, length-append, refl, ap, sym, subst, ◌∙◌, ◌↔◌, ⊎_elim, arith}
 use Rattle.std.specs.Prelude.{if◌then◌else◌, slice_set, slice_index}
-use Rattle.std.proofs.lemmas.Bool.{ne_eqb}
+use Rattle.std.proofs.lemmas.Bool.{ne_eqb, cases_lt}
 use Rattle.std.proofs.lemmas.Bool.Decides.{eqb_tells}
 use Rattle.std.proofs.lemmas.List.{length-set}
 use Rattle.fault_core.specs.declared.primitive.Act.TheVariants.{Write, Read}
 use Rattle.fault_core.specs.declared.primitive.Sense.{Sense}
 use Rattle.fault_core.specs.declared.cells.Places.{Places}
 use Rattle.fault_core.specs.Primitive.{IsPrimitive, is_retention}
-use Rattle.fault_core.specs.Cells.{acts, plain_cells, plain_answer, answer_or, step_answer, states_hold}
-use Rattle.march_core.specs.March.{MarchElement}
+use Rattle.fault_core.specs.Cells.{acts, plain_cells, plain_answer, answer_or, step_answer, states_hold, FitsAgg, FitsPlace}
+use Rattle.march_core.specs.March.{MarchElement, IsMarch}
 use Rattle.march_core.specs.Runs.{up, is_write, data_value}
 use Rattle.march_core.specs.Visits.{Visit, visiting, pausing, visits}
 use Rattle.array_sim.specs.Run.{act_of}
@@ -20,72 +20,121 @@ use Rattle.word_march.specs.declared.operations.WordOp.{WordOp}
 use Rattle.word_march.specs.Commands.{word_op}
 use Rattle.word_device.specs.declared.device.BitPlace.{BitPlace}
 use Rattle.word_device.specs.declared.device.Planted.{Planted}
-use Rattle.word_device.specs.Chips.{has_bit, with_bit, with_bit_in, bits_hold, act_on, falls_on, falls_on_agg, matches, plain_words, plain_reply, answered, reply_to}
+use Rattle.word_device.specs.Chips.{FitsAggPlace, has_bit, with_bit, with_bit_in, bits_hold, act_on, falls_on, falls_on_agg, matches, plain_words, plain_reply, answered, reply_to}
 use Rattle.word_device.proofs.Lanes.{lane, lane_set, length-lane}
 use Rattle.word_device.proofs.Porting.{op_of}
 use Rattle.word_device.proofs.Steps.{word_at, spots, Through, ThroughAgg, lane_with_bit, lane_if, matches_same, lane_reply}
 use Rattle.linked_faults.specs.declared.link.Link.{Link}
 use Rattle.linked_faults.specs.declared.link.Spots.{Spots}
-use Rattle.linked_faults.specs.Linking.{FitsSpots, beside, first_places, second_places, linked_cells, linked_answer, linked_pause}
-use Rattle.linked_faults.specs.Detection.{cells_behind, is_wrong_there}
+use Rattle.linked_faults.specs.Linking.{FitsLink, first_places, second_places, linked_cells, linked_answer, linked_pause}
+use Rattle.linked_faults.specs.Detection.{cells_behind, is_wrong_there, Detects}
+use Rattle.linked_faults.proofs.Places.{have_spots}
 use Rattle.word_faults.specs.Laws.{LinkedFails}
-use Rattle.word_faults.specs.Linked.{Bits, FitsBits, bit_beside, first_of, second_of, linked_words, linked_reply, linked_rest, linked}
+use Rattle.word_faults.specs.Linked.{Bits, FitsBits, bit_beside, first_of, second_of, linked_words, linked_reply, linked}
 use Rattle.word_faults.proofs.Memories.{IsLawful}
 use Rattle.word_faults.proofs.Attaching.{ends_failing}
 use Rattle.word_faults.proofs.Catching.{catches}
+use Rattle.word_faults.proofs.Fewer.{fewer}
 use Rattle.word_faults.proofs.Solid.{act_solid, wrong_read, word_differs, up_fits}
 
 -- ---- the lane
 
-abbrev cells_of : Bits → Spots
-cells_of at = record { a = at.a.word; b = at.b.word; v = at.v.word }
+abbrev choose : Option BitPlace → ℕ → ℕ → ℕ
+choose None k other = other
+choose (Some p) k other = cond (eqb p.word k) p.bit other
 
-lane_of : Bits → ℕ → ℕ
-lane_of at k = cond (eqb at.v.word k) at.v.bit (cond (eqb at.a.word k) at.a.bit at.b.bit)
+abbrev second_at : Link → Bits → BitPlace
+second_at link at = if link.is_shared then at.a else at.b
+
+lane_of : Link → Bits → ℕ → ℕ
+lane_of link at k =
+    cond (eqb at.v.word k) at.v.bit (choose (bit_beside link.first.agg at.a) k (choose (bit_beside link.second.agg (second_at link at)) k at.v.bit))
 
 pub same_number : (n : ℕ) → eqb n n ≡ true
 same_number n = ⊎_elim (λ (h : (eqb n n ≡ true) × (n ≡ n)). h.0) (λ (h : (eqb n n ≡ false) × (n ≢ n)). absurd (h.1 refl)) (eqb_tells n n)
 
-at_v : (at : Bits) → lane_of at at.v.word ≡ at.v.bit
+at_v : (link : Link) (at : Bits) → lane_of link at at.v.word ≡ at.v.bit
 unfolding lane_of
-at_v at = ap (λ b. cond b at.v.bit (cond (eqb at.a.word at.v.word) at.a.bit at.b.bit)) (same_number at.v.word)
+at_v link at =
+    ap (λ b. cond b at.v.bit (choose (bit_beside link.first.agg at.a) at.v.word (choose (bit_beside link.second.agg (second_at link at)) at.v.word at.v.bit)))
+    (same_number at.v.word)
 
-at_a : (at : Bits) → at.a.word ≢ at.v.word → lane_of at at.a.word ≡ at.a.bit
-unfolding lane_of
-at_a at apart =
-    ap (λ b. cond b at.v.bit (cond (eqb at.a.word at.a.word) at.a.bit at.b.bit)) (ne_eqb at.v.word at.a.word (λ e. apart (sym e)))
-    ∙ ap (λ b. cond b at.a.bit at.b.bit) (same_number at.a.word)
+module _ (link : Link) (at : Bits) (words bits : ℕ) (fits : FitsBits link at words bits) where
+  at_first : ThroughAgg (bit_beside link.first.agg at.a) (lane_of link at)
+  unfolding lane_of
+  at_first = go link.first.agg fits.first.agg
+    where
+      rest : ℕ → ℕ
+      rest k = choose (bit_beside link.second.agg (second_at link at)) k at.v.bit
 
-at_b : (at : Bits) → at.b.word ≢ at.v.word → at.a.word ≢ at.b.word → lane_of at at.b.word ≡ at.b.bit
-unfolding lane_of
-at_b at apart other =
-    ap (λ b. cond b at.v.bit (cond (eqb at.a.word at.b.word) at.a.bit at.b.bit)) (ne_eqb at.v.word at.b.word (λ e. apart (sym e)))
-    ∙ ap (λ b. cond b at.a.bit at.b.bit) (ne_eqb at.a.word at.b.word other)
+      go : (f : Option Sense) → FitsAggPlace f (bit_beside f at.a) at.v words bits
+          → ThroughAgg (bit_beside f at.a) (λ k. cond (eqb at.v.word k) at.v.bit (choose (bit_beside f at.a) k (choose (bit_beside link.second.agg (second_at link at)) k at.v.bit)))
+      go None h = tt
+      go (Some sense) h =
+          ap (λ b. cond b at.v.bit (cond (eqb at.a.word at.a.word) at.a.bit (choose (bit_beside link.second.agg (second_at link at)) at.a.word at.v.bit)))
+          (ne_eqb at.v.word at.a.word (λ e. h.2 (sym e)))
+          ∙ ap (λ b. cond b at.a.bit (choose (bit_beside link.second.agg (second_at link at)) at.a.word at.v.bit)) (same_number at.a.word)
 
-lane_below : (at : Bits) (words bits : ℕ) → FitsBits at words bits → (k : ℕ) → lane_of at k < bits
-unfolding lane_of
-lane_below at words bits fits k = go (eqb at.v.word k) (eqb at.a.word k)
-  where
-    go : (x y : Bool) → cond x at.v.bit (cond y at.a.bit at.b.bit) < bits
-    go true y = fits.v_bit
-    go false true = fits.a_bit
-    go false false = fits.b_bit
+  at_second : ThroughAgg (bit_beside link.second.agg (second_at link at)) (lane_of link at)
+  unfolding lane_of
+  at_second = go link.first.agg link.second.agg link.is_shared fits.second.agg fits.apart
+    where
+      go : (f g : Option Sense) (shared : Bool) → (let q : BitPlace = if shared then at.a else at.b in FitsAggPlace g (bit_beside g q) at.v words bits)
+          → (IsSome f → IsSome g → shared ≡ false → at.a.word ≢ at.b.word)
+          → (let q : BitPlace = if shared then at.a else at.b in ThroughAgg (bit_beside g q) (λ k. cond (eqb at.v.word k) at.v.bit (choose (bit_beside f at.a) k (choose (bit_beside g q) k at.v.bit))))
+      go f None shared h apart = tt
+      go None (Some sense) true h apart =
+          ap (λ b. cond b at.v.bit (cond (eqb at.a.word at.a.word) at.a.bit at.v.bit)) (ne_eqb at.v.word at.a.word (λ e. h.2 (sym e)))
+          ∙ ap (λ b. cond b at.a.bit at.v.bit) (same_number at.a.word)
+      go None (Some sense) false h apart =
+          ap (λ b. cond b at.v.bit (cond (eqb at.b.word at.b.word) at.b.bit at.v.bit)) (ne_eqb at.v.word at.b.word (λ e. h.2 (sym e)))
+          ∙ ap (λ b. cond b at.b.bit at.v.bit) (same_number at.b.word)
+      go (Some first) (Some sense) true h apart =
+          ap (λ b. cond b at.v.bit (cond (eqb at.a.word at.a.word) at.a.bit (cond (eqb at.a.word at.a.word) at.a.bit at.v.bit))) (ne_eqb at.v.word at.a.word (λ e. h.2 (sym e)))
+          ∙ ap (λ b. cond b at.a.bit (cond b at.a.bit at.v.bit)) (same_number at.a.word)
+      go (Some first) (Some sense) false h apart =
+          ap (λ b. cond b at.v.bit (cond (eqb at.a.word at.b.word) at.a.bit (cond (eqb at.b.word at.b.word) at.b.bit at.v.bit))) (ne_eqb at.v.word at.b.word (λ e. h.2 (sym e)))
+          ∙ ap (λ b. cond b at.a.bit (cond (eqb at.b.word at.b.word) at.b.bit at.v.bit)) (ne_eqb at.a.word at.b.word (apart refl refl refl))
+          ∙ ap (λ b. cond b at.b.bit at.v.bit) (same_number at.b.word)
 
-through_beside : (agg : Option Sense) (p : BitPlace) (t : ℕ → ℕ) → t p.word ≡ p.bit → ThroughAgg (bit_beside agg p) t
-through_beside None p t e = tt
-through_beside (Some sense) p t e = e
+  lane_below : (k : ℕ) → lane_of link at k < bits
+  unfolding lane_of
+  lane_below k =
+      either (eqb at.v.word k) (chosen link.first.agg at.a k _ fits.first.agg (chosen link.second.agg (second_at link at) k at.v.bit fits.second.agg fits.first.bit))
+    where
+      either : (b : Bool) {x : ℕ} → x < bits → cond b at.v.bit x < bits
+      either true low = fits.first.bit
+      either false low = low
 
-word_beside : (agg : Option Sense) (p : BitPlace) → word_at (bit_beside agg p) ≡ beside agg p.word
-word_beside None p = refl
-word_beside (Some sense) p = refl
+      chosen : (f : Option Sense) (p : BitPlace) (k other : ℕ) → FitsAggPlace f (bit_beside f p) at.v words bits → other < bits → choose (bit_beside f p) k other < bits
+      chosen None p k other h low = low
+      chosen (Some sense) p k other h low = go (eqb p.word k)
+        where
+          go : (b : Bool) → cond b p.bit other < bits
+          go true = h.1
+          go false = low
 
-shared_bit : (at : Bits) (s : Bool) (t : ℕ → ℕ) → t at.a.word ≡ at.a.bit → t at.b.word ≡ at.b.bit → (let p : BitPlace = if s then at.a else at.b in t p.word ≡ p.bit)
-shared_bit at true t e f = e
-shared_bit at false t e f = f
+  agg_cell : (f : Option Sense) (p : BitPlace) → FitsAggPlace f (bit_beside f p) at.v words bits → FitsAgg f (word_at (bit_beside f p)) at.v.word words
+  agg_cell None p h = tt
+  agg_cell (Some sense) p h = (h.0, h.2)
 
-shared_word : (at : Bits) (s : Bool) → (let p : BitPlace = if s then at.a else at.b in p.word) ≡ (if s then at.a.word else at.b.word)
-shared_word at true = refl
-shared_word at false = refl
+  fits_link : FitsLink link (spots (first_of link at)) (spots (second_of link at)) words
+  fits_link = record {
+    first_fits = record { victim = fits.first.word; aggressor = agg_cell link.first.agg at.a fits.first.agg };
+    second_fits = record { victim = fits.second.word; aggressor = agg_cell link.second.agg (second_at link at) fits.second.agg };
+    victim = refl;
+    aggressors = λ x y. one_or_two link.first.agg link.second.agg link.is_shared fits.apart x y;
+  }
+    where
+      one_or_two : (f g : Option Sense) (shared : Bool) → (IsSome f → IsSome g → shared ≡ false → at.a.word ≢ at.b.word) → (x y : ℕ) → word_at (bit_beside f at.a) ≡ Some x
+          → (let q : BitPlace = if shared then at.a else at.b in word_at (bit_beside g q)) ≡ Some y → (x ≡ y) ↔ (shared ≡ true)
+      one_or_two None g shared apart x y e k = cc
+      one_or_two (Some f) None shared apart x y e k = cc
+      one_or_two (Some f) (Some g) true apart x y e k = let same : x ≡ y = cc in ((λ h. refl), (λ h. same))
+      one_or_two (Some f) (Some g) false apart x y e k =
+          let first : at.a.word ≡ x = cc in
+          let second : at.b.word ≡ y = cc in
+          ((λ h. absurd (apart refl refl refl (first ∙ h ∙ sym second))), (λ h. cc))
 
 -- ---- lengths
 
@@ -119,26 +168,21 @@ matches_read i ws k x y =
 
 -- ---- the fault
 
-module _ (link : Link) (at : Bits) (words bits : ℕ) (fits : FitsBits at words bits) (first : IsPrimitive link.first) (second : IsPrimitive link.second)
-    (first_stays : is_retention link.first ≡ false) (second_stays : is_retention link.second ≡ false) where
+module _ (link : Link) (at : Bits) (words bits : ℕ) (fits : FitsBits link at words bits) (first : IsPrimitive link.first) (second : IsPrimitive link.second)
+    (first_stays : is_retention link.first ≡ false) (second_stays : is_retention link.second ≡ false) (s : Spots) (first_is : first_places link s ≡ spots (first_of link at))
+    (second_is : second_places link s ≡ spots (second_of link at)) where
   abbrev Good : List ℕ → Type 0
   Good ws = length ws ≡ words
 
   abbrev t : ℕ → ℕ
-  t = lane_of at
+  t = lane_of link at
 
-  rests : (ws : List ℕ) → linked_rest link at ws ≡ ws
-  rests ws =
-      ap (λ (b : Bool). if b && bits_hold (first_of link at) ws then with_bit_in ws at.v link.first.after
-      else if is_retention link.second && bits_hold (second_of link at) ws then with_bit_in ws at.v link.second.after else ws) first_stays
-      ∙ ap (λ (b : Bool). if b && bits_hold (second_of link at) ws then with_bit_in ws at.v link.second.after else ws) second_stays
-
-  cells_rest : (cs : List Bool) → linked_pause link (cells_of at) cs ≡ cs
+  cells_rest : (cs : List Bool) → linked_pause link s cs ≡ cs
   unfolding linked_pause
   cells_rest cs =
-      ap (λ (b : Bool). if b && states_hold link.first (first_places link (cells_of at)) cs then slice_set cs at.v.word link.first.after
-      else if is_retention link.second && states_hold link.second (second_places link (cells_of at)) cs then slice_set cs at.v.word link.second.after else cs) first_stays
-      ∙ ap (λ (b : Bool). if b && states_hold link.second (second_places link (cells_of at)) cs then slice_set cs at.v.word link.second.after else cs) second_stays
+      ap (λ (b : Bool). if b && states_hold link.first (first_places link s) cs then slice_set cs s.v link.first.after
+      else if is_retention link.second && states_hold link.second (second_places link s) cs then slice_set cs s.v link.second.after else cs) first_stays
+      ∙ ap (λ (b : Bool). if b && states_hold link.second (second_places link s) cs then slice_set cs s.v link.second.after else cs) second_stays
 
   lawful : IsLawful (linked link at) Good
   lawful = record {
@@ -161,76 +205,72 @@ module _ (link : Link) (at : Bits) (words bits : ℕ) (fits : FitsBits at words 
         (length_bit plain at.v link.first.after ∙ length_plain s o ∙ good)
         (length_if (matches (second_of link at) s o) (with_bit_in plain at.v link.second.after) plain words
         (length_bit plain at.v link.second.after ∙ length_plain s o ∙ good) (length_plain s o ∙ good));
-    good_paused = λ s good. ap length (rests s) ∙ good;
-    settled = λ s good. ap (linked_rest link at) (rests s);
+    good_idled = λ s good. good;
+    good_paused = λ s good. good;
+    idled_paused = λ s good. refl;
+    paused_idled = λ s good. refl;
+    settled = λ s good. refl;
   }
 
   -- ---- as cells
 
   through_first : Through (first_of link at) t
-  through_first = record { vic = at_v at; agg = through_beside link.first.agg at.a t (at_a at fits.a_v) }
+  through_first = record { vic = at_v link at; agg = at_first link at words bits fits }
 
   through_second : Through (second_of link at) t
-  through_second = record {
-    vic = at_v at;
-    agg = through_beside link.second.agg (if link.is_shared then at.a else at.b) t
-        (shared_bit at link.is_shared t (at_a at fits.a_v) (at_b at fits.b_v fits.a_b));
-  }
+  through_second = record { vic = at_v link at; agg = at_second link at words bits fits }
 
-  places_of : Option ℕ → Places
-  places_of agg = record { agg = agg; vic = at.v.word }
+  victim_is : s.v ≡ at.v.word
+  victim_is = ap (λ (p : Places). p.vic) first_is
 
-  first_spots : spots (first_of link at) ≡ first_places link (cells_of at)
-  unfolding places_of
-  first_spots = ap places_of (word_beside link.first.agg at.a)
+  first_spots : spots (first_of link at) ≡ first_places link s
+  first_spots = sym first_is
 
-  second_spots : spots (second_of link at) ≡ second_places link (cells_of at)
-  unfolding places_of
-  second_spots =
-      ap places_of (word_beside link.second.agg (if link.is_shared then at.a else at.b) ∙ ap (beside link.second.agg) (shared_word at link.is_shared))
+  second_spots : spots (second_of link at) ≡ second_places link s
+  second_spots = sym second_is
 
-  first_acts : (ws : List ℕ) (o : WordOp) → matches (first_of link at) ws o ≡ acts link.first (first_places link (cells_of at)) (lane t ws) o.index (act_on o (t o.index))
+  first_acts : (ws : List ℕ) (o : WordOp) → matches (first_of link at) ws o ≡ acts link.first (first_places link s) (lane t ws) o.index (act_on o (t o.index))
   first_acts ws o =
       matches_same (first_of link at) t ws o through_first ∙ ap (λ p. acts link.first p (lane t ws) o.index (act_on o (t o.index))) first_spots
 
-  second_acts : (ws : List ℕ) (o : WordOp) → matches (second_of link at) ws o ≡ acts link.second (second_places link (cells_of at)) (lane t ws) o.index (act_on o (t o.index))
+  second_acts : (ws : List ℕ) (o : WordOp) → matches (second_of link at) ws o ≡ acts link.second (second_places link s) (lane t ws) o.index (act_on o (t o.index))
   second_acts ws o =
       matches_same (second_of link at) t ws o through_second ∙ ap (λ p. acts link.second p (lane t ws) o.index (act_on o (t o.index))) second_spots
 
-  lane_linked : (ws : List ℕ) (o : WordOp) → lane t (linked_words link at ws o) ≡ linked_cells link (cells_of at) (lane t ws) o.index (act_on o (t o.index))
+  lane_linked : (ws : List ℕ) (o : WordOp) → lane t (linked_words link at ws o) ≡ linked_cells link s (lane t ws) o.index (act_on o (t o.index))
   unfolding linked_cells
   lane_linked ws o =
       let plain = plain_words ws o in
       let cs = plain_cells (lane t ws) o.index (act_on o (t o.index)) in
       let by_plain : lane t plain ≡ cs = lane_plain t ws o in
-      let set : (b : Bool) → lane t (with_bit_in plain at.v b) ≡ slice_set cs at.v.word b =
-      λ b. lane_with_bit t plain at.v b (at_v at) ∙ ap (λ l. slice_set l at.v.word b) by_plain in
+      let set : (b : Bool) → lane t (with_bit_in plain at.v b) ≡ slice_set cs s.v b =
+      λ b. lane_with_bit t plain at.v b (at_v link at) ∙ ap (λ l. slice_set l at.v.word b) by_plain ∙ ap (λ x. slice_set cs x b) (sym victim_is) in
       ap (λ b. lane t (if b then with_bit_in plain at.v link.first.after else if matches (second_of link at) ws o then with_bit_in plain at.v link.second.after else plain)) (first_acts ws o)
-      ∙ lane_if t (acts link.first (first_places link (cells_of at)) (lane t ws) o.index (act_on o (t o.index)))
+      ∙ lane_if t (acts link.first (first_places link s) (lane t ws) o.index (act_on o (t o.index)))
       (with_bit_in plain at.v link.first.after) (if matches (second_of link at) ws o then with_bit_in plain at.v link.second.after else plain)
-      (slice_set cs at.v.word link.first.after)
-      (if acts link.second (second_places link (cells_of at)) (lane t ws) o.index (act_on o (t o.index)) then slice_set cs at.v.word link.second.after else cs)
+      (slice_set cs s.v link.first.after)
+      (if acts link.second (second_places link s) (lane t ws) o.index (act_on o (t o.index)) then slice_set cs s.v link.second.after else cs)
       (set link.first.after)
       (ap (λ b. lane t (if b then with_bit_in plain at.v link.second.after else plain)) (second_acts ws o)
-      ∙ lane_if t (acts link.second (second_places link (cells_of at)) (lane t ws) o.index (act_on o (t o.index)))
-      (with_bit_in plain at.v link.second.after) plain (slice_set cs at.v.word link.second.after) cs (set link.second.after) by_plain)
+      ∙ lane_if t (acts link.second (second_places link s) (lane t ws) o.index (act_on o (t o.index)))
+      (with_bit_in plain at.v link.second.after) plain (slice_set cs s.v link.second.after) cs (set link.second.after) by_plain)
 
-  visits_as : (ws : List ℕ) (v : Visit) → lane t (linked_words link at ws (word_op bits 0 v)) ≡ cells_behind link (cells_of at) (lane t ws) (visiting v)
+  visits_as : (ws : List ℕ) (v : Visit) → lane t (linked_words link at ws (word_op bits 0 v)) ≡ cells_behind link s (lane t ws) (visiting v)
   visits_as ws v =
       lane_linked ws (word_op bits 0 v)
-      ∙ ap (linked_cells link (cells_of at) (lane t ws) v.address) (act_solid bits (t v.address) v (lane_below at words bits fits v.address))
+      ∙ ap (linked_cells link s (lane t ws) v.address) (act_solid bits (t v.address) v (lane_below link at words bits fits v.address))
 
   -- what a read answers
-  lane_answer : (ws : List ℕ) (o : WordOp) → o.write ≡ false → linked_answer link (cells_of at) (lane t ws) o.index Read ≡ Some (has_bit (linked_reply link at ws o) (t o.index))
+  lane_answer : (ws : List ℕ) (o : WordOp) → o.write ≡ false → linked_answer link s (lane t ws) o.index Read ≡ Some (has_bit (linked_reply link at ws o) (t o.index))
   unfolding linked_answer reply_to step_answer
   lane_answer ws o read =
       let pl = plain_reply ws o in
       let cs = lane t ws in
       let act : act_on o (t o.index) ≡ Read = ap (λ b. if b then Write (has_bit o.word (t o.index)) else Read) read in
-      let one : acts link.first (first_places link (cells_of at)) cs o.index Read ≡ matches (first_of link at) ws o =
-      sym (first_acts ws o ∙ ap (acts link.first (first_places link (cells_of at)) cs o.index) act) in
-      let two : acts link.second (second_places link (cells_of at)) cs o.index Read ≡ matches (second_of link at) ws o =
-      sym (second_acts ws o ∙ ap (acts link.second (second_places link (cells_of at)) cs o.index) act) in
+      let one : acts link.first (first_places link s) cs o.index Read ≡ matches (first_of link at) ws o =
+      sym (first_acts ws o ∙ ap (acts link.first (first_places link s) cs o.index) act) in
+      let two : acts link.second (second_places link s) cs o.index Read ≡ matches (second_of link at) ws o =
+      sym (second_acts ws o ∙ ap (acts link.second (second_places link s) cs o.index) act) in
       let U = plain_answer cs o.index Read in
       -- the same of each primitive alone
       let alone_first : (if matches (first_of link at) ws o then answer_or link.first.answer U else U)
@@ -244,7 +284,7 @@ module _ (link : Link) (at : Bits) (words bits : ℕ) (fits : FitsBits at words 
       ∙ ap (λ p. if acts link.second p cs o.index Read then answer_or link.second.answer U else U) (sym second_spots)
       ∙ lane_reply (second_of link at) t ws o through_second second read in
       ap (λ b. if b then answer_or link.first.answer U
-      else if acts link.second (second_places link (cells_of at)) cs o.index Read then answer_or link.second.answer U else U) one
+      else if acts link.second (second_places link s) cs o.index Read then answer_or link.second.answer U else U) one
       ∙ ap (λ b. if matches (first_of link at) ws o then answer_or link.first.answer U else if b then answer_or link.second.answer U else U) two
       ∙ both (matches (first_of link at) ws o) (matches (second_of link at) ws o) (answer_or link.first.answer U) (answer_or link.second.answer U) U
       (answered link.first.answer at.v pl) (answered link.second.answer at.v pl) pl alone_first alone_second
@@ -255,41 +295,96 @@ module _ (link : Link) (at : Bits) (words bits : ℕ) (fits : FitsBits at words 
       both true y f g u m n p h k = h
       both false y f g u m n p h k = k
 
-  wrong_as : (ws : List ℕ) (v : Visit) → is_wrong_there link (cells_of at) (lane t ws) v ≡ true
+  wrong_as : (ws : List ℕ) (v : Visit) → is_wrong_there link s (lane t ws) v ≡ true
       → (is_write v.op ≡ false) × (linked_reply link at ws (word_op bits 0 v) % 2 ^ bits ≢ word_of 0 (data_value v.op) bits)
   wrong_as ws v wrong =
-      let bad = wrong_read v.op (linked_answer link (cells_of at) (lane t ws) v.address (act_of v.op)) wrong in
-      let shown : linked_answer link (cells_of at) (lane t ws) v.address (act_of v.op) ≡ Some (has_bit (linked_reply link at ws (word_op bits 0 v)) (t v.address)) =
-      ap (linked_answer link (cells_of at) (lane t ws) v.address) bad.1 ∙ lane_answer ws (word_op bits 0 v) bad.0 in (
+      let bad = wrong_read v.op (linked_answer link s (lane t ws) v.address (act_of v.op)) wrong in
+      let shown : linked_answer link s (lane t ws) v.address (act_of v.op) ≡ Some (has_bit (linked_reply link at ws (word_op bits 0 v)) (t v.address)) =
+      ap (linked_answer link s (lane t ws) v.address) bad.1 ∙ lane_answer ws (word_op bits 0 v) bad.0 in (
         bad.0,
-        word_differs bits (t v.address) v (linked_reply link at ws (word_op bits 0 v)) (lane_below at words bits fits v.address) (λ e. bad.2 (shown ∙ e)),
+        word_differs bits (t v.address) v (linked_reply link at ws (word_op bits 0 v)) (lane_below link at words bits fits v.address) (λ e. bad.2 (shown ∙ e)),
       )
 
-  rests_as : (ws : List ℕ) (e : ℕ) → lane t (linked_rest link at ws) ≡ cells_behind link (cells_of at) (lane t ws) (pausing e)
-  rests_as ws e = ap (lane t) (rests ws) ∙ sym (cells_rest (lane t ws))
+  rests_as : (ws : List ℕ) (e : ℕ) → lane t ws ≡ cells_behind link s (lane t ws) (pausing e)
+  rests_as ws e = sym (cells_rest (lane t ws))
 
 -- ---- the test
 
-fits_cells : (at : Bits) (words bits : ℕ) → FitsBits at words bits → FitsSpots (cells_of at) words
-fits_cells at words bits fits = record { a_within = fits.a_word; b_within = fits.b_word; v_within = fits.v_word; a_v = fits.a_v; b_v = fits.b_v; a_b = fits.a_b }
+-- the three cells that the two primitives are at, and what the march finds there
+record Chosen (march : List MarchElement) (link : Link) (at : Bits) (words : ℕ) : Type 0 where
+  s : Spots
+  first_is : first_places link s ≡ spots (first_of link at)
+  second_is : second_places link s ≡ spots (second_of link at)
+  caught : (cells : List Bool) → length cells ≡ words → SomeDiffersBy (cells_behind link s) (is_wrong_there link s) cells (visits march (up march) words)
 
-three : (a b v n : ℕ) → a < n → b < n → v < n → a ≢ v → b ≢ v → a ≢ b → 3 ≤ n
-three a b v n x y z av bv ab = omega (arith, x, y, z, av, bv, ab)
+more_cells : (f : Option Sense) (place : Option ℕ) (vic n k : ℕ) → n ≤ k → FitsAgg f place vic n → FitsAgg f place vic k
+more_cells None None vic n k more h = tt
+more_cells None (Some a) vic n k more h = absurd h
+more_cells (Some sense) None vic n k more h = absurd h
+more_cells (Some sense) (Some a) vic n k more h = let low = h.0 in (omega (arith, low, more), h.1)
 
-pub linked_fails : (march : List MarchElement) (d : Description) → IsMemory d → LinkedFails march d
-linked_fails march d is mo test forms link pair first_stays second_stays detected m at has places =
-    let law = lawful link at d.words d.bits places pair.first pair.second first_stays second_stays in
-    let G : List ℕ → Type 0 = Good link at d.words d.bits places pair.first pair.second first_stays second_stays in
-    ends_failing (linked link at) G law mo march d test forms is
-    (catches (linked link at) G law d.bits (cells_behind link (cells_of at)) (is_wrong_there link (cells_of at)) (lane (lane_of at))
-    (λ s v g. visits_as link at d.words d.bits places pair.first pair.second first_stays second_stays s v)
-    (λ s e g. rests_as link at d.words d.bits places pair.first pair.second first_stays second_stays s e)
-    (λ s v g wrong. wrong_as link at d.words d.bits places pair.first pair.second first_stays second_stays s v wrong) march d refl
-    (λ s g. by s g) is) m has.words has.under_way
+longer : (link : Link) (p q : Places) (n k : ℕ) → n ≤ k → FitsLink link p q n → FitsLink link p q k
+longer link p q n k more fits =
+    let one = fits.first_fits.victim in
+    let other = fits.second_fits.victim in
+    record {
+      first_fits = record { victim = omega (arith, one, more); aggressor = more_cells link.first.agg p.agg p.vic n k more fits.first_fits.aggressor };
+      second_fits = record { victim = omega (arith, other, more); aggressor = more_cells link.second.agg q.agg q.vic n k more fits.second_fits.aggressor };
+      victim = fits.victim;
+      aggressors = fits.aggressors;
+    }
+
+chosen : (march : List MarchElement) (link : Link) (at : Bits) (words : ℕ) → IsMarch march → Detects march link → is_retention link.first ≡ false → is_retention link.second ≡ false
+    → 2 ≤ words → FitsLink link (spots (first_of link at)) (spots (second_of link at)) words → Chosen march link at words
+chosen march link at words is detected first_stays second_stays two fits =
+    ⊎_elim
+    (λ (few : words < 3).
+    let exact : words ≡ 2 = omega (arith, two, few) in
+    let small = subst (FitsLink link p q) exact fits in
+    let found = have_spots link 3 p q (omega arith) (longer link p q words 3 (omega (arith, few)) fits) in
+    let are = found.1 in
+    record {
+      s = found.0;
+      first_is = are.first_is;
+      second_is = are.second_is;
+      caught = λ cells size.
+          let size_two : length cells ≡ 2 = size ∙ exact in
+          subst (λ (n : ℕ). SomeDiffersBy (cells_behind link found.0) (is_wrong_there link found.0) cells (visits march (up march) n)) (sym exact)
+          (fewer link found.0 (subst (λ (x : Places). FitsPlace link.first x 2) (sym are.first_is) small.first_fits)
+          (subst (λ (x : Places). FitsPlace link.second x 2) (sym are.second_is) small.second_fits) first_stays second_stays march is (up march) cells size_two
+          (subst (λ (n : ℕ). SomeDiffersBy (cells_behind link found.0) (is_wrong_there link found.0) (cells ++ false ∷ []) (visits march (up march) n)) (longer_by cells size_two)
+          (detected 3 (omega arith) (up march) found.0 (cells ++ false ∷ []) (up_fits march) are.fits (longer_by cells size_two))));
+    })
+    (λ (many : 3 ≤ words).
+    let found = have_spots link words p q many fits in
+    let are = found.1 in
+    record {
+      s = found.0;
+      first_is = are.first_is;
+      second_is = are.second_is;
+      caught = λ cells size.
+          subst (λ (n : ℕ). SomeDiffersBy (cells_behind link found.0) (is_wrong_there link found.0) cells (visits march (up march) n)) size
+          (detected words many (up march) found.0 cells (up_fits march) are.fits size);
+    })
+    (cases_lt words 3)
   where
-    by : (s : List ℕ) → length s ≡ d.words → SomeDiffersBy (cells_behind link (cells_of at)) (is_wrong_there link (cells_of at)) (lane (lane_of at) s) (visits march (up march) d.words)
-    by s good =
-        let size : length (lane (lane_of at) s) ≡ d.words = length-lane (lane_of at) s ∙ good in
-        subst (λ (n : ℕ). SomeDiffersBy (cells_behind link (cells_of at)) (is_wrong_there link (cells_of at)) (lane (lane_of at) s) (visits march (up march) n)) size
-        (detected d.words (three at.a.word at.b.word at.v.word d.words places.a_word places.b_word places.v_word places.a_v places.b_v places.a_b)
-        (up march) (cells_of at) (lane (lane_of at) s) (up_fits march) (fits_cells at d.words d.bits places) size)
+    p : Places
+    p = spots (first_of link at)
+
+    q : Places
+    q = spots (second_of link at)
+
+    longer_by : (cells : List Bool) → length cells ≡ 2 → length (cells ++ false ∷ []) ≡ 3
+    longer_by cells two = let all = length-append cells (false ∷ []) in omega (arith, all, two)
+
+pub linked_fails : (march : List MarchElement) (d : Description) → IsMarch march → IsMemory d → LinkedFails march d
+linked_fails march d marches is mo test forms link pair first_stays second_stays detected m at has places =
+    let found = chosen march link at d.words marches detected first_stays second_stays is.words_low (fits_link link at d.words d.bits places) in
+    let law = lawful link at d.words d.bits places pair.first pair.second first_stays second_stays found.s found.first_is found.second_is in
+    let G : List ℕ → Type 0 = Good link at d.words d.bits places pair.first pair.second first_stays second_stays found.s found.first_is found.second_is in
+    ends_failing (linked link at) G law mo march d test forms is
+    (catches (linked link at) G law d.bits (cells_behind link found.s) (is_wrong_there link found.s) (lane (lane_of link at))
+    (λ s v g. visits_as link at d.words d.bits places pair.first pair.second first_stays second_stays found.s found.first_is found.second_is s v)
+    (λ s e g. rests_as link at d.words d.bits places pair.first pair.second first_stays second_stays found.s found.first_is found.second_is s e)
+    (λ s v g wrong. wrong_as link at d.words d.bits places pair.first pair.second first_stays second_stays found.s found.first_is found.second_is s v wrong) march d refl
+    (λ s g. found.caught (lane (lane_of link at) s) (length-lane (lane_of link at) s ∙ g)) is) m has.words has.under_way

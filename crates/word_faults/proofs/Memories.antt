@@ -25,12 +25,15 @@ use Rattle.word_device.proofs.Indexes.{index_found}
 use Rattle.word_device.proofs.Porting.{one_index, InMemory, march_in_memory, op_of, twice, command_of}
 use Rattle.bench.specs.Memories.{Behaviour, Memory, acted_at, answer_at, rested, own_answer, memory_after}
 
--- of a read the word plays no part; a pause that is taken again changes nothing; and what is good stays good
+-- of a read the word plays no part; idle cycles before or behind a pause, and a pause that is taken again, change nothing; and what is good stays good
 pub record IsLawful {S : Type 0} (b : Behaviour S) (Good : S → Type 0) : Type 0 where
   pub same_after : (s : S) (k x y : ℕ) → b.after s (op_of false k x) ≡ b.after s (op_of false k y)
   pub same_reply : (s : S) (k x y : ℕ) → b.reply s (op_of false k x) ≡ b.reply s (op_of false k y)
   pub good_after : (s : S) (o : WordOp) → Good s → Good (b.after s o)
+  pub good_idled : (s : S) → Good s → Good (b.idled s)
   pub good_paused : (s : S) → Good s → Good (b.paused s)
+  pub idled_paused : (s : S) → Good s → b.paused (b.idled s) ≡ b.paused s
+  pub paused_idled : (s : S) → Good s → b.idled (b.paused s) ≡ b.paused s
   pub settled : (s : S) → Good s → b.paused (b.paused s) ≡ b.paused s
 
 -- ---- a command is its operation
@@ -164,17 +167,17 @@ module _ {S : Type 0} (b : Behaviour S) (Good : S → Type 0) (lawful : IsLawful
       ap (slice_get (own_answers shape (memory_of s pending a) (map command_in (replicate (suc n) None ++ rest)))) on
       ∙ answers_behind shape n k rest (rested b shape s a) (drop 1 (queued pending 0)) (idle_more shape a)
 
-  rested_settled : (shape : Shape) (s : S) (a : ℕ) → b.paused s ≡ s → rested b shape s a ≡ s
-  rested_settled shape s a settled = go (idle_more shape a == shape.pause)
+  rested_settled : (shape : Shape) (s : S) (a : ℕ) → b.paused s ≡ s → b.idled s ≡ s → rested b shape s a ≡ s
+  rested_settled shape s a settled still = go (idle_more shape a == shape.pause)
     where
-      go : (t : Bool) → (if t then b.paused s else s) ≡ s
+      go : (t : Bool) → (if t then b.paused s else b.idled s) ≡ s
       go true = settled
-      go false = refl
+      go false = still
 
-  idle_settled : (shape : Shape) (n : ℕ) (s : S) (a : ℕ) → b.paused s ≡ s → idle_state shape n s a ≡ s
-  idle_settled shape zero s a settled = refl
-  idle_settled shape (suc n) s a settled =
-      ap (λ x. idle_state shape n x (idle_more shape a)) (rested_settled shape s a settled) ∙ idle_settled shape n s (idle_more shape a) settled
+  idle_settled : (shape : Shape) (n : ℕ) (s : S) (a : ℕ) → b.paused s ≡ s → b.idled s ≡ s → idle_state shape n s a ≡ s
+  idle_settled shape zero s a settled still = refl
+  idle_settled shape (suc n) s a settled still =
+      ap (λ x. idle_state shape n x (idle_more shape a)) (rested_settled shape s a settled still) ∙ idle_settled shape n s (idle_more shape a) settled still
 
   still_counting : (shape : Shape) (a : ℕ) → idle_more shape a ≢ shape.pause → (idle_more shape a ≡ a + 1) × (a + 1 < shape.pause)
   still_counting shape a other = elim (cases_lt a shape.pause) [
@@ -185,19 +188,19 @@ module _ {S : Type 0} (b : Behaviour S) (Good : S → Type 0) (lawful : IsLawful
     | inr l ↦ absurd (other (ap (λ (t : Bool). if t then a + 1 else shape.pause) (le-ltb a shape.pause l)))
   ]
 
-  idle_paused : (shape : Shape) (n : ℕ) (s : S) (a : ℕ) → b.paused (b.paused s) ≡ b.paused s → 1 ≤ n → shape.pause ≤ a + n → idle_state shape n s a ≡ b.paused s
-  idle_paused shape zero s a again some reached = absurd (omega arith)
-  idle_paused shape (suc n) s a again some reached =
+  idle_paused : (shape : Shape) (n : ℕ) (s : S) (a : ℕ) → Good s → 1 ≤ n → shape.pause ≤ a + n → idle_state shape n s a ≡ b.paused s
+  idle_paused shape zero s a good some reached = absurd (omega arith)
+  idle_paused shape (suc n) s a good some reached =
       ⊎_elim
       (λ (h : (eqb (idle_more shape a) shape.pause ≡ true) × (idle_more shape a ≡ shape.pause)).
-      ap (λ (t : Bool). idle_state shape n (if t then b.paused s else s) (idle_more shape a)) h.0
-      ∙ idle_settled shape n (b.paused s) (idle_more shape a) again)
+      ap (λ (t : Bool). idle_state shape n (if t then b.paused s else b.idled s) (idle_more shape a)) h.0
+      ∙ idle_settled shape n (b.paused s) (idle_more shape a) (lawful.settled s good) (lawful.paused_idled s good))
       (λ (h : (eqb (idle_more shape a) shape.pause ≡ false) × (idle_more shape a ≢ shape.pause)).
       let count = still_counting shape a h.1 in
       let low : a + 1 < shape.pause = count.1 in
-      ap (λ (t : Bool). idle_state shape n (if t then b.paused s else s) (idle_more shape a)) h.0
-      ∙ ap (idle_state shape n s) count.0
-      ∙ idle_paused shape n s (a + 1) again (omega arith) (omega arith))
+      ap (λ (t : Bool). idle_state shape n (if t then b.paused s else b.idled s) (idle_more shape a)) h.0
+      ∙ ap (idle_state shape n (b.idled s)) count.0
+      ∙ idle_paused shape n (b.idled s) (a + 1) (lawful.good_idled s good) (omega arith) (omega arith) ∙ lawful.idled_paused s good)
       (eqb_tells (idle_more shape a) shape.pause)
 
   -- ---- the run
@@ -222,7 +225,7 @@ module _ {S : Type 0} (b : Behaviour S) (Good : S → Type 0) (lawful : IsLawful
       let count : ℕ = idle_count shape d.pause a in
       ap (slice_get (own_answers shape (memory_of s pending a) (map command_in (cycles d (None ∷ ss))))) (behind_pause d ss j)
       ∙ answers_behind shape d.pause (place d ss j) rest s pending a
-      ∙ ap (λ x. slice_get (own_answers shape (memory_of x after count) (map command_in rest)) (place d ss j)) (idle_paused shape d.pause s a (lawful.settled s good) low (omega arith))
+      ∙ ap (λ x. slice_get (own_answers shape (memory_of x after count) (map command_in rest)) (place d ss j)) (idle_paused shape d.pause s a good low (omega arith))
       ∙ answer_in_run d m ss within paused after count (lawful.good_paused s good) j o r op reply
   answer_in_run d m (Some x ∷ ss) within s pending a good zero o r op reply =
       let shape : Shape = shape_of d in
@@ -250,9 +253,9 @@ module _ {S : Type 0} (b : Behaviour S) (Good : S → Type 0) (lawful : IsLawful
   unfolding begun
   good_begun d m good = go (idle_more (shape_of d) m.idle == d.pause)
     where
-      go : (t : Bool) → Good (if t then b.paused m.state else m.state)
+      go : (t : Bool) → Good (if t then b.paused m.state else b.idled m.state)
       go true = lawful.good_paused m.state good
-      go false = good
+      go false = lawful.good_idled m.state good
 
   -- the answer to a read shows the reply to its operation
   pub reply_shown : (march : List MarchElement) (d : Description) (m : Memory S) → IsMemory d → Good m.state → (j : ℕ) (o : WordOp) (r : ℕ)

@@ -33,11 +33,12 @@ abbrev pub decoded : ℕ → Decoder → Behaviour (List ℕ)
 decoded bits decoder = record {
   after = λ words o. if o.write then write_words (decoder o.index) words o.word else words;
   reply = λ words o. if o.write then 0 else read_words bits (decoder o.index) words;
+  idled = λ words. words;
   paused = λ words. words;
 }
 
--- beside each memory whose decoder has this fault at any two words, whatever else is wrong with it, the module fails
+-- beside each memory whose decoder has this fault at any two words, whatever the others reach, the module fails
 abbrev pub FailsDecoder : ModuleTree → List MarchElement → Description → DecoderFault → Type 0
 FailsDecoder mo march d fault =
-    (m : Memory (List ℕ)) (at : AddressPair) (decoder : Decoder) → HasWords d m → FitsPair at d.words → HasFault decoder fault at d.words
+    (m : Memory (List ℕ)) (at : AddressPair) (decoder : Decoder) → HasWords d m → FitsPair at d.words → HasFault decoder fault at
     → EndsBeside (decoded d.bits decoder) mo march d m (FailsAt march d)

@@ -1,4 +1,7 @@
 pub mod Linked
 pub mod Decoders
 pub mod Dynamic
+pub mod Cells
+pub mod Alike
+pub mod There
 pub mod Laws
