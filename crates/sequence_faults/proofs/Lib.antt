@@ -1,0 +1,17 @@
+mod Noting
+mod Turns
+mod Digits
+mod Same
+mod Seen
+mod Seeing
+mod Valued
+mod Placing
+mod Shrinking
+mod Lowering
+mod Everywhere
+mod Verdict
+mod Tests
+mod Simulating
+mod AsDynamic
+mod AsStatic
+mod Growing
