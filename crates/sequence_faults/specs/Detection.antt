@@ -1,4 +1,4 @@
--- Trusted. When a march detects such a primitive: at one size, and at every size.
+-- Public. When a march detects such a primitive: at one size, and at every size.
 use Rattle.std.specs.Prelude.{◌≡◌, ◌≢◌, ◌<◌, ◌≤◌, ℕ, Bool, IsTrue, List, [], ◌∷◌, length}
 use Rattle.std.specs.List.{AllByRecursion}
 use Rattle.march_core.specs.March.{MarchElement}

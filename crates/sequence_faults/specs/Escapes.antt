@@ -1,4 +1,4 @@
--- Trusted. Arrays that pass a march with one instance of such a primitive, the least of them, and what a verdict says.
+-- Public. Arrays that pass a march with one instance of such a primitive, the least of them, and what a verdict says.
 use Rattle.std.specs.Prelude.{◌≡◌, ◌<◌, ◌≤◌, ◌/◌, ◌%◌, ◌^◌, ◌==◌, ◌⊎◌, ℕ, zero, suc, Bool, Option, Some, None, List, [], ◌∷◌, map, length}
 use Rattle.march_core.specs.March.{MarchElement}
 use Rattle.march_core.specs.Visits.{FitsWord, directions_of}

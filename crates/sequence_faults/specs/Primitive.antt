@@ -1,4 +1,4 @@
--- Trusted. Fault primitives <S/F/R> of one to three cells that a sequence of operations on one of them sensitizes, after van de Goor and Al-Ars.
+-- Public. Fault primitives <S/F/R> of one to three cells that a sequence of operations on one of them sensitizes, after van de Goor and Al-Ars.
 use Rattle.std.specs.Prelude.{◌≡◌, ◌≢◌, ◌<◌, ◌≤◌, ◌-◌, ◌↔◌, ℕ, Bool, not, if◌then◌else◌, Option, Some, None, IsSome, List, [], ◌∷◌, length, slice_index_or, nat_eq, nat_lt, false}
 use Rattle.std.specs.List.{AllByRecursion}
 use Rattle.fault_core.specs.declared.primitive.Act.{Act}

@@ -1,4 +1,4 @@
--- Trusted. What one instance of such a primitive does to an array of cells, step by step.
+-- Public. What one instance of such a primitive does to an array of cells, step by step.
 use Rattle.std.specs.Prelude.{◌==◌, ◌-◌, ℕ, Bool, false, ◌&&◌, if◌then◌else◌, Option, List, [], ◌∷◌, slice_set, slice_index_or, length, replicate, true}
 use Rattle.fault_core.specs.declared.primitive.Act.{Act}
 use Rattle.fault_core.specs.Primitive.{same_bit}

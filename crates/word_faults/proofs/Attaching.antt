@@ -67,7 +67,7 @@ slots_from (s ∷ ss) f a each =
       slots_from ss f (a + 1) (λ t x e. let there : a + suc t ≡ a + 1 + t = omega arith in subst (λ (k : ℕ). IsSlot x (f k)) there (each (suc t) x e)),
     )
 
-command_of_operation : (d : Description) (os : List WordOp) (j : ℕ) (o : WordOp) → slice_get os j ≡ Some o
+pub command_of_operation : (d : Description) (os : List WordOp) (j : ℕ) (o : WordOp) → slice_get os j ≡ Some o
     → slice_get (map (port_op d) os) j ≡ Some (port_op d o)
 command_of_operation d [] j o e = cc
 command_of_operation d (x ∷ os) zero o e = let same : x ≡ o = cc in ap (λ y. Some (port_op d y)) same
@@ -77,7 +77,7 @@ command_of_operation d (x ∷ os) (suc j) o e = command_of_operation d os j o e
 same_shown : (a b p : ℕ) → bit_xor a p ≡ bit_xor b p → a ≡ b
 same_shown a b p e = sym (twice a p) ∙ ap (λ n. bit_xor n p) e ∙ twice b p
 
-low_shown : (bits polarity r word : ℕ) → polarity < 2 ^ bits → bit_xor r polarity % 2 ^ bits ≡ bit_xor word polarity → r % 2 ^ bits ≡ word
+pub low_shown : (bits polarity r word : ℕ) → polarity < 2 ^ bits → bit_xor r polarity % 2 ^ bits ≡ bit_xor word polarity → r % 2 ^ bits ≡ word
 low_shown bits polarity r word fits e =
     let low : polarity % 2 ^ bits ≡ polarity = mod-eq_of_lt fits in
     same_shown (r % 2 ^ bits) word polarity (ap (bit_xor (r % 2 ^ bits)) (sym low) ∙ sym (xor_mod r polarity bits) ∙ e)
@@ -203,6 +203,11 @@ module _ {S : Type 0} (b : Behaviour S) (Good : S → Type 0) (lawful : IsLawful
 
 -- ---- beside a module
 
+-- a lawful memory that, from each good state, has some reply that differs
+pub record AlwaysDiffers {S : Type 0} (b : Behaviour S) (Good : S → Type 0) (march : List MarchElement) (d : Description) : Type 0 where
+  pub lawful : IsLawful b Good
+  pub differs : (s : S) → Good s → SomeReplyDiffers d.bits (word_steps march d) (replies b Good lawful s (word_steps march d))
+
 -- a module that is a self-test fails beside a memory where the operations of the march have a reply that differs
 pub ends_failing_from : {S : Type 0} (b : Behaviour S) (Good : S → Type 0) (lawful : IsLawful b Good) (mo : ModuleTree) (march : List MarchElement) (d : Description) → SelfTest mo march d
     → formed mo ≡ true → IsMemory d → (m : Memory S) → Good m.state → length m.pending + 1 ≡ d.latency
@@ -221,8 +226,8 @@ ends_failing_from b Good lawful mo march d test forms is m good way differs = re
 }
 
 -- and so it does where they have one from each good state
-pub ends_failing : {S : Type 0} (b : Behaviour S) (Good : S → Type 0) (lawful : IsLawful b Good) (mo : ModuleTree) (march : List MarchElement) (d : Description) → SelfTest mo march d
-    → formed mo ≡ true → IsMemory d → ((s : S) → Good s → SomeReplyDiffers d.bits (word_steps march d) (replies b Good lawful s (word_steps march d)))
-    → (m : Memory S) → Good m.state → length m.pending + 1 ≡ d.latency → EndsBeside b mo march d m (FailsAt march d)
-ends_failing b Good lawful mo march d test forms is differs m good way =
-    ends_failing_from b Good lawful mo march d test forms is m good way (differs (begun b Good lawful d m) (good_begun b Good lawful d m good))
+pub ends_failing : {S : Type 0} (b : Behaviour S) (Good : S → Type 0) (mo : ModuleTree) (march : List MarchElement) (d : Description) → AlwaysDiffers b Good march d → SelfTest mo march d
+    → formed mo ≡ true → IsMemory d → (m : Memory S) → Good m.state → length m.pending + 1 ≡ d.latency → EndsBeside b mo march d m (FailsAt march d)
+ends_failing b Good mo march d caught test forms is m good way =
+    ends_failing_from b Good caught.lawful mo march d test forms is m good way
+    (caught.differs (begun b Good caught.lawful d m) (good_begun b Good caught.lawful d m good))

@@ -16,17 +16,18 @@ use Rattle.word_march.specs.Commands.{word_op}
 use Rattle.word_march.specs.declared.operations.WordOp.{WordOp}
 use Rattle.word_device.specs.Chips.{has_bit, act_on}
 use Rattle.word_device.proofs.Lanes.{lane_set, lane_cell, length-lane, has_bit-zero}
+use Rattle.decoder_faults.specs.declared.fault.DecoderFault.{DecoderFault}
 use Rattle.decoder_faults.specs.declared.fault.Wired.{Wired}
 use Rattle.decoder_faults.specs.declared.fault.Wired.TheVariants.{And, Or, Own}
-use Rattle.decoder_faults.specs.Decoding.{FitsPair, Decoder, Reach, no_cell, one_cell, two_cells, wired_bit, write_through, read_through, act_through, answer_through}
-use Rattle.decoder_faults.specs.Detection.{cells_behind, is_wrong_there}
+use Rattle.decoder_faults.specs.Decoding.{AddressPair, FitsPair, HasFault, Decoder, Reach, no_cell, one_cell, two_cells, wired_bit, write_through, read_through, act_through, answer_through}
+use Rattle.decoder_faults.specs.Detection.{cells_behind, is_wrong_there, DetectsDecoder}
 use Rattle.decoder_faults.proofs.Among.{caught_among}
 use Rattle.decoder_faults.proofs.TakenCells.{met_where}
 use Rattle.word_faults.specs.Laws.{DecoderFails}
 use Rattle.word_faults.specs.Cells.{column}
 use Rattle.word_faults.specs.Decoders.{write_words, wired_words, read_words, decoded}
 use Rattle.word_faults.proofs.Memories.{IsLawful}
-use Rattle.word_faults.proofs.Attaching.{ends_failing}
+use Rattle.word_faults.proofs.Attaching.{AlwaysDiffers, ends_failing}
 use Rattle.word_faults.proofs.Catching.{catches}
 use Rattle.word_faults.proofs.Solid.{act_solid, wrong_read, word_differs, up_fits}
 
@@ -120,18 +121,26 @@ module _ (bits : ℕ) (some : 0 < bits) (decoder : Decoder) where
 
 -- ---- the test
 
-pub decoder_fails : (march : List MarchElement) (d : Description) → IsMarch march → IsMemory d → DecoderFails march d
-decoder_fails march d marches is mo test forms fault detected m at decoder has places fault_is =
+pub decoder_caught : (march : List MarchElement) (d : Description) → IsMarch march → IsMemory d → (fault : DecoderFault) → DetectsDecoder march fault → (at : AddressPair) (decoder : Decoder)
+    → FitsPair at d.words → HasFault decoder fault at → AlwaysDiffers (decoded d.bits decoder) (λ s. length s ≡ d.words) march d
+decoder_caught march d marches is fault detected at decoder places fault_is =
     let some : 0 < d.bits = let low = is.bits_low in omega arith in
     let law = lawful d.bits d.words decoder in
     let Good : List ℕ → Type 0 = λ ws. length ws ≡ d.words in
-    ends_failing (decoded d.bits decoder) Good law mo march d test forms is
-    (catches (decoded d.bits decoder) Good law d.bits (cells_behind decoder) (is_wrong_there decoder) (column 0)
-    (λ s v good. visits_as d.bits some decoder s v) (λ s e good. refl) (λ s v good wrong. wrong_as d.bits some decoder s v wrong) march d refl
-    (λ s good. by s good) is) m has.words has.under_way
+    record {
+      lawful = law;
+      differs =
+          catches (decoded d.bits decoder) Good law d.bits (cells_behind decoder) (is_wrong_there decoder) (column 0)
+          (λ s v good. visits_as d.bits some decoder s v) (λ s e good. refl) (λ s v good wrong. wrong_as d.bits some decoder s v wrong) march d refl
+          (λ s good. by s good) is;
+    }
   where
     by : (s : List ℕ) → length s ≡ d.words → SomeDiffersBy (cells_behind decoder) (is_wrong_there decoder) (column 0 s) (visits march (up march) d.words)
     by s good =
         let size : length (column 0 s) ≡ d.words = length-lane (λ k. 0) s ∙ good in
         subst (λ (n : ℕ). SomeDiffersBy (cells_behind decoder) (is_wrong_there decoder) (column 0 s) (visits march (up march) n)) size
         (caught_among march fault (met_where march fault marches detected) (up march) decoder at (column 0 s) (up_fits march) (subst (FitsPair at) (sym size) places) fault_is)
+
+pub decoder_fails : (march : List MarchElement) (d : Description) → IsMarch march → IsMemory d → DecoderFails march d
+decoder_fails march d marches is mo test forms fault detected m at decoder has places fault_is =
+    ends_failing (decoded d.bits decoder) (λ s. length s ≡ d.words) mo march d (decoder_caught march d marches is fault detected at decoder places fault_is) test forms is m has.words has.under_way

@@ -15,7 +15,7 @@ use Rattle.array_sim.specs.Differing.{SomeDiffersBy}
 use Rattle.backgrounds.specs.Backgrounds.{word_of as background_word}
 use Rattle.memory_desc.specs.Descriptions.{Description, IsMemory}
 use Rattle.word_march.specs.declared.operations.WordOp.{WordOp}
-use Rattle.word_march.specs.Commands.{word_op, word_step}
+use Rattle.word_march.specs.Commands.{word_op, word_step, word_steps}
 use Rattle.word_device.specs.Ports.{shape_of, idle_more}
 use Rattle.word_device.specs.Chips.{has_bit, with_bit, with_bit_in, act_on, plain_words, plain_reply, answered}
 use Rattle.word_device.proofs.Core.{SomeReplyDiffers}
@@ -25,6 +25,7 @@ use Rattle.dynamic_core.specs.declared.stepping.Actor.{Actor}
 use Rattle.dynamic_core.specs.Primitive.{TwoActs, DynamicPrimitive, IsDynamic, left_by, second_act}
 use Rattle.dynamic_core.specs.Dynamic.{held_as, actor_on, agg_actor, actor_or, actor_of, all_states_hold, matches_of, arms_of, set_where, dyn_cells, dyn_step, dyn_answer}
 use Rattle.dynamic_core.specs.Differing.{held_after, is_wrong_visit}
+use Rattle.dynamic_core.specs.Detecting.{DetectsDyn}
 use Rattle.word_faults.specs.Laws.{EndsElsewhere, BeginsAfresh, DynamicFails}
 use Rattle.word_faults.specs.Cells.{cells_in}
 use Rattle.word_faults.specs.Dynamic.{DynPlaces, word_of, words_of, bit_or, bit_of, FitsDynPlaces, HeldWords, held_words, seen, is_second, dyn_words, dynamic}
@@ -243,30 +244,37 @@ module _ (p : DynamicPrimitive) (at : DynPlaces) (words bits : ℕ) (fits : Fits
 
 -- ---- the test
 
-pub dynamic_fails : (march : List MarchElement) (d : Description) → IsMemory d → DynamicFails march d
-unfolding begun unarmed
-dynamic_fails march d is mo p test forms dyn fresh detected m at has places =
+-- where nothing is armed at first
+pub record IsCaughtUnarmed (p : DynamicPrimitive) (at : DynPlaces) (march : List MarchElement) (d : Description) : Type 0 where
+  pub lawful : IsLawful (dynamic p at) (λ h. length h.words ≡ d.words)
+  pub differs : (h : HeldWords) → length h.words ≡ d.words → h.armed ≡ false
+      → SomeReplyDiffers d.bits (word_steps march d) (replies (dynamic p at) (λ h. length h.words ≡ d.words) lawful h (word_steps march d))
+
+pub dynamic_caught : (march : List MarchElement) (d : Description) → IsMemory d → (p : DynamicPrimitive) → IsDynamic p → BeginsAfresh march d → DetectsDyn march p
+    → (at : DynPlaces) → FitsDynPlaces p at d.words d.bits → IsCaughtUnarmed p at march d
+unfolding unarmed
+dynamic_caught march d is p dyn fresh detected at places =
     let law = lawful p at d.words d.bits places dyn in
     let G : HeldWords → Type 0 = Good p at d.words d.bits places dyn in
     let B : HeldWords → Type 0 = Begun p at d.words d.bits places dyn vs in
-    let s : HeldWords = begun (dynamic p at) G law d m in
-    let good : G s = good_begun (dynamic p at) G law d m has.words in
-    ends_failing_from (dynamic p at) G law mo march d test forms is m has.words has.under_way
-    (catches_begun (dynamic p at) G law d.bits (held_after p (words_of at)) (is_wrong_visit p (words_of at)) (seen at)
-    (λ h v g. visits_as p at d.words d.bits places dyn h v) (λ h e g. refl) (λ h v g wrong. wrong_as p at d.words d.bits places dyn h v wrong) march d refl B
-    (λ rest h good begun.
-    let found = by h.words good in
-    subst (SomeReplyDiffers d.bits (map (word_step d.bits 0) vs ++ rest)) (sym (replies_same p at d.words d.bits places dyn vs rest h begun (some found)))
-    (one_caught (dynamic p at) G law d.bits (held_after p (words_of at)) (is_wrong_visit p (words_of at)) (seen at)
-    (λ h v g. visits_as p at d.words d.bits places dyn h v) (λ h e g. refl) (λ h v g wrong. wrong_as p at d.words d.bits places dyn h v wrong) vs rest (held_words h.words false) good found))
-    is (begins fresh) s good (λ v more e. still (idle_more (shape_of d) m.idle == d.pause) (word_op d.bits 0 v)))
+    record {
+      lawful = law;
+      differs = λ s good off.
+          catches_begun (dynamic p at) G law d.bits (held_after p (words_of at)) (is_wrong_visit p (words_of at)) (seen at)
+          (λ h v g. visits_as p at d.words d.bits places dyn h v) (λ h e g. refl) (λ h v g wrong. wrong_as p at d.words d.bits places dyn h v wrong) march d refl B
+          (λ rest h good begun.
+          let found = by h.words good in
+          subst (SomeReplyDiffers d.bits (map (word_step d.bits 0) vs ++ rest)) (sym (replies_same p at d.words d.bits places dyn vs rest h begun (some found)))
+          (one_caught (dynamic p at) G law d.bits (held_after p (words_of at)) (is_wrong_visit p (words_of at)) (seen at)
+          (λ h v g. visits_as p at d.words d.bits places dyn h v) (λ h e g. refl) (λ h v g wrong. wrong_as p at d.words d.bits places dyn h v wrong) vs rest (held_words h.words false) good found))
+          is (begins fresh) s good (λ v more e. still s off (word_op d.bits 0 v));
+    }
   where
     vs : List MarchStep
     vs = visits march (up march) d.words
 
-    still : (b : Bool) (o : WordOp) → is_second p at (if b then (dynamic p at).paused m.state else (dynamic p at).idled m.state) o ≡ false
-    still true o = never p at d.words d.bits places dyn m.state.words o
-    still false o = never p at d.words d.bits places dyn m.state.words o
+    still : (h : HeldWords) → h.armed ≡ false → (o : WordOp) → is_second p at h o ≡ false
+    still h off o = ap (λ b. is_second p at (held_words h.words b) o) off ∙ never p at d.words d.bits places dyn h.words o
 
     begins : BeginsAfresh march d → (slice_get d.backgrounds 0 ≡ Some 0)
         ⊎ ((x : ℕ) (h : HeldWords) → length h.words ≡ d.words → Begun p at d.words d.bits places dyn vs
@@ -287,3 +295,17 @@ dynamic_fails march d is mo p test forms dyn fresh detected m at has places =
         no : (before : List MarchStep) → [] ≡ before ++ visiting found.0 ∷ found.1.behind → ⊥
         no [] k = cc
         no (x ∷ xs) k = cc
+
+pub dynamic_fails : (march : List MarchElement) (d : Description) → IsMemory d → DynamicFails march d
+unfolding begun
+dynamic_fails march d is mo p test forms dyn fresh detected m at has places =
+    let caught = dynamic_caught march d is p dyn fresh detected at places in
+    let G : HeldWords → Type 0 = λ h. length h.words ≡ d.words in
+    ends_failing_from (dynamic p at) G caught.lawful mo march d test forms is m has.words has.under_way
+    (caught.differs (begun (dynamic p at) G caught.lawful d m) (good_begun (dynamic p at) G caught.lawful d m has.words)
+    (rested_unarmed (idle_more (shape_of d) m.idle == d.pause)))
+  where
+    -- an idle cycle leaves nothing armed
+    rested_unarmed : (b : Bool) → (let h : HeldWords = if b then (dynamic p at).paused m.state else (dynamic p at).idled m.state in h.armed) ≡ false
+    rested_unarmed true = refl
+    rested_unarmed false = refl

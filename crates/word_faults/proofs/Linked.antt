@@ -26,13 +26,13 @@ use Rattle.word_device.proofs.Porting.{op_of}
 use Rattle.word_device.proofs.Steps.{word_at, spots, Through, ThroughAgg, lane_with_bit, lane_if, matches_same, lane_reply}
 use Rattle.linked_faults.specs.declared.link.Link.{Link}
 use Rattle.linked_faults.specs.declared.link.Spots.{Spots}
-use Rattle.linked_faults.specs.Linking.{FitsLink, first_places, second_places, linked_cells, linked_answer, linked_pause}
+use Rattle.linked_faults.specs.Linking.{IsLinked, FitsLink, first_places, second_places, linked_cells, linked_answer, linked_pause}
 use Rattle.linked_faults.specs.Detection.{cells_behind, is_wrong_there, Detects}
 use Rattle.linked_faults.proofs.Places.{have_spots}
 use Rattle.word_faults.specs.Laws.{LinkedFails}
 use Rattle.word_faults.specs.Linked.{Bits, FitsBits, bit_beside, first_of, second_of, linked_words, linked_reply, linked}
 use Rattle.word_faults.proofs.Memories.{IsLawful}
-use Rattle.word_faults.proofs.Attaching.{ends_failing}
+use Rattle.word_faults.proofs.Attaching.{AlwaysDiffers, ends_failing}
 use Rattle.word_faults.proofs.Catching.{catches}
 use Rattle.word_faults.proofs.Fewer.{fewer}
 use Rattle.word_faults.proofs.Solid.{act_solid, wrong_read, word_differs, up_fits}
@@ -377,14 +377,22 @@ chosen march link at words is detected first_stays second_stays two fits =
     longer_by : (cells : List Bool) → length cells ≡ 2 → length (cells ++ false ∷ []) ≡ 3
     longer_by cells two = let all = length-append cells (false ∷ []) in omega (arith, all, two)
 
-pub linked_fails : (march : List MarchElement) (d : Description) → IsMarch march → IsMemory d → LinkedFails march d
-linked_fails march d marches is mo test forms link pair first_stays second_stays detected m at has places =
+pub linked_caught : (march : List MarchElement) (d : Description) → IsMarch march → IsMemory d → (link : Link) → IsLinked link → is_retention link.first ≡ false → is_retention link.second ≡ false
+    → Detects march link → (at : Bits) → FitsBits link at d.words d.bits → AlwaysDiffers (linked link at) (λ s. length s ≡ d.words) march d
+linked_caught march d marches is link pair first_stays second_stays detected at places =
     let found = chosen march link at d.words marches detected first_stays second_stays is.words_low (fits_link link at d.words d.bits places) in
     let law = lawful link at d.words d.bits places pair.first pair.second first_stays second_stays found.s found.first_is found.second_is in
     let G : List ℕ → Type 0 = Good link at d.words d.bits places pair.first pair.second first_stays second_stays found.s found.first_is found.second_is in
-    ends_failing (linked link at) G law mo march d test forms is
-    (catches (linked link at) G law d.bits (cells_behind link found.s) (is_wrong_there link found.s) (lane (lane_of link at))
-    (λ s v g. visits_as link at d.words d.bits places pair.first pair.second first_stays second_stays found.s found.first_is found.second_is s v)
-    (λ s e g. rests_as link at d.words d.bits places pair.first pair.second first_stays second_stays found.s found.first_is found.second_is s e)
-    (λ s v g wrong. wrong_as link at d.words d.bits places pair.first pair.second first_stays second_stays found.s found.first_is found.second_is s v wrong) march d refl
-    (λ s g. found.caught (lane (lane_of link at) s) (length-lane (lane_of link at) s ∙ g)) is) m has.words has.under_way
+    record {
+      lawful = law;
+      differs =
+          catches (linked link at) G law d.bits (cells_behind link found.s) (is_wrong_there link found.s) (lane (lane_of link at))
+          (λ s v g. visits_as link at d.words d.bits places pair.first pair.second first_stays second_stays found.s found.first_is found.second_is s v)
+          (λ s e g. rests_as link at d.words d.bits places pair.first pair.second first_stays second_stays found.s found.first_is found.second_is s e)
+          (λ s v g wrong. wrong_as link at d.words d.bits places pair.first pair.second first_stays second_stays found.s found.first_is found.second_is s v wrong) march d refl
+          (λ s g. found.caught (lane (lane_of link at) s) (length-lane (lane_of link at) s ∙ g)) is;
+    }
+
+pub linked_fails : (march : List MarchElement) (d : Description) → IsMarch march → IsMemory d → LinkedFails march d
+linked_fails march d marches is mo test forms link pair first_stays second_stays detected m at has places =
+    ends_failing (linked link at) (λ s. length s ≡ d.words) mo march d (linked_caught march d marches is link pair first_stays second_stays detected at places) test forms is m has.words has.under_way

@@ -61,11 +61,11 @@ data_same shape o cmd is write =
     ap (λ x. bit_xor (x % 2 ^ shape.bits) shape.polarity) (is.word write ∙ sym (ap (λ (b : Bool). if b then o.word else 0) write))
 
 module _ {S : Type 0} (b : Behaviour S) (Good : S → Type 0) (lawful : IsLawful b Good) where
-  state_same : (s : S) (w : Bool) (k x y : ℕ) → (w ≡ true → x ≡ y) → b.after s (op_of w k x) ≡ b.after s (op_of w k y)
+  pub state_same : (s : S) (w : Bool) (k x y : ℕ) → (w ≡ true → x ≡ y) → b.after s (op_of w k x) ≡ b.after s (op_of w k y)
   state_same s true k x y h = ap (λ z. b.after s (op_of true k z)) (h refl)
   state_same s false k x y h = lawful.same_after s k x y
 
-  reply_same : (s : S) (w : Bool) (k x y : ℕ) → (w ≡ true → x ≡ y) → b.reply s (op_of w k x) ≡ b.reply s (op_of w k y)
+  pub reply_same : (s : S) (w : Bool) (k x y : ℕ) → (w ≡ true → x ≡ y) → b.reply s (op_of w k x) ≡ b.reply s (op_of w k y)
   reply_same s true k x y h = ap (λ z. b.reply s (op_of true k z)) (h refl)
   reply_same s false k x y h = lawful.same_reply s k x y
 
@@ -211,7 +211,7 @@ module _ {S : Type 0} (b : Behaviour S) (Good : S → Type 0) (lawful : IsLawful
   replies s (None ∷ ss) = replies (b.paused s) ss
   replies s (Some o ∷ ss) = b.reply s o ∷ replies (b.after s o) ss
 
-  answer_in_run : (d : Description) → IsMemory d → (ss : List (Option WordOp)) → InMemory d.words d.bits (operations ss)
+  pub answer_in_run : (d : Description) → IsMemory d → (ss : List (Option WordOp)) → InMemory d.words d.bits (operations ss)
       → (s : S) (pending : List ℕ) (a : ℕ) → Good s → (j : ℕ) (o : WordOp) (r : ℕ) → slice_get (operations ss) j ≡ Some o → slice_get (replies s ss) j ≡ Some r
       → slice_get (own_answers (shape_of d) (memory_of s pending a) (map command_in (cycles d ss))) (place d ss j) ≡ Some (shown o.write d.polarity r)
   unfolding own_answers

@@ -1,5 +1,5 @@
 -- What is known of `linked`.
-use Rattle.bist_app.proofs.Common.{ℕ, Bool, List, ap, sym, subst, ◌∙◌, [], ◌∷◌, ◌≡◌, length, leaves_conclude, then_concludes, found_status, Answer, Done, Written, march_settles, InputMarch, MarchElement, total_line}
+use Rattle.bist_app.proofs.Common.{ℕ, Bool, List, ap, sym, subst, ◌∙◌, [], ◌∷◌, ◌≡◌, leaves_conclude, then_concludes, found_status, Answer, Done, Written, march_settles, InputMarch, MarchElement}
 use Rattle.linked_faults.specs.declared.link.Link.{Link}
 use Rattle.linked_faults.specs.Detection.{Detects}
 use Rattle.linked_faults.proofs.Choosing.{links_one}

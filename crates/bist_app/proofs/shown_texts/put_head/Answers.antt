@@ -1,4 +1,4 @@
-use Rattle.bist_app.proofs.Common.{List, ℕ, codes, decimal, ap, ap₂, sym, ◌++◌, ◌∙◌, on_ok_weaker}
+use Rattle.bist_app.proofs.Common.{List, ℕ, codes, decimal, ap, ◌++◌, ◌∙◌, on_ok_weaker}
 use Rattle.report_lines.proofs.LinesGrow.{two_parts}
 use Rattle.bist_app.proofs.shown_texts.put_head.Goals as goal
 

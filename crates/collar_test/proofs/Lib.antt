@@ -1,0 +1,12 @@
+pub mod FromAny
+pub mod Kept
+pub mod Chips
+pub mod Ends
+pub mod Joint
+pub mod Runs
+pub mod Planted
+pub mod Tests
+pub mod Histories
+pub mod Uses
+pub mod Connecting
+pub mod Listed

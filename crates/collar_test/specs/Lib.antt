@@ -1,0 +1,2 @@
+pub mod CollarTest
+pub mod Tops

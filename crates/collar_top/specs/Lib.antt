@@ -1,0 +1,3 @@
+pub mod CollarTops
+pub mod Links
+pub mod CollarText

@@ -1,0 +1,5 @@
+pub mod Pins
+pub mod Asked
+pub mod Macros
+pub mod Ports
+pub mod Going
