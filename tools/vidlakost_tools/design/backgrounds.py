@@ -37,8 +37,8 @@ def behind_march(couple: Couple, elements: Sequence[Element], background: str) -
 
 
 class Columns:
-    """What a march covers at two bits. A column is what one bit holds in the backgrounds, the first of them lowest. Each
-    primitive stands once for each reading, and is covered where it is in both."""
+    """What a march covers at two bits. A column is what one bit holds in the backgrounds, the first of them lowest.
+    Each primitive stands once for each reading, and is covered where it is in both."""
 
     def __init__(self, elements: Sequence[Element], names: Sequence[str]):
         primitives = [it for it in map(read_primitive, names) if it.aggressor is not None]

@@ -165,8 +165,8 @@ CLAIM = re.compile(r"`(\w+(?:::\w+)+)`(?: \((`\w+`(?:, `\w+`)*)\))?")
 
 
 class Claim(NamedTuple):
-    """What a line of a page's list names: calls, each with its clauses or with none; and the calls that are named alone,
-    beside these."""
+    """What a line of a page's list names: calls, each with its clauses or with none; and the calls that are named
+    alone, beside these."""
 
     number: int
     calls: List[Tuple[str, List[str]]]

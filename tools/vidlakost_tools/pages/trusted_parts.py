@@ -42,10 +42,11 @@ page of the headline has the others. `told` in a clause is what a box tells (the
 INDEX_TITLE = """# What has to be trusted
 
 Each definition that a clause of the top call `run` stands on, and behind these each that another clause does which
-docs/PROMISES.md names: a mark of its text (the first ten digits of its SHA-256, comment and all), its name, and what of the repository's definitions it names itself. So a definition that changes is
-one line of a difference here, and the gate compares this page with the sources. Lines of a definition are not told,
-since one that grows would move all below it. `dev/trusted` prints the definitions of the headline whole, in the order
-in which to read them, and `dev/trusted --others` those of the other clauses; a release has both as pages.
+docs/PROMISES.md names: a mark of its text (the first ten digits of its SHA-256, comment and all), its name, and what
+of the repository's definitions it names itself. So a definition that changes is one line of a difference here, and
+the gate compares this page with the sources. Lines of a definition are not told, since one that grows would move all
+below it. `dev/trusted` prints the definitions of the headline whole, in the order in which to read them, and
+`dev/trusted --others` those of the other clauses; a release has both as pages.
 """
 
 
