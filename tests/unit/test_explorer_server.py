@@ -4,7 +4,9 @@ from __future__ import annotations
 import contextlib
 import http.client
 import json
+import random
 import socket
+import struct
 import threading
 import time
 import unittest
@@ -177,3 +179,57 @@ class Waits(Served):
             except BrokenPipeError:
                 self.server.handle_error(None, None)
         tell.assert_called_once_with("explore: a request failed: KeyError: 'x'")
+
+
+class Survives(Served):
+    """Whatever connections do, the server goes on."""
+
+    def opened(self, chance: random.Random) -> socket.socket:
+        """A connection that has sent the front of a request, of the right one or of something else."""
+        connection = socket.create_connection(self.place, timeout=10)
+        token = self.server.token if chance.random() < 0.5 else "x" * 43
+        whole = f"GET /{token}/ HTTP/1.1\r\nHost: {self.server.host}\r\n\r\n".encode()
+        front = whole[: chance.randrange(len(whole) + 1)] if chance.random() < 0.8 else chance.randbytes(60)
+        if front:
+            connection.sendall(front)
+        return connection
+
+    def left(self, connection: socket.socket, chance: random.Random) -> None:
+        """Ends a connection in one of the ways in which it can end: closed, broken off, or half open before that."""
+        way = chance.randrange(3)
+        with contextlib.suppress(OSError):
+            if way == 1:
+                connection.setsockopt(socket.SOL_SOCKET, socket.SO_LINGER, struct.pack("ii", 1, 0))
+            elif way == 2:
+                connection.shutdown(socket.SHUT_WR)
+        connection.close()
+
+    def test_ten_thousand_connections(self) -> None:
+        chance = random.Random(7)
+        for _ in range(250):
+            many = []
+            for _ in range(40):
+                with contextlib.suppress(OSError):
+                    many.append(self.opened(chance))
+            chance.shuffle(many)
+            for connection in many:
+                self.left(connection, chance)
+        self.assertEqual(self.ask("GET", "")[0], 200)
+
+    def test_connection_that_goes_in_the_turn_in_which_it_is_served(self) -> None:
+        """A new one takes the place of the oldest, which has sent something meanwhile."""
+        ready = [socket.create_connection(self.place, timeout=10) for _ in range(3)]
+        with mock.patch.object(server, "WAITING", 1):
+            for _ in range(20):
+                ready += [socket.create_connection(self.place, timeout=10) for _ in range(8)]
+                for connection in ready[-8:]:
+                    with contextlib.suppress(OSError):
+                        connection.sendall(b"G")
+        for connection in ready:
+            connection.close()
+        self.assertEqual(self.ask("GET", "")[0], 200)
+
+    def test_without_a_thread(self) -> None:
+        with mock.patch.object(self.server, "process_request", side_effect=RuntimeError("can't start new thread")):
+            self.assertEqual(self.ask("GET", "")[0], 503)
+        self.assertEqual(self.ask("GET", "")[0], 200)

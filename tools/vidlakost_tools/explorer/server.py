@@ -7,6 +7,7 @@ and in time for its head and its body. A client that named the token gets one of
 answered. All others wait before these, without a thread, for a short time; if many wait, the oldest goes."""
 from __future__ import annotations
 
+import contextlib
 import hmac
 import http.server
 import io
@@ -89,7 +90,7 @@ class Explorer(socketserver.ThreadingMixIn, socketserver.TCPServer):
 
     daemon_threads, block_on_close = True, False
     allow_reuse_address = True
-    request_queue_size = 64
+    request_queue_size = 512
 
     def __init__(self, port: int, pages: dict[str, Page], questions: dict[str, Answer]):
         self.pages, self.questions = pages, questions
@@ -115,13 +116,23 @@ class Explorer(socketserver.ThreadingMixIn, socketserver.TCPServer):
             selector.register(self.socket, selectors.EVENT_READ)
             while True:
                 for key, _ in selector.select(poll_interval):
-                    if key.fileobj is self.socket:
-                        self.take(selector)
-                    elif isinstance(key.fileobj, socket.socket):
-                        self.hear(selector, key.fileobj)
+                    self.serve(selector, key.fileobj)
                 now = time.monotonic()
                 for request in [request for request, (until, _) in self.waiting.items() if until < now]:
                     self.drop(selector, request, 408)
+
+    def serve(self, selector: selectors.BaseSelector, ready: object) -> None:
+        """A new connection, or one that waits and has sent something. Whatever goes wrong with one, the server goes
+        on: a connection of this turn may have gone already, since it had to make room for another."""
+        try:
+            if ready is self.socket:
+                self.take(selector)
+            elif isinstance(ready, socket.socket) and ready in self.waiting:
+                self.hear(selector, ready)
+        except Exception as error:
+            tell(f"explore: a connection failed: {type(error).__name__}: {error}")
+            if isinstance(ready, socket.socket) and ready in self.waiting:
+                self.drop(selector, ready, 503)
 
     def take(self, selector: selectors.BaseSelector) -> None:
         """A new connection, which waits at first."""
@@ -172,8 +183,9 @@ class Explorer(socketserver.ThreadingMixIn, socketserver.TCPServer):
 
     def drop(self, selector: selectors.BaseSelector, request: socket.socket, status: int) -> None:
         """Ends a connection that waits."""
-        selector.unregister(request)
         del self.waiting[request]
+        with contextlib.suppress(KeyError, ValueError):
+            selector.unregister(request)
         self.refuse(request, status)
 
     def refuse(self, request: socket.socket, status: int) -> None:
@@ -190,11 +202,16 @@ class Explorer(socketserver.ThreadingMixIn, socketserver.TCPServer):
         self.shutdown_request(request)
 
     def answer(self, request: socket.socket, begun: bytes) -> None:
-        """Starts a thread for a connection that has named the token, if one is free."""
+        """Starts a thread for a connection that has named the token, if one is free and the system gives it."""
         if self.slots.acquire(blocking=False):
             self.begun[request] = begun
-            self.process_request(request, ("127.0.0.1", 0))
-            return
+            try:
+                self.process_request(request, ("127.0.0.1", 0))
+                return
+            except (RuntimeError, MemoryError):
+                # there is no thread, so nobody else gives the place back
+                self.begun.pop(request, None)
+                self.slots.release()
         self.refuse(request, 503)
 
     def process_request_thread(self, request: Any, client_address: Any) -> None:
