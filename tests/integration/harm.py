@@ -162,15 +162,13 @@ def left(bench: Bench) -> None:
     call = ["tools/bitmap", "made.log", "access.m", "late.mem"]
     bench.look([*call, "--csv", "map.csv", "--svg", "nowhere/map.svg"], 2, "", "bitmap: nowhere/map.svg: No such file")
     bench.is_so(not (bench.folder / "map.csv").exists(), "a table was written though the picture can't be")
-    swept, kept = (".vidlakost-abcd_123", ".vidlakost-1000000000000000000"), (
-        ".vidlakost-abcd_124",
-        ".vidlakost-mine.txt",
-    )
+    swept = (f".vidlakost-staged-{'0a' * 8}", ".vidlakost-1000000000000000000")
+    kept = (f".vidlakost-staged-{'0b' * 8}", ".vidlakost-settings", ".vidlakost-mine.txt")
     folder = bench.folder / "left"
     folder.mkdir()
     for name in (*swept, *kept):
         (folder / name).write_text("")
-    for name in (*swept, ".vidlakost-mine.txt"):
+    for name in (*swept, *kept[1:]):
         os.utime(folder / name, (1, 1))
     (folder / ".vidlakost-linked_1").symlink_to(bench.folder / "c.m")
     bench.look([*call, "--csv", "left/map.csv"], 0, "cell: 1 cell", "")

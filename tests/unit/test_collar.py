@@ -16,9 +16,10 @@ from vidlakost_tools.collar.pins import Macro, Word, alike
 from vidlakost_tools.collar.text import collar
 from vidlakost_tools.collar.untested import told_pins, untested
 from vidlakost_tools.files import COMMENTS, is_own, marked, refuse_twins, write_own
+from vidlakost_tools.folder import permissions, write_all
 from vidlakost_tools.texts.march import elements_of
 from vidlakost_tools.texts.memory import Memory
-from vidlakost_tools.tool import ToolError, permissions, write_all
+from vidlakost_tools.tool import ToolError
 
 PINS = ["macro ram", "clk ck", "en ~ce", "we wen 2", "addr a", "wdata d", "rdata q"]
 PORT = ["port addr b", "port rdata p", "port wdata e", "port we v 4"]
@@ -285,8 +286,8 @@ class Files(unittest.TestCase):
         self.assertEqual(sorted(path.name for path in self.folder.iterdir()), ["a.v", "b.v"])
 
     def test_a_signal_behind_a_renaming_leaves_nothing(self) -> None:
-        def replaced_and_ended(*names: str) -> None:
-            os.rename(*names)
+        def replaced_and_ended(before: str, after: str, **folders: int) -> None:
+            os.rename(before, after, **folders)
             raise SystemExit(143)
 
         with unittest.mock.patch("os.replace", replaced_and_ended), self.assertRaises(SystemExit):

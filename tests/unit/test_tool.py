@@ -133,15 +133,6 @@ class Files(Folder):
         for other in (None, str(self.folder / "b.m")):
             tool.refuse_inputs(other, inputs)
 
-    def test_what_a_killed_tool_left_is_swept(self) -> None:
-        names = [".vidlakost-abcdefg1", f".vidlakost-{'1' * 19}", ".vidlakost-short", ".vidlakost-recent__", "other"]
-        for name in names:
-            (self.folder / name).write_text("")
-            os.utime(self.folder / name, (0, 0))
-        os.utime(self.folder / ".vidlakost-recent__")
-        tool.sweep(self.folder)
-        self.assertEqual({path.name for path in self.folder.iterdir()}, {*names[2:3], "other", ".vidlakost-recent__"})
-
     def test_progress_is_told_while_it_takes(self) -> None:
         is_told, wait = threading.Event(), threading.Event.wait
         lines: list[str] = []

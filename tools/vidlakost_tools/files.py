@@ -7,8 +7,9 @@ import pathlib
 import re
 from typing import Collection, Iterable
 
-from vidlakost_tools.text import INPUT_BYTES, LARGE_BYTES, lines_of, read_described, shown
-from vidlakost_tools.tool import ToolError, refuse_inputs, write_all
+from vidlakost_tools.folder import Folder, staging
+from vidlakost_tools.text import INPUT_BYTES, lines_of, shown
+from vidlakost_tools.tool import ToolError, refuse_inputs
 
 # the mark in the first line of a file that a tool may write again, and the place of the file's sum there
 OWN = re.compile(r"made by vidlakost [a-z]+")
@@ -43,20 +44,27 @@ def summed(text: str) -> str:
 
 
 def is_own(path: pathlib.Path) -> bool:
-    """Whether a tool wrote a file and nobody changed it since: its own first line or the list beside it has its sum. A
-    pipe or a device is nobody's. It is not read, since that might never end."""
-    if not path.is_file() or path.stat().st_size > LARGE_BYTES:
+    """Whether a tool wrote a file and nobody changed it since."""
+    if not path.parent.is_dir():
         return False
-    text = read_described(path, LARGE_BYTES)
+    with Folder(path.parent) as folder:
+        return is_own_in(folder, path.name)
+
+
+def is_own_in(folder: Folder, name: str) -> bool:
+    """The same of a file of an opened folder: its own first line or the list beside it has its sum. A link, a pipe or a
+    device is nobody's."""
+    text = folder.text(name)
+    if text is None:
+        return False
     head, line, rest = text.partition("\n")
     found = SUM.search(head)
     if found is not None:
         return sum_of(SUM.sub(r"\1", head, count=1) + line + rest) == found[2]
-    listed = path.with_name(LIST)
-    if path.name == LIST or not listed.is_file() or not is_own(listed):
+    if name == LIST or not is_own_in(folder, LIST):
         return False
-    matches = (LISTED.fullmatch(one) for one in lines_of(read_described(listed)))
-    return any(match is not None and (match[1], match[2]) == (path.name, sum_of(text)) for match in matches)
+    matches = (LISTED.fullmatch(one) for one in lines_of(folder.text(LIST) or ""))
+    return any(match is not None and (match[1], match[2]) == (name, sum_of(text)) for match in matches)
 
 
 def refuse_twins(names: Collection[str]) -> None:
@@ -67,13 +75,13 @@ def refuse_twins(names: Collection[str]) -> None:
         raise ToolError(f"two files would have the name {shown(twice)}, with a difference in case alone")
 
 
-def refuse_strangers(folder: pathlib.Path, names: Iterable[str]) -> None:
+def refuse_strangers(folder: Folder, names: Iterable[str]) -> None:
     """Refuses to write over a file that no tool wrote or somebody changed, and over a link."""
     for name in names:
-        path = folder / name
-        if os.path.lexists(path) and (path.is_symlink() or not path.is_file() or not is_own(path)):
+        if folder.found(name) is not None and not is_own_in(folder, name):
             raise ToolError(
-                f"{path} is there and was not written by vidlakost, or was changed since, so nothing is written"
+                f"{folder.path / name} is there and was not written by vidlakost, or was changed since, so nothing is"
+                " written"
             )
 
 
@@ -87,9 +95,10 @@ def look_first(folder: pathlib.Path, name: str, head: str) -> None:
     """Refuses a file that `write_own` would refuse, before its text is made. A text that begins with this head may be
     one of an older version."""
     refuse_no_folder(folder)
-    path = folder / name
-    if not is_plain(path) or not read_described(path, LARGE_BYTES).startswith(head):
-        refuse_strangers(folder, [name])
+    if folder.is_dir():
+        with Folder(folder) as opened:
+            if not (opened.text(name) or "").startswith(head):
+                refuse_strangers(opened, [name])
 
 
 def begins(text: str) -> str:
@@ -97,24 +106,18 @@ def begins(text: str) -> str:
     return next((line for line in lines_of(text) if line and not line.startswith("//")), "")
 
 
-def refuse_another_list(folder: pathlib.Path, text: str) -> None:
+def refuse_another_list(folder: Folder, text: str) -> None:
     """Refuses to write over the list of another testbench, which would lose it."""
-    path = folder / LIST
-    first = begins(read_described(path)) if path.is_file() and path.stat().st_size <= INPUT_BYTES else ""
+    first, path = begins(folder.text(LIST, INPUT_BYTES) or ""), folder.path / LIST
     if first not in ("", begins(text)):
         raise ToolError(f"{path} is the list of {shown(first)}, so nothing is written: use another folder")
 
 
-def is_plain(path: pathlib.Path) -> bool:
-    """Whether this is a file of the folder itself that a tool may have written."""
-    return path.is_file() and not path.is_symlink() and path.stat().st_size <= LARGE_BYTES
-
-
-def is_unmarked(path: pathlib.Path, text: str) -> bool:
+def is_unmarked(folder: Folder, name: str, text: str) -> bool:
     """Whether a file has the text to write, apart from the line that says which tool made it. Older versions wrote
     files so."""
     head, _, rest = text.partition("\n")
-    return OWN.search(head) is not None and is_plain(path) and read_described(path, LARGE_BYTES) == rest
+    return OWN.search(head) is not None and folder.text(name) == rest
 
 
 def write_own(folder: pathlib.Path, texts: dict[str, str], inputs: list[str], told: list[str] | None = None) -> None:
@@ -124,13 +127,15 @@ def write_own(folder: pathlib.Path, texts: dict[str, str], inputs: list[str], to
     refuse_no_folder(folder)
     for name in texts:
         refuse_inputs(str(folder / name), [("what is read", given) for given in inputs])
-    refuse_strangers(folder, [name for name, text in texts.items() if not is_unmarked(folder / name, text)])
-    if LIST in texts:
-        refuse_another_list(folder, texts[LIST])
     listed = [f"// {name} ({sum_of(text)})" for name, text in texts.items() if not OWN.search(text.partition("\n")[0])]
     if listed and LIST in texts:
         head, line, rest = texts[LIST].partition("\n")
         texts = {**texts, LIST: "\n".join([head, *listed, rest])}
     folder.mkdir(parents=True, exist_ok=True)
-    write_all({folder / name: summed(text) for name, text in texts.items()}, keeps_names=False)
+    with Folder(folder) as opened:
+        refuse_strangers(opened, [name for name, text in texts.items() if not is_unmarked(opened, name, text)])
+        if LIST in texts:
+            refuse_another_list(opened, texts[LIST])
+        with staging([(opened, name, summed(text)) for name, text in texts.items()]) as all_are_there:
+            all_are_there()
     print("\n".join(str(folder / name) for name in told or texts), flush=True)

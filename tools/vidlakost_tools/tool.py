@@ -13,18 +13,11 @@ import os
 import pathlib
 import re
 import signal
-import stat
 import sys
 import threading
-import time
 from typing import Any, Callable, Iterable, Iterator, Mapping, NoReturn, Sequence, TextIO, cast
 
-from vidlakost_tools.text import Path, cut, harmless, shown, visible
-
-
-# temporary files of a tool or of the program, and how long their owner may still run
-LEFT = re.compile(r"\.vidlakost-(?:[a-z0-9_]{8}|[0-9]{19})")
-LEFT_SECONDS = 3600
+from vidlakost_tools.text import cut, harmless, shown, visible
 
 
 class ToolError(Exception):
@@ -265,82 +258,3 @@ def refuse_inputs(target: str | None, inputs: list[tuple[str, str]]) -> None:
         one = os.path.exists(target) and os.path.exists(name) and os.path.samefile(target, name)
         if one or os.path.realpath(target) == os.path.realpath(name):
             raise ToolError(f"{shown(target)} is {what}")
-
-
-def write_whole(target: Path, text: str) -> None:
-    """Writes a text to a file. After a full disk or a kill the file still has its old text. A device is written
-    directly."""
-    write_all({pathlib.Path(target): text})
-
-
-def write_all(texts: Mapping[pathlib.Path, str], keeps_names: bool = True) -> None:
-    """Writes several files; each takes its place only when the texts of all are on the disk. Links and what is not a
-    plain file are written directly. So is a file with several names, unless the other names are to keep the old
-    text."""
-    staged: dict[pathlib.Path, str] = {}
-    as_they_are = [path for path in texts if is_written_as_it_is(path, keeps_names)]
-    try:
-        for path, text in texts.items():
-            if path not in as_they_are:
-                staged[path] = beside(path, text)
-        for path in as_they_are:
-            path.write_text(texts[path], encoding="utf-8")
-        for path in list(staged):
-            os.replace(staged[path], path)
-            del staged[path]
-    finally:
-        for name in staged.values():
-            # a signal may have come right after the renaming
-            with contextlib.suppress(FileNotFoundError):
-                os.unlink(name)
-
-
-def is_written_as_it_is(path: pathlib.Path, keeps_names: bool) -> bool:
-    return path.is_symlink() or path.exists() and (not path.is_file() or keeps_names and path.stat().st_nlink > 1)
-
-
-def sweep(folder: pathlib.Path) -> None:
-    """Removes what a killed tool or program left in a folder: only the caller's own files, and only after an hour."""
-    for path in folder.glob(".vidlakost-*"):
-        with contextlib.suppress(OSError):
-            found = path.lstat()
-            is_own = stat.S_ISREG(found.st_mode) and found.st_uid == os.geteuid() and found.st_nlink == 1
-            if is_own and LEFT.fullmatch(path.name) and time.time() - found.st_mtime > LEFT_SECONDS:
-                path.unlink()
-
-
-def beside(path: pathlib.Path, text: str) -> str:
-    """Makes a new file beside another, with the text and the other's permissions, and returns its name."""
-    import tempfile
-
-    sweep(path.parent)
-    before = path.stat() if path.exists() else None
-    if before is not None and not os.access(path, os.W_OK):
-        raise ToolError(f"{path}: Permission denied")
-    try:
-        number, name = tempfile.mkstemp(prefix=".vidlakost-", dir=path.parent)
-    except OSError as error:
-        raise OSError(error.errno, error.strerror, str(path)) from error
-    try:
-        with open(number, "w", encoding="utf-8", newline="") as file:
-            file.write(text)
-            file.flush()
-            os.fsync(number)
-        os.chmod(name, permissions(before, os.stat(name).st_gid))
-    except BaseException:
-        os.unlink(name)
-        raise
-    return name
-
-
-def permissions(before: os.stat_result | None, group: int) -> int:
-    """The permissions of a new file of this group. If it replaces a file, it gets the permissions of that one. If the
-    file had another group, the new group and others get only what both had. Else somebody whom the one kept out could
-    come in by the other."""
-    if before is None:
-        umask = os.umask(0)
-        os.umask(umask)
-        return 0o666 & ~umask
-    mode = before.st_mode & 0o777
-    both = mode >> 3 & mode & 0o7
-    return mode if before.st_gid == group else mode & 0o700 | both << 3 | both

@@ -8,8 +8,9 @@ from typing import Any, Iterator
 
 from vidlakost_tools.audit.gates import Machine, gates_of
 from vidlakost_tools.files import is_own, summed
+from vidlakost_tools.folder import write_whole
 from vidlakost_tools.texts.memory import Memory
-from vidlakost_tools.tool import progress, write_whole
+from vidlakost_tools.tool import progress
 from vidlakost_tools.verilog.front_end import Plain
 
 PORTS = ("en", "we", "addr", "wdata", "done", "fail")

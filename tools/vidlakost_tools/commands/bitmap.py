@@ -28,10 +28,11 @@ from typing import Iterator
 from vidlakost_tools.diagnosis.answer import answer_of
 from vidlakost_tools.diagnosis.asked import asked_of, faults_of, logged
 from vidlakost_tools.diagnosis.tester import check_mux
+from vidlakost_tools.folder import write_all
 from vidlakost_tools.pages.drawing import INK, SOFT, document, text
 from vidlakost_tools.texts.memory import Memory
 from vidlakost_tools.texts.reads import Read
-from vidlakost_tools.tool import number_of, refuse_inputs, telling, words_of, write_all
+from vidlakost_tools.tool import number_of, refuse_inputs, telling, words_of
 
 
 def cells_of(reads: list[tuple[Read, int]], memory: Memory) -> Counter[tuple[int, int]]:

@@ -31,7 +31,8 @@ from vidlakost_tools.design.answers import Answers
 from vidlakost_tools.design.finder import TRIED, Finder
 from vidlakost_tools.design.shown import Shown, told
 from vidlakost_tools.design.wishes import Words, wish_of
-from vidlakost_tools.tool import refuse_inputs, tell, words_of, write_whole
+from vidlakost_tools.folder import write_whole
+from vidlakost_tools.tool import refuse_inputs, tell, words_of
 
 OPTIONS = {
     "--behind": 1,

@@ -16,7 +16,8 @@ is open in `check`. plain refuses a signal with two drivers, and hands on the wa
 from __future__ import annotations
 
 from vidlakost_tools.audit.pins import read_pins
-from vidlakost_tools.tool import refuse_inputs, tell, words_of, write_whole
+from vidlakost_tools.folder import write_whole
+from vidlakost_tools.tool import refuse_inputs, tell, words_of
 from vidlakost_tools.verilog import source_texts, yosys
 from vidlakost_tools.verilog.front_end import plain_of
 

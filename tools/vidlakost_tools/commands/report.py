@@ -34,6 +34,7 @@ import json
 import re
 from typing import Any, Iterator, List, Sequence, Tuple
 
+from vidlakost_tools.folder import write_whole
 from vidlakost_tools.pages import signoff
 from vidlakost_tools.text import beside, shown
 from vidlakost_tools.texts import reasons
@@ -41,7 +42,7 @@ from vidlakost_tools.texts.chip import read_chip
 from vidlakost_tools.texts.in_word import InWordReport, is_in_word, read_in_word
 from vidlakost_tools.texts.march import length_of
 from vidlakost_tools.texts.report import Report, read_report
-from vidlakost_tools.tool import ToolError, refuse_inputs, usage_of, words_of, write_whole
+from vidlakost_tools.tool import ToolError, refuse_inputs, usage_of, words_of
 
 STYLE = """
 body { font-family: sans-serif; color: #222; margin: 2em auto; max-width: 70em; padding: 0 1em; line-height: 1.4 }

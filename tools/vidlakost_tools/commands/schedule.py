@@ -14,9 +14,10 @@ from typing import Iterator
 
 from vidlakost_tools.access.target import is_chip_file
 from vidlakost_tools.chip import steps as system_steps, system as soc
+from vidlakost_tools.folder import write_whole
 from vidlakost_tools.pages import chip_picture
 from vidlakost_tools.texts.chip import Chip, read_chip
-from vidlakost_tools.tool import ToolError, refuse_inputs, words_of, write_whole
+from vidlakost_tools.tool import ToolError, refuse_inputs, words_of
 
 
 def lines(chip: Chip) -> Iterator[str]:

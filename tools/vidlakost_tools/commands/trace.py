@@ -24,6 +24,7 @@ import pathlib
 import shlex
 from typing import Iterator, List, Tuple, Union
 
+from vidlakost_tools.folder import write_whole
 from vidlakost_tools.program import ask
 from vidlakost_tools.text import Path
 from vidlakost_tools.texts import decoder, in_word, linked, reasons
@@ -33,7 +34,7 @@ from vidlakost_tools.texts.in_word import InWordReport
 from vidlakost_tools.texts.linked import LinkVerdict, LinkedReport, LinkedStep
 from vidlakost_tools.texts.memory import Memory, read_memory
 from vidlakost_tools.texts.report import Report, Verdict, read_report
-from vidlakost_tools.tool import ToolError, usage_of, words_of, write_whole
+from vidlakost_tools.tool import ToolError, usage_of, words_of
 
 AnyReport = Union[Report, DecoderReport, LinkedReport, InWordReport]
 
