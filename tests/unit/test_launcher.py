@@ -243,6 +243,48 @@ class Launcher(unittest.TestCase):
         git("commit", "-q", "--allow-empty", "-m", "second")
         self.assertRegex(self.call("--version").stdout, r"\Avidlakost 1\.2\+1\.g[0-9a-f]{7,}\n")
 
+    def plant(self) -> pathlib.Path:
+        """A program in the place of a release's."""
+        planted = self.root / "libexec" / "vidlakost"
+        planted.parent.mkdir()
+        planted.write_text("#!/bin/sh\necho planted\n")
+        planted.chmod(0o755)
+        return planted
+
+    def test_a_program_of_a_release_is_none_of_a_checkout(self) -> None:
+        self.plant()
+        done = self.call("--program")
+        self.assertEqual(done.stdout, "")
+        self.assertIn("is no program of this checkout", done.stderr)
+        self.prove()
+        self.assertEqual(self.call("bench").stdout, "proved\n")
+
+    def test_what_others_may_write_of_a_release_is_not_taken(self) -> None:
+        planted = self.plant()
+        (self.root / "RELEASE").write_text("vidlakost 1\ncommit 1, 2026-12-01\nproved with kit\nneeds nothing\n")
+        self.assertEqual(self.call("bench").stdout, "planted\n")
+        for loose in (planted, planted.parent):
+            loose.chmod(0o757)
+            done = self.call("bench")
+            self.assertNotEqual(done.stdout, "planted\n", loose)
+            self.assertIn("others may write the program", done.stderr)
+            loose.chmod(0o755)
+
+    def test_a_sum_that_can_not_be_made_is_none(self) -> None:
+        """Without `sha256sum` an altered program and its kit would have equal sums, two empty ones."""
+        self.prove()
+        few = self.root / "few"
+        few.mkdir()
+        for name in ("find", "cut", "sort", "xargs", "readlink", "dirname", "bash", "sh", "mv", "rm", "awk", "sed"):
+            found = shutil.which(name)
+            if found:
+                (few / name).symlink_to(found)
+        self.program.write_text(PROGRAM)
+        (self.build / "kit").write_text("\nkit 1\nsources \n")
+        (self.build / "seen").write_text("\n")
+        done = self.call("--program", PATH=str(few))
+        self.assertEqual(done.stdout, "")
+
     def test_few_files(self) -> None:
         self.program.parent.mkdir()
         self.program.write_text(PROGRAM)

@@ -62,21 +62,25 @@ class Folder:
     def stage(self, name: str, text: str) -> str:
         """Makes a new file with the text and with the permissions of the file that it is to replace, and returns its
         name."""
-        self.sweep()
         before = self.found(name)
         if before is not None and not os.access(name, os.W_OK, dir_fd=self.number):
             raise ToolError(f"{self.path / name}: Permission denied")
-        made = f".vidlakost-staged-{secrets.token_hex(8)}"
+        return self.stage_bytes(name, text.encode("utf-8"), None)
+
+    def stage_bytes(self, name: str, content: bytes, mode: int | None) -> str:
+        """The same of bytes, with these permissions."""
+        self.sweep()
+        made, before = f".vidlakost-staged-{secrets.token_hex(8)}", self.found(name)
         try:
             number = os.open(made, NEW, 0o600, dir_fd=self.number)
         except OSError as error:
             raise OSError(error.errno, error.strerror, str(self.path / name)) from error
         try:
-            with open(number, "w", encoding="utf-8", newline="") as file:
-                file.write(text)
+            with open(number, "wb") as file:
+                file.write(content)
                 file.flush()
                 os.fsync(number)
-                os.fchmod(number, permissions(before, os.fstat(number).st_gid))
+                os.fchmod(number, permissions(before, os.fstat(number).st_gid) if mode is None else mode)
         except BaseException:
             self.remove(made)
             raise

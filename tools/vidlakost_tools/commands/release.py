@@ -26,12 +26,11 @@ import shutil
 import struct
 import subprocess
 import sys
-import tarfile
 import tempfile
 import zlib
 from typing import Dict, Iterator, List, Mapping
 
-from vidlakost_tools.pages import debian, trusted_pages
+from vidlakost_tools.pages import debian, installing, trusted_pages, unpacking
 from vidlakost_tools.pages.debian import PROGRAM
 from vidlakost_tools.pages.spec_graph import Graph
 from vidlakost_tools.program import ROOT, UNPROVED, proof_of, quick_program, version
@@ -114,10 +113,21 @@ def packed() -> list[str]:
     return [name for name in sorted(names) if (ROOT / name).is_file()]
 
 
+def refuse_changed(files: Mapping[str, tuple[bytes, bool]]) -> None:
+    """Refuses to hand on a file of an unpacked release that is not as it was released."""
+    sums = unpacking.sums_of(files[unpacking.LIST][0].decode("utf-8", "replace"))
+    changed = [name for name, (content, _) in files.items() if unpacking.sum_of(content) != sums.get(name)]
+    changed = [name for name in changed if name != unpacking.LIST]
+    if changed:
+        raise ToolError(f"{shown(changed[0])} is not the file that was released, so nothing is installed", 1)
+
+
 def tree(unproved: bool) -> dict[str, tuple[bytes, bool]]:
     """For each file of the release: its bytes, and whether it is a program."""
     if is_unpacked():
-        return {name: ((ROOT / name).read_bytes(), os.access(ROOT / name, os.X_OK)) for name in packed()}
+        files = {name: ((ROOT / name).read_bytes(), os.access(ROOT / name, os.X_OK)) for name in packed()}
+        refuse_changed(files)
+        return files
     program = quick_program()
     if not program or pathlib.Path(program).read_bytes()[:4] != b"\x7fELF":
         raise ToolError("no proved program is here; ./vidlakost --prove makes one", 125)
@@ -196,14 +206,18 @@ def deb_path(unproved: bool) -> pathlib.Path:
     return ROOT / "dist" / f"vidlakost_{full_version(unproved)}_amd64.deb"
 
 
-def write_deb(unproved: bool) -> None:
-    """The Debian package of the same files."""
-    files = tree(unproved)
+def package_of(path: pathlib.Path, files: Mapping[str, tuple[bytes, bool]], unproved: bool) -> None:
+    """Makes the Debian package of these files."""
     time = int(git("log", "-1", "--format=%ct").strip() or 0)
     date = datetime.datetime.fromtimestamp(time, datetime.timezone.utc).strftime("%a, %d %b %Y %H:%M:%S +0000")
+    debian.package(path, files, full_version(unproved), needs(files[PROGRAM][0]), time, date, unproved)
+
+
+def write_deb(unproved: bool) -> None:
+    """The Debian package of the same files."""
     path = deb_path(unproved)
     path.parent.mkdir(exist_ok=True)
-    debian.package(path, files, full_version(unproved), needs(files[PROGRAM][0]), time, date, unproved)
+    package_of(path, tree(unproved), unproved)
     for line in debian.complaints(path):
         print(line)
     print(f"{path} {path.stat().st_size} bytes")
@@ -221,44 +235,6 @@ def check_deb(package: pathlib.Path, folder: pathlib.Path, environment: Mapping[
     if left:
         print(f"the package leaves {', '.join(left)}")
     return wrong + len(left)
-
-
-# ---- installing
-
-
-def make_folder(path: pathlib.Path) -> None:
-    """Makes a folder and those above it, which everyone may look into, whatever the installer's umask is."""
-    if not path.is_dir():
-        make_folder(path.parent)
-        path.mkdir()
-        path.chmod(0o755)
-
-
-def link(path: pathlib.Path, target: str) -> None:
-    make_folder(path.parent)
-    if path.is_symlink() or path.exists():
-        path.unlink()
-    path.symlink_to(target)
-
-
-def install(prefix: pathlib.Path, unproved: bool) -> None:
-    """Puts the files of a release below the prefix: all in lib/vidlakost, and links in the usual places."""
-    home = prefix / "lib" / "vidlakost"
-    files = tree(unproved)
-    for name, (content, is_program) in files.items():
-        below = prefix if name.startswith("share/") else home
-        path = below / name
-        make_folder(path.parent)
-        fresh = path.with_name(path.name + ".new")
-        fresh.write_bytes(content)
-        fresh.chmod(0o755 if is_program else 0o644)
-        fresh.replace(path)
-    link(prefix / "bin" / "vidlakost", "../lib/vidlakost/vidlakost")
-    for name, (_, is_program) in files.items():
-        tool = name[len("tools/") :]
-        if name.startswith("tools/") and is_program and tool not in INNER:
-            link(prefix / "bin" / f"vidlakost-{tool}", f"../lib/vidlakost/tools/{tool}")
-    print(f"{prefix / 'bin' / 'vidlakost'}")
 
 
 # ---- trying a release
@@ -329,18 +305,21 @@ def try_calls(
 
 
 def check(unproved: bool) -> int:
-    """Unpacks the archive and tries it without the kit; then it tries an installation from there."""
+    """Looks at the sums of the archive, of its files and of the package first, and runs nothing of another one. Then it
+    unpacks the archive and tries it without the kit, and an installation from there."""
     with tempfile.TemporaryDirectory() as name:
         folder = pathlib.Path(name)
         environment = without_kit(folder)
         if shutil.which("rt", path=environment["PATH"]):
             raise ToolError("the kit is on each PATH that could be tried")
-        with tarfile.open(ROOT / "dist" / f"{archive_name(unproved)}.tar.gz") as archive:
-            archive.extractall(folder)
         home = folder / archive_name(unproved)
-        sums = [line.split("  ", 1) for line in (home / "SHA256SUMS").read_text().splitlines()]
-        wrong = sum(hashlib.sha256((home / path).read_bytes()).hexdigest() != wanted for wanted, path in sums)
-        wrong += try_calls(home, home, folder / "empty", environment)
+        files = unpacking.files_of(ROOT / "dist" / f"{archive_name(unproved)}.tar.gz", archive_name(unproved))
+        package = deb_path(unproved) if deb_path(unproved).exists() and shutil.which("dpkg") else None
+        if package:
+            package_of(folder / "made.deb", files, unproved)
+            unpacking.refuse_another_package(package, folder / "made.deb")
+        unpacking.unpack(files, home)
+        wrong = try_calls(home, home, folder / "empty", environment)
         installed = subprocess.run(
             [str(home / "tools" / "release"), "--prefix", str(folder / "prefix")],
             env=environment,
@@ -350,8 +329,8 @@ def check(unproved: bool) -> int:
         wrong += installed != 0 or try_calls(
             folder / "prefix" / "lib" / "vidlakost", folder / "prefix" / "bin", folder / "again", environment
         )
-        if deb_path(unproved).exists() and shutil.which("dpkg"):
-            wrong += check_deb(deb_path(unproved), folder, environment)
+        if package:
+            wrong += check_deb(package, folder, environment)
     print(f"the release {archive_name(unproved)}, tried without the kit: {wrong} differences")
     return 1 if wrong else 0
 
@@ -360,7 +339,9 @@ def main(arguments: list[str]) -> int:
     _, options = words_of(__doc__, arguments, {"--prefix": 1, "--check": 0, "--deb": 0, "--unproved": 0}, most=0)
     unproved = "--unproved" in options
     if "--prefix" in options:
-        install(pathlib.Path(options["--prefix"]).absolute(), unproved)
+        prefix = pathlib.Path(options["--prefix"]).absolute()
+        installing.install(prefix, tree(unproved), INNER)
+        print(prefix / "bin" / "vidlakost")
         return 0
     if "--check" in options:
         return check(unproved)
