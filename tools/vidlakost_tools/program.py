@@ -90,9 +90,10 @@ def version() -> tuple[str, str, str]:
     """The version, the date and the commit of this checkout, or of the release that this is."""
     release = ROOT / "RELEASE"
     if release.exists():
-        first, second, *_ = release.read_text().splitlines()
-        commit, date = second.split(" ", 1)[1].split(", ")
-        return first.split(" ")[1], date, commit
+        found = re.match(r"vidlakost (\S+)\ncommit (\S+), (\S+)\n", read_described(release))
+        if found is None:
+            raise ToolError(f"{release} is not as a release has it: its first lines say no version and no commit", 125)
+        return found[1], found[3], found[2]
     said = of_git("log", "-1", "--format=%cs %h").split()
     date, commit = said if len(said) == 2 else ("0000-00-00", "none")
     plain = tagged(of_git("describe", "--tags", "--long", "--match", "v[0-9]*")) or f"{date.replace('-', '.')}-{commit}"

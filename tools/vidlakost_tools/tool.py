@@ -200,12 +200,15 @@ def telling(what: str, how_far: Callable[[], str] | None = None) -> Iterator[Non
             seconds += 10
 
     teller = threading.Thread(target=tell_on, daemon=True)
-    teller.start()
+    # where the system gives no thread, the work goes on without a word
+    with contextlib.suppress(RuntimeError):
+        teller.start()
     try:
         yield
     finally:
         is_over.set()
-        teller.join()
+        if teller.ident is not None:
+            teller.join()
 
 
 def progress(cycles: Iterable[int], what: str) -> Iterator[int]:

@@ -2,6 +2,7 @@
 march."""
 from __future__ import annotations
 
+import collections
 import functools
 import re
 from typing import Iterator
@@ -60,17 +61,17 @@ class Names:
     backslashes."""
 
     def __init__(self, names: list[str]):
-        self.lower = [name.lower() for name in names]
+        self.lower = collections.Counter(name.lower() for name in names)
 
     def of(self, name: str) -> str:
         """A name of a port or of the entity."""
         is_plain = re.fullmatch(r"[A-Za-z](_?[A-Za-z0-9])*", name)
-        taken = name.lower() in RESERVED | OWN or self.lower.count(name.lower()) > 1
+        taken = name.lower() in RESERVED | OWN or self.lower[name.lower()] > 1
         return name if is_plain and not taken else f"\\{name}\\"
 
     def inner(self, name: str) -> str:
         """The signal inside the architecture."""
-        is_plain = re.fullmatch(r"[A-Za-z](_?[A-Za-z0-9])*", name) and self.lower.count(name.lower()) == 1
+        is_plain = re.fullmatch(r"[A-Za-z](_?[A-Za-z0-9])*", name) and self.lower[name.lower()] == 1
         return f"v_{name}" if is_plain and f"v_{name}".lower() not in self.lower else f"\\v_{name}\\"
 
 
