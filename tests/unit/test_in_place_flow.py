@@ -5,6 +5,9 @@ from __future__ import annotations
 import os
 import pathlib
 import re
+import shutil
+import subprocess
+import tempfile
 import unittest
 
 from vidlakost_tools.access.constraints import Timing
@@ -169,6 +172,22 @@ class InPlaceFlow(unittest.TestCase):
         self.assertEqual(lines[2:7], [f"kept:  collar.memory/{pin}" for pin in pins])
         self.assertEqual(lines[7], "places:  front.line.collar.memory/clkb")
         self.assertEqual(lines[9:], [f"places:  back.sums.collar.memory/{pin}" for pin in pins])
+
+    @unittest.skipIf(shutil.which("make") is None, "make runs the steps")
+    def test_what_stands_there_before_stays(self) -> None:
+        """No step is done where a folder or a file of its name is somebody's."""
+        text = self.flow(self.places).text()
+        for theirs in ("reports.html", "late/run.log", "chip/tb"):
+            with tempfile.TemporaryDirectory() as name:
+                folder = pathlib.Path(name)
+                (folder / "Makefile").write_text(text)
+                (folder / theirs).parent.mkdir(exist_ok=True)
+                (folder / theirs).write_text("mine\n")
+                done = subprocess.run(["make", "reports.html"], cwd=folder, stderr=subprocess.PIPE, text=True, check=False)
+                self.assertEqual(done.returncode, 2)
+                self.assertIn("is there, and this makefile did not make it", done.stderr)
+                self.assertEqual((folder / theirs).read_text(), "mine\n")
+                self.assertEqual(sorted(os.listdir(folder)), sorted(["Makefile", theirs.split("/")[0]]))
 
     def test_folders(self) -> None:
         """A memory can't have a folder of the whole."""

@@ -36,8 +36,14 @@ again = rm -f -- $(1).sums $(1).read
 opens = test -e $(1).read && (cd $(dir $(1)) && xargs grep -qE '[$$](readmem|fopen|sdf_annotate|system)' <$(notdir $(1)).read)
 done = { $(call opens,$(1)) || $(call sums,$(1),$(2)) >$(1).sums; }
 
+# What the steps write stands in these folders and files. One that is there before the first run is somebody's, and stays.
+OWNED := $(sort $(foreach step,@@{steps},$(firstword $(subst /, ,$(step)))))
+MARKS := .vidlakost-flow
 # the steps are those of this chip file as it was when the makefile was written
 FORCE:
+	@for it in $(OWNED); do test ! -e $$it -a ! -L $$it -o -e $(MARKS)/$$it || { \
+	  echo "@@{name}: $$it is there, and this makefile did not make it, so nothing is done: take another folder" >&2; exit 1; }; done
+	@mkdir -p $(MARKS) && touch $(addprefix $(MARKS)/,$(OWNED))
 	@cd $(ROOT) && printf '%s\n'@@{sums} | sha256sum -c --status 2>/dev/null || { \
 	  echo "@@{name}: @@{chip} is another than the one that this makefile is of: run vidlakost flow again" >&2; exit 1; }
 
