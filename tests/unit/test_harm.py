@@ -1,18 +1,22 @@
 """What holds a program that may do harm, by itself: `python3 -m unittest discover -s tests/unit -t .`."""
 from __future__ import annotations
 
-import os
 import pathlib
 import tempfile
 import time
 import unittest
 from unittest import mock
 
-from vidlakost_tools.verilog import confined
+from vidlakost_tools import bounded, confined
 from vidlakost_tools.verilog.vhdl import declared_at
 from vidlakost_tools.verilog.vhdl_source import reaching
 
 HARM = "echo in >inside; (echo out >../outside); (: >../kept); rm -f ../gone; mkdir ../made; : >/dev/null; exit 0"
+
+
+def held(folder: pathlib.Path, script: str) -> None:
+    """Runs a script that may change this folder alone."""
+    bounded.run(bounded.Call(["sh", "-c", script], bounds=bounded.Bounds(20), folder=folder, only=folder))
 
 
 def may_mount() -> bool:
@@ -20,8 +24,8 @@ def may_mount() -> bool:
     with tempfile.TemporaryDirectory() as name:
         folder = pathlib.Path(name) / "own"
         folder.mkdir()
-        with mock.patch.object(confined, "ruleset_of", return_value=None):
-            confined.run(["sh", "-c", "echo >../outside"], folder, 20, pathlib.Path(os.devnull))
+        with mock.patch.object(bounded, "WAYS", ("mounts",)):
+            held(folder, "echo >../outside")
         return not (folder.parent / "outside").exists()
 
 
@@ -33,20 +37,20 @@ class Confined(unittest.TestCase):
             folder.mkdir()
             for kept in ("kept", "gone"):
                 (folder.parent / kept).write_text(kept)
-            confined.run(["sh", "-c", HARM], folder, 20, pathlib.Path(os.devnull))
+            held(folder, HARM)
             left = sorted(path.name for path in folder.parent.iterdir())
             return [*left, (folder.parent / "kept").read_text(), *(path.name for path in folder.iterdir())]
 
     def test_only_the_folder_is_changed(self) -> None:
         with tempfile.TemporaryDirectory() as name:
-            if confined.ruleset_of(pathlib.Path(name)) is None and not may_mount():
+            if confined.ruleset_of(name) is None and not may_mount():
                 self.skipTest("this system holds no program")
         self.assertEqual(self.harmed(), ["gone", "kept", "own", "kept", "inside"])
 
     def test_by_mounts(self) -> None:
         if not may_mount():
             self.skipTest("this system gives no mounts")
-        with mock.patch.object(confined, "ruleset_of", return_value=None):
+        with mock.patch.object(bounded, "WAYS", ("mounts",)):
             self.assertEqual(self.harmed(), ["gone", "kept", "own", "kept", "inside"])
 
 

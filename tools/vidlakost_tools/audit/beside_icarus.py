@@ -7,15 +7,14 @@ import os
 import pathlib
 import re
 import shutil
-import subprocess
 import tempfile
 from typing import Callable
 
+from vidlakost_tools import bounded
 from vidlakost_tools.audit.pins import INPUTS, Pins
 from vidlakost_tools.text import shown, template
 from vidlakost_tools.texts.memory import Memory
-from vidlakost_tools.tool import ToolError, telling
-from vidlakost_tools.verilog import confined
+from vidlakost_tools.tool import ToolError
 from vidlakost_tools.verilog.front_end import Plain
 from vidlakost_tools.verilog.source_texts import blanked, with_included, with_members
 from vidlakost_tools.verilog.syntax import ranged
@@ -148,24 +147,23 @@ def how_far(out: pathlib.Path) -> str:
 
 def call(words: list[str], folder: pathlib.Path) -> tuple[int, str]:
     """The status and the words of a program that may change this folder alone."""
-    out = folder / "out"
-    with confined.holds(folder) as hold, open(out, "wb") as file, telling("Icarus is at work", lambda: how_far(out)):
-        try:
-            done = subprocess.run(
+    environment, bounds = {**os.environ, "TMPDIR": str(folder)}, bounded.Bounds(SECONDS)
+    try:
+        done = bounded.run(
+            bounded.Call(
                 words,
-                stdin=subprocess.DEVNULL,
-                stdout=file,
-                stderr=subprocess.STDOUT,
-                timeout=SECONDS,
-                env={**os.environ, "TMPDIR": str(folder)},
-                preexec_fn=hold,
-                check=False,
+                "Icarus",
+                bounds,
+                only=folder,
+                environment=environment,
+                doing="Icarus is at work",
+                how_far=how_far,
             )
-        except subprocess.TimeoutExpired as error:
-            why = "a block that wakes itself for ever looks like this"
-            raise ToolError(f"Icarus took longer than {SECONDS} seconds and was stopped; {why}", 1) from error
-    said = out.read_bytes().decode("utf-8", "replace")
-    return done.returncode, re.sub(rf"{re.escape(str(folder))}/(?:given\d+/)?", "", said)
+        )
+    except bounded.Stopped as error:
+        why = "a block that wakes itself for ever looks like this"
+        raise ToolError(f"{error}; {why}", 1) from error
+    return done.status, bounded.without(folder, done.said)
 
 
 # a line that sets a signal of the sources, by $deposit or without

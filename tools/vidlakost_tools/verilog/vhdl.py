@@ -5,13 +5,11 @@ import pathlib
 import re
 import shutil
 import string
-import subprocess
-import tempfile
 from typing import Any
 
+from vidlakost_tools import bounded
 from vidlakost_tools.text import SOURCE_BYTES, lines_of, read_described
-from vidlakost_tools.tool import ToolError, identifier, telling
-from vidlakost_tools.verilog import confined
+from vidlakost_tools.tool import ToolError, identifier
 from vidlakost_tools.verilog.vhdl_source import refuse_reaching
 
 # what names and the commas between them are of
@@ -58,20 +56,23 @@ def verilog_of(files: list[str], options: dict[str, Any], folder: pathlib.Path) 
 def synthesized(form: str, names: list[str], top: str, folder: pathlib.Path) -> str:
     """What GHDL makes of an entity, as a text of one of its forms. It may change nothing but what it leaves in a folder
     of its own, since it opens the files that sources name."""
-    with tempfile.TemporaryDirectory(dir=folder) as own:
-        out = pathlib.Path(own) / "out"
+    with bounded.folder_of_its_own(folder) as own:
+        out = own / "out"
         out.touch()
         words = ["ghdl", "--synth", "--std=08", f"--workdir={own}", f"--out={form}", *names, "-e", top]
-        try:
-            with telling(f"GHDL makes {form} of {top}", lambda: f"{out.stat().st_size:,} bytes by now"):
-                done = confined.run(words, pathlib.Path(own), SECONDS, out)
-        except subprocess.TimeoutExpired as error:
-            raise ToolError(f"ghdl took longer than {SECONDS} seconds and was stopped", 1) from error
+        doing, bounds = f"GHDL makes {form} of {top}", bounded.Bounds(SECONDS)
+        done = bounded.run(
+            bounded.Call(words, "ghdl", bounds, own, own, is_apart=True, out=out, doing=doing, how_far=written)
+        )
         text = out.read_bytes().decode("utf-8", "replace")
-    if done.returncode:
-        said = lines_of(done.stderr.decode("utf-8", "replace"))
+    if done.status:
+        said = lines_of(done.errors)
         raise ToolError("\n".join([f"ghdl refuses it: {said[0] if said else 'no reason is given'}", *said[1:8]]), 1)
     return text
+
+
+def written(out: pathlib.Path) -> str:
+    return f"{out.stat().st_size:,} bytes by now"
 
 
 def declared_at(texts: dict[str, str]) -> dict[str, tuple[str, int]]:

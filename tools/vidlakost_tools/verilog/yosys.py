@@ -6,13 +6,12 @@ import json
 import os
 import pathlib
 import re
-import resource
 import shutil
-import subprocess
 from typing import Any, Mapping
 
+from vidlakost_tools import bounded
 from vidlakost_tools.text import LARGE_BYTES, Path, beside, lines_of, read_bytes, shown, template
-from vidlakost_tools.tool import ToolError, identifier, telling
+from vidlakost_tools.tool import ToolError, identifier
 from vidlakost_tools.verilog import known_cells, simulation, two_meanings, unread
 from vidlakost_tools.verilog.rtlil import driven_constant, driven_twice, without_initial, written_contents
 from vidlakost_tools.verilog.source_texts import OPENED, Sources, asked, blanked, opened, with_included, with_members
@@ -75,41 +74,24 @@ def how_far(log: pathlib.Path) -> str:
     return last[0].rstrip(".:").replace(f"{log.parent}/", "")[:120] if last else ""
 
 
-def bounded() -> None:
-    """Bounds the memory of a program that begins."""
-    resource.setrlimit(resource.RLIMIT_AS, (MEMORY, resource.getrlimit(resource.RLIMIT_AS)[1]))
-
-
 def run(script: str, folder: pathlib.Path, *flags: str, seconds: float | None = None) -> list[str]:
     """The lines that Yosys says of a script; where it fails its error is told, with the warnings before it. It is ended
     when it takes too long."""
     file, log = folder / "script.ys", folder / "log"
     file.write_text(script)
-    bound = seconds or SECONDS
-    with telling("Yosys is at work", lambda: how_far(log)):
-        try:
-            done = subprocess.run(
-                ["yosys", *flags, "-L", str(log), "-s", str(file)],
-                stdin=subprocess.DEVNULL,
-                stdout=subprocess.PIPE,
-                stderr=subprocess.STDOUT,
-                timeout=bound,
-                preexec_fn=bounded,
-                check=False,
-            )
-        except subprocess.TimeoutExpired as error:
-            why = "an endless loop in the sources looks like this"
-            told = f"Yosys took longer than {bound:g} seconds ({how_far(log)}), and was stopped"
-            raise Slow(f"{told}; {why}", 1) from error
-    # what a reader can't find says nothing to him
-    lines = [
-        re.sub(rf"{re.escape(str(folder))}/(?:given\d+/)?", "", line)
-        for line in lines_of(done.stdout.decode("utf-8", "replace"))
-    ]
-    if done.returncode and any("bad_alloc" in line for line in lines[-9:]):
+    bounds = bounded.Bounds(seconds or SECONDS, MEMORY)
+    words = ["yosys", *flags, "-L", str(log), "-s", str(file)]
+    try:
+        done = bounded.run(
+            bounded.Call(words, "Yosys", bounds, doing="Yosys is at work", how_far=lambda _: how_far(log))
+        )
+    except bounded.Stopped as error:
         why = "an endless loop in the sources looks like this"
-        raise Slow(f"Yosys took more than {MEMORY >> 30} GB of memory ({how_far(log)}), and was stopped; {why}", 1)
-    if done.returncode:
+        told = str(error).split("\n", maxsplit=1)[0].replace(" and was stopped", "")
+        raise Slow(f"{told} ({how_far(log)}), and was stopped; {why}", 1) from error
+    # what a reader can't find says nothing to him
+    lines = lines_of(bounded.without(folder, done.said))
+    if done.status:
         errors = [line for line in lines if "ERROR" in line] or lines[-1:] or ["no reason is given"]
         raise ToolError("\n".join([f"yosys refuses it: {errors[0]}", *warnings_in(lines)]), 1)
     return lines
@@ -127,13 +109,11 @@ class Gates:
 def gates_of(module: pathlib.Path, library: str) -> Gates:
     """The gates of the module of a file, of a library of `abc -g`."""
     script = f"read_verilog {quoted(module)}; synth -flatten; abc -g {library}; opt_clean; stat; ltp -noff"
-    done = subprocess.run(
-        ["yosys", "-p", script], stdout=subprocess.PIPE, stderr=subprocess.STDOUT, text=True, check=False
-    )
-    counted = re.search(r".*Number of cells:\s+(\d+)(.*)", done.stdout, re.DOTALL)
-    depth = re.search(r"length=(\d+)", done.stdout)
-    if done.returncode or counted is None or depth is None:
-        last = lines_of(done.stdout.strip())[-1:] or ["no reason is given"]
+    done = bounded.run(bounded.Call(["yosys", "-p", script], "Yosys", bounded.Bounds(SECONDS, MEMORY)))
+    counted = re.search(r".*Number of cells:\s+(\d+)(.*)", done.said, re.DOTALL)
+    depth = re.search(r"length=(\d+)", done.said)
+    if done.status or counted is None or depth is None:
+        last = lines_of(done.said.strip())[-1:] or ["no reason is given"]
         raise ToolError(f"yosys fails: {last[0]}", 1)
     flops = sum(int(count) for count in re.findall(r"\$_S?DFF\S*\s+(\d+)", counted[2]))
     return Gates(int(counted[1]), flops, int(depth[1]))

@@ -1,0 +1,198 @@
+"""One call for every foreign program: bounded in time, memory and output, held to a folder where that is asked, and
+ended with all that it began, whatever happens."""
+from __future__ import annotations
+
+import contextlib
+import dataclasses
+import os
+import pathlib
+import re
+import shutil
+import signal
+import stat
+import subprocess
+import sys
+import tempfile
+import time
+from typing import Callable, Iterator, Mapping, Sequence
+
+from vidlakost_tools.text import lines_of
+from vidlakost_tools.tool import ToolError, telling
+
+CHILD = pathlib.Path(__file__).with_name("confined.py")
+# the ways by which a program is held to a folder, of which the first that the system has is taken
+WAYS = ("landlock", "mounts")
+# so many bytes of what a program says are read
+SAID = 64 << 20
+# what programs say, or by which signals they end, where they get no more memory
+NO_MEMORY = re.compile(r"bad_alloc|out of memory|cannot allocate memory|memory exhausted|virtual memory", re.IGNORECASE)
+
+
+@dataclasses.dataclass(frozen=True)
+class Bounds:
+    """How long a program may take, how much memory each of its processes may have, and how large each file may be that
+    it writes, in bytes."""
+
+    seconds: float = 600.0
+    memory: int = 4 << 30
+    output: int = 1 << 30
+
+
+class Stopped(ToolError):
+    """A program was stopped at one of its bounds: `time`, `memory` or `output`."""
+
+    def __init__(self, message: str, bound: str):
+        super().__init__(message, 1)
+        self.bound = bound
+
+
+@dataclasses.dataclass
+class Ended:
+    """How a program ended: its status (a signal's number below 0), what it said, and what it said of errors where that
+    is apart."""
+
+    status: int
+    said: str
+    errors: str = ""
+
+    def last(self, count: int = 4) -> list[str]:
+        """The last lines that it said, those of errors where there are any."""
+        lines = [line.rstrip() for line in lines_of(self.errors) or lines_of(self.said)]
+        return [line for line in lines if line][-count:]
+
+
+@dataclasses.dataclass
+class Call:
+    """What is called: its words; the name that messages have for it; its bounds; the folder that it stands in, and the
+    one that alone it may change; its environment; whether errors are apart; and a file for what it says."""
+
+    words: Sequence[str]
+    name: str = ""
+    bounds: Bounds = Bounds()
+    folder: pathlib.Path | None = None
+    only: pathlib.Path | None = None
+    environment: Mapping[str, str] | None = None
+    is_apart: bool = False
+    out: pathlib.Path | None = None
+    # what is said each ten seconds while it runs, with how far it is by what it said so far
+    doing: str = ""
+    how_far: Callable[[pathlib.Path], str] | None = None
+
+    def title(self) -> str:
+        return self.name or pathlib.Path(self.words[0]).name
+
+    def child(self) -> list[str]:
+        """The words of the process that becomes the program."""
+        program = shutil.which(self.words[0])
+        if program is None:
+            raise ToolError(f"{self.words[0]} is not on the PATH")
+        bounds = [str(self.bounds.memory), str(self.bounds.output), ",".join(WAYS), str(self.only or "")]
+        return [sys.executable, "-I", "-S", str(CHILD), *bounds, os.path.abspath(program), *self.words[1:]]
+
+
+def remove(path: pathlib.Path) -> None:
+    """Removes a folder, also where a program took rights away in it, or is still ending there."""
+
+    for pause in (0, 0.01, 0.05, 0.2, 1):
+        time.sleep(pause)
+        shutil.rmtree(path, ignore_errors=True)
+        if not path.exists():
+            return
+        with contextlib.suppress(OSError):
+            os.chmod(path, stat.S_IRWXU)
+        for place, folders, _ in os.walk(path):
+            for inner in (os.path.join(place, name) for name in folders):
+                with contextlib.suppress(OSError):
+                    if not os.path.islink(inner):
+                        os.chmod(inner, stat.S_IRWXU)
+
+
+@contextlib.contextmanager
+def folder_of_its_own(inside: pathlib.Path | None = None) -> Iterator[pathlib.Path]:
+    """A temporary folder that goes whatever happens."""
+    path = pathlib.Path(tempfile.mkdtemp(prefix="vidlakost-", dir=inside)).resolve()
+    try:
+        yield path
+    finally:
+        remove(path)
+
+
+def is_over(child: subprocess.Popen[bytes], seconds: float) -> bool:
+    """Whether a process ends in time. Nobody takes its status yet, so that its number stays that of its group."""
+    until, pause = time.monotonic() + seconds, 0.0005
+    while os.waitid(os.P_PID, child.pid, os.WEXITED | os.WNOHANG | os.WNOWAIT) is None:
+        left = until - time.monotonic()
+        if left <= 0:
+            return False
+        time.sleep(min(pause, left))
+        pause = min(2 * pause, 0.05)
+    return True
+
+
+def end(child: subprocess.Popen[bytes]) -> int:
+    """Ends a process with all of its group, and says its status."""
+    with contextlib.suppress(ProcessLookupError, PermissionError):
+        os.killpg(child.pid, signal.SIGKILL)
+    return child.wait()
+
+
+def waited(call: Call, out: pathlib.Path, errors: pathlib.Path) -> int | None:
+    """The status of a program whose words go to two files; None where it took too long."""
+    child, is_in_time = None, False
+    with open(out, "wb") as file, open(errors, "wb") as other:
+        try:
+            child = subprocess.Popen(
+                call.child(),
+                stdin=subprocess.DEVNULL,
+                stdout=file,
+                stderr=other if call.is_apart else subprocess.STDOUT,
+                cwd=call.folder,
+                env=None if call.environment is None else dict(call.environment),
+                start_new_session=True,
+            )
+            is_in_time = is_over(child, call.bounds.seconds)
+        finally:
+            status = end(child) if child is not None else None
+    return status if is_in_time else None
+
+
+def read_end(path: pathlib.Path) -> str:
+    """What a file holds, or its end where it is large."""
+    with open(path, "rb") as file:
+        file.seek(max(0, os.path.getsize(path) - SAID))
+        return file.read(SAID).decode("utf-8", "replace")
+
+
+def stopped(call: Call, ended: Ended | None, said: Ended) -> Stopped | None:
+    """At which bound a program was stopped, if it was, with the last lines of its own."""
+    bounds, tail = call.bounds, said.last(2)
+    if ended is None:
+        why, bound = f"took longer than {bounds.seconds:g} seconds", "time"
+    elif ended.status == -signal.SIGXFSZ:
+        why, bound = f"wrote more than {bounds.output >> 20:,} MB", "output"
+    elif ended.status and any(map(NO_MEMORY.search, ended.last(9))):
+        why, bound = f"took more than {bounds.memory / (1 << 30):g} GB of memory", "memory"
+    else:
+        return None
+    return Stopped("\n".join([f"{call.title()} {why} and was stopped", *(f"  {line}" for line in tail)]), bound)
+
+
+def run(call: Call) -> Ended:
+    """How a program ended; `Stopped` is raised at one of its bounds. Nothing of it runs any more then."""
+    with folder_of_its_own() as own:
+        out, errors = call.out or own / "out", own / "errors"
+        if call.doing:
+            with telling(call.doing, lambda: call.how_far(out) if call.how_far else ""):
+                status = waited(call, out, errors)
+        else:
+            status = waited(call, out, errors)
+        said = Ended(0 if status is None else status, "" if call.out else read_end(out), read_end(errors))
+    told = stopped(call, None if status is None else said, said)
+    if told is not None:
+        raise told
+    return said
+
+
+def without(folder: pathlib.Path, text: str) -> str:
+    """What a program said, without the names of a temporary folder, which say nothing to whoever reads it."""
+    return re.sub(rf"(?:{re.escape(str(folder))}|{re.escape(str(folder.resolve()))})/(?:given\d+/)?", "", text)
