@@ -156,6 +156,25 @@ def waited(call: Call, out: pathlib.Path, errors: pathlib.Path) -> int | None:
     return status if is_in_time else None
 
 
+def heard(words: Sequence[str], environment: Mapping[str, str], seconds: float | None) -> tuple[int, bytes]:
+    """The status and the output of our own program, which needs no bounds but one of time. It is called thousands of
+    times, so no process of ours stands before it. A signal to the caller ends it with all that it began, as the
+    launcher has begun the program."""
+    child = subprocess.Popen(
+        words, stdout=subprocess.PIPE, stdin=subprocess.DEVNULL, env=dict(environment), start_new_session=True
+    )
+    try:
+        content, _ = child.communicate(timeout=seconds)
+        return child.returncode, content
+    except BaseException:
+        if child.returncode is None:
+            end(child)
+        raise
+    finally:
+        if child.stdout is not None:
+            child.stdout.close()
+
+
 def read_end(path: pathlib.Path) -> str:
     """What a file holds, or its end where it is large."""
     with open(path, "rb") as file:

@@ -8,6 +8,7 @@ import re
 import subprocess
 from typing import Callable, TypeVar
 
+from vidlakost_tools import bounded
 from vidlakost_tools.text import LARGE_BYTES, Path, lines_of, read_described, read_text
 from vidlakost_tools.tool import Refused, ToolError
 
@@ -181,20 +182,13 @@ def run(*words: object) -> tuple[int, str]:
     # a tool says once that answers are unproved
     os.environ.setdefault("VIDLAKOST_UNPROVED", "told")
     try:
-        done = subprocess.run(
-            [PROGRAM, *map(str, words)],
-            stdout=subprocess.PIPE,
-            stdin=subprocess.DEVNULL,
-            env=quiet,
-            timeout=SECONDS,
-            check=False,
-        )
+        status, content = bounded.heard([PROGRAM, *map(str, words)], quiet, SECONDS)
     except subprocess.TimeoutExpired as error:
         raise ToolError(f"the program took longer than {SECONDS:g} seconds, so it was ended", 124) from error
     except OSError as error:
         raise ToolError(f"the program {PROGRAM} can't be run: {error.strerror}", 125) from error
-    said = done.stdout.decode("utf-8", "replace")
-    return done.returncode, said[:-1] if said.endswith("\n") else said
+    said = content.decode("utf-8", "replace")
+    return status, said[:-1] if said.endswith("\n") else said
 
 
 def ask(*words: object) -> str:

@@ -13,11 +13,10 @@ from __future__ import annotations
 import html
 import os
 import pathlib
-import tempfile
 import threading
 import webbrowser
 
-from vidlakost_tools.explorer import answers, kept
+from vidlakost_tools.explorer import answers, kept, left
 from vidlakost_tools.explorer.search import Searches
 from vidlakost_tools.explorer.server import Explorer
 from vidlakost_tools.text import shown
@@ -79,7 +78,8 @@ def main(arguments: list[str]) -> int:
     if port > 65535:
         raise ToolError(f"--port is at most 65535, and not {port}")
     searches = Searches()
-    with tempfile.TemporaryDirectory(prefix="vidlakost-explore-") as folder, server_of(words, port, searches) as server:
+    left.sweep()
+    with left.folder() as folder, server_of(words, port, searches) as server:
         print(server.address, flush=True)
         if "--open" in options:
             open_in_browser(server.address, pathlib.Path(folder))

@@ -4,9 +4,9 @@ from __future__ import annotations
 import os
 import pathlib
 import re
-import tempfile
 from typing import Any, Callable, Dict
 
+from vidlakost_tools.explorer import left
 from vidlakost_tools.refusals import explained as diagnose
 from vidlakost_tools.tool import Refused
 
@@ -40,7 +40,7 @@ class Folder:
     """A folder for one question, in which each text is a file with the name of its kind."""
 
     def __init__(self) -> None:
-        self.held = tempfile.TemporaryDirectory(prefix="vidlakost-explore-")
+        self.held = left.folder()
         self.path = pathlib.Path(self.held.name)
 
     def __enter__(self) -> Folder:
