@@ -2,13 +2,12 @@
 file."""
 from __future__ import annotations
 
-import os
 import pathlib
 from typing import Any, Iterator
 
 from vidlakost_tools.audit.gates import Machine, gates_of
-from vidlakost_tools.files import is_own, summed
-from vidlakost_tools.folder import write_whole
+from vidlakost_tools.files import is_own_in, summed
+from vidlakost_tools.folder import Folder, staging, write_whole
 from vidlakost_tools.texts.memory import Memory
 from vidlakost_tools.tool import progress
 from vidlakost_tools.verilog.front_end import Plain
@@ -84,9 +83,11 @@ def save_of(file: str) -> pathlib.Path:
 def write_save(path: pathlib.Path, text: str) -> bool:
     """Writes a save file, unless another stands there: GTKWave saves the signals that somebody chose under that
     name."""
-    is_free = not os.path.lexists(path) or not path.is_symlink() and is_own(path)
-    if is_free:
-        write_whole(path, summed(text))
+    with Folder(path.parent) as folder:
+        is_free = folder.found(path.name) is None or is_own_in(folder, path.name)
+        if is_free:
+            with staging([(folder, path.name, summed(text))]) as all_are_there:
+                all_are_there()
     return is_free
 
 
