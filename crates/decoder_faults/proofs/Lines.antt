@@ -7,7 +7,7 @@ use Rattle.march_core.specs.March.{MarchElement}
 use Rattle.decoder_faults.specs.declared.fault.DecoderFault.TheVariants.{OtherCell}
 use Rattle.decoder_faults.specs.Decoding.{AddressPair, FitsPair, one_cell, HasFault}
 use Rattle.decoder_faults.specs.Detection.{DetectsAmong}
-use Rattle.decoder_faults.specs.Lines.{line_of, stuck_line, DetectsStuckLines}
+use Rattle.decoder_faults.specs.Lines.{line_of, stuck_line, DetectsStuckLines, AreAllLines}
 
 low_line : (k z : ℕ) → z < 2 ^ k → line_of k z ≡ false
 low_line k z h = ap (λ d. eqb (d % 2) 1) (div-eq_of_lt h)
@@ -48,3 +48,7 @@ lines_detected march among size k bit directions content (z, inside, on) allowed
     let some : 0 < 2 ^ k = pow_pos k in
     let high : 2 ^ k ≤ z = above k z on in
     among directions (stuck_line k bit) (apart_by k bit) content allowed (apart_fits k (length content) bit some (omega arith)) (line_has k bit)
+
+pub all_lines : AreAllLines
+all_lines march detects size k bit directions content inside allowed len =
+    detects size k bit directions content (2 ^ k, inside, own_line k) allowed len

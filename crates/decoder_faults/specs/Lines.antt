@@ -27,3 +27,10 @@ DetectsStuckLines march =
     (size k : ℕ) (bit : Bool) (directions : List Direction) (content : List Bool)
     → NeedsLine size k → IsTrue (is_direction march directions) → length content ≡ size
     → IsCaught march directions (stuck_line k bit) content
+
+-- these are all lines that an array needs: each that isn't beyond its last address
+abbrev pub AreAllLines : Type 0
+AreAllLines =
+    (march : List MarchElement) → DetectsStuckLines march → (size k : ℕ) (bit : Bool) (directions : List Direction) (content : List Bool)
+    → 2 ^ k < size → IsTrue (is_direction march directions) → length content ≡ size
+    → IsCaught march directions (stuck_line k bit) content

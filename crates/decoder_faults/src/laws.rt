@@ -1,5 +1,6 @@
 //! Laws of these faults, the contracts of functions that do nothing.
 ghost use Rattle.decoder_faults.specs.Books.{AreOfBooks, OwnAreFirst, AreThere};
+ghost use Rattle.decoder_faults.specs.Lines.{AreAllLines};
 ghost use Rattle.decoder_faults.specs.TakenCells.{AreAsNoCell};
 
 /// A march detects `TakenCell` exactly where it detects `NoCell` with the same answer: the two are told by reads of
@@ -14,4 +15,9 @@ pub fn decoder_faults_are_of_books()
     ensures books { AreOfBooks }
     ensures own { OwnAreFirst }
     ensures there { AreThere }
+{}
+
+/// Where stuck lines are caught, each line is that tells two addresses of an array apart.
+pub fn stuck_lines_are_all()
+    ensures { AreAllLines }
 {}

@@ -20,4 +20,4 @@ mod pair;
 
 pub use escape::{DecoderEscape, least_decoder_escape};
 pub use fault::{DecoderFault, Wired};
-pub use laws::{decoder_faults_are_of_books, taken_cells_are_as_none};
+pub use laws::{decoder_faults_are_of_books, stuck_lines_are_all, taken_cells_are_as_none};

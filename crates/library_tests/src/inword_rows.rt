@@ -21,7 +21,7 @@ m = {any(w0);any(w0,r0);any(r0);any(w1,r1);any(r1);any(w1,r1);any(r1);any(w0,r0)
 l = <0;0w0/1/->\n<0;1w1/0/->\n<1;0w0/1/->\n<1;1w1/0/->
 1 total 4 covered 2 escapes 2
 r ends
-| escape <0;0w0/1/-> CFwd aggressor 1 victim 0 content 00 reading before
+| escape <0;0w0/1/-> CFwd aggressor 1 victim 0 content 00 reading both
 | covered <0;1w1/0/-> CFwd
 | escape <1;0w0/1/-> CFwd aggressor 1 victim 0 content 00 reading behind
 | covered <1;1w1/0/-> CFwd
@@ -60,21 +60,22 @@ r ==
 | march {any(w0);any(r0)}
 | memory duo words 2 bits 2 backgrounds 1 commands 4
 | covered <0;0/1/-> CFst
-| escape <0w0;0/1/-> CFds aggressor 1 victim 0 content 01 reading before
-| escape <0w0;1/0/-> CFds aggressor 1 victim 0 content 00 reading before
-| escape <0;0w0/1/-> CFwd aggressor 1 victim 0 content 01 reading before
-| escape <0;1w0/1/-> CFtr aggressor 1 victim 0 content 00 reading before
+| escape <0w0;0/1/-> CFds aggressor 1 victim 0 content 01 reading both
+| escape <0w0;1/0/-> CFds aggressor 1 victim 0 content 00 reading both
+| escape <0;0w0/1/-> CFwd aggressor 1 victim 0 content 01 reading both
+| escape <0;1w0/1/-> CFtr aggressor 1 victim 0 content 00 reading both
 | apart 0
 | total 5 covered 1 escapes 4
 # Both bits go from 0 to 1 at once: before the write the other bit is at 0, behind it at 1. An aggressor that must be at 0 is caught in
-# the first reading alone, and one at 1 in the second alone, as is a victim at 1.
+# the first reading alone, and one at 1 in the second alone, as is a victim at 1. A victim that must be at 0 is written over in the
+# first, and never found in the second.
 m = {any(w0);any(r0,w1);any(r1)}
 l = <0;0w1/0/->\n<1;0w1/0/->\n<0w1;0/1/->\n<0w1;1/0/->
 1 total 4 covered 0 escapes 4
 r ends
 | escape <0;0w1/0/-> CFtr aggressor 1 victim 0 content 00 reading behind
 | escape <1;0w1/0/-> CFtr aggressor 1 victim 0 content 00 reading before
-| escape <0w1;0/1/-> CFds aggressor 1 victim 0 content 00 reading before
+| escape <0w1;0/1/-> CFds aggressor 1 victim 0 content 00 reading both
 | escape <0w1;1/0/-> CFds aggressor 1 victim 0 content 00 reading before
 | apart 0
 | total 4 covered 0 escapes 4

@@ -17,6 +17,7 @@ r ends
 | kind LF2av total 48 covered 0 escapes 48
 | kind LF2va total 60 covered 0 escapes 60
 | kind LF3 total 240 covered 0 escapes 240
+| devices total 455 covered 0 escapes 455
 | total 600 covered 0 escapes 600
 # of one cell: it writes what a cell holds in its first element alone, so a cell that holds 1 passes with two write disturb faults
 m = $c
@@ -41,6 +42,7 @@ r ends
 | kind LF2av total 48 covered 40 escapes 8
 | kind LF2va total 60 covered 48 escapes 12
 | kind LF3 total 240 covered 172 escapes 68
+| devices total 455 covered 372 escapes 83
 | total 600 covered 466 escapes 134
 m = $mats
 1 total 600 covered 58 escapes 542
@@ -50,12 +52,15 @@ r ends
 | kind LF2av total 48 covered 24 escapes 24
 | kind LF2va total 60 covered 6 escapes 54
 | kind LF3 total 240 covered 0 escapes 240
+| devices total 455 covered 52 escapes 403
 | total 600 covered 58 escapes 542
 # March LR, and March SL
 m = {any(w0);down(r0,w1);up(r1,w0,r0,w1);up(r1,w0);up(r0,w1,r1,w0);up(r0)}
 1 total 600 covered 490 escapes 110
+r ends \ndevices total 455 covered 386 escapes 69\ntotal 600 covered 490 escapes 110\n
 m = {any(w0);up(r0,r0,w1,w1,r1,r1,w0,w0,r0,w1);up(r1,r1,w0,w0,r0,r0,w1,w1,r1,w0);down(r0,r0,w1,w1,r1,r1,w0,w0,r0,w1);down(r1,r1,w0,w0,r0,r0,w1,w1,r1,w0)}
 0 total 600 covered 600 escapes 0
+r ends \ndevices total 455 covered 455 escapes 0\ntotal 600 covered 600 escapes 0\n
 # refusals are those of `judge` without its list
 m = {any(w0);up(r1)}
 3 march M8 element 1 operation 0

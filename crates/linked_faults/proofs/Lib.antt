@@ -9,3 +9,6 @@ pub mod Places
 pub mod Testing
 pub mod Choosing
 pub mod Alone
+pub mod Same
+pub mod Orders
+pub mod Inversion

@@ -1,8 +1,7 @@
 -- The places of three cells in their order.
 use Rattle.std.proofs.Math.Nat.{eq-or-lt_of_le}
-use Rattle.std.proofs.Common.{◌≡◌, ◌<◌, ⊎_elim, subst, ℕ, zero, suc, ◌+◌, ◌*◌, Bool, true, false, get_or, List, [], ◌∷◌, refl, ap, sym, ◌∙◌, arith}
+use Rattle.std.proofs.Common.{◌≡◌, ◌<◌, ⊎_elim, subst, ℕ, zero, suc, ◌+◌, ◌*◌, Bool, true, false, refl, ap, sym, ◌∙◌, arith}
 use Rattle.linked_faults.specs.declared.link.Spots.{Spots}
-use Rattle.linked_faults.specs.declared.three.Three.{Three}
 use Rattle.linked_faults.specs.declared.escape.LinkEscape.{LinkEscape}
 use Rattle.linked_faults.specs.Linking.{FitsSpots}
 use Rattle.fault_core.specs.Primitive.{has_aggressor}

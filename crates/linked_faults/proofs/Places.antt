@@ -9,12 +9,12 @@ use Rattle.linked_faults.specs.Linking.{FitsSpots, beside, HaveSpots}
 use Rattle.linked_faults.specs.inner.Searching.{spots_at}
 
 -- a third cell
-record IsThird (n x y z : ℕ) : Type 0 where
-  within : z < n
-  not_x : z ≢ x
-  not_y : z ≢ y
+pub record IsThird (n x y z : ℕ) : Type 0 where
+  pub within : z < n
+  pub not_x : z ≢ x
+  pub not_y : z ≢ y
 
-third : (n x y : ℕ) → 3 ≤ n → (z : ℕ) × IsThird n x y z
+pub third : (n x y : ℕ) → 3 ≤ n → (z : ℕ) × IsThird n x y z
 third n x y more =
     ⊎_elim
     (λ (h : (eqb 0 x ≡ true) × (0 ≡ x)). without_zero h.1)

@@ -3,4 +3,7 @@ pub mod Alone
 pub mod Kinds
 pub mod Detection
 pub mod Escapes
+pub mod Devices
+pub mod Same
+pub mod Inversion
 pub mod inner

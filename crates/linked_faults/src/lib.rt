@@ -15,13 +15,17 @@
 //! It never speaks of one primitive alone.
 #![tactic(auto)]
 
+mod devices;
 mod escape;
+mod laws;
 mod link;
 mod linked;
 mod table;
 mod three;
 
+pub use devices::{exchanged, is_same_link};
 pub use escape::{LinkEscape, least_linked_escape};
+pub use laws::{both_orders_are_one_device, inversion_is_a_link};
 pub use link::{Link, Spots, first_places, second_places};
 pub use linked::is_linked;
 pub use table::{LinkKind, kind_of, links};

@@ -1,5 +1,5 @@
 -- The report of rightly judged links is the report of what the march detects.
-use Rattle.std.proofs.Common.{◌≡◌, ◌++◌, ◌&&◌, inl, inr, ℕ, Bool, nat_lt, List, Option, Some, None, length, map, refl, ap, sym, subst, ◌∙◌}
+use Rattle.std.proofs.Common.{◌≡◌, ◌++◌, ◌&&◌, inl, inr, ℕ, Bool, nat_lt, List, [], Option, Some, None, length, map, refl, ap, sym, subst, ◌∙◌}
 use Rattle.std.specs.List.{flat_map, AllByRecursion}
 use Rattle.std.specs.Prelude.{count_by}
 use Rattle.std.proofs.lemmas.List.{length-map}
@@ -15,8 +15,9 @@ use Rattle.report_lines.specs.Listed.{SomeLacks}
 use Rattle.report_lines.proofs.Listed.{Tells, counted, counted_among, some_lacks, lines_of, plain_lines, size_of}
 use Rattle.linked_report.specs.declared.judged.JudgedLink.{JudgedLink}
 use Rattle.linked_report.specs.Links.{IsJudgedLink, AreJudgedLinks, is_none, is_link_covered}
-use Rattle.linked_report.specs.Report.{kind_order, is_of_kind, kind_line, IsLinkLine, IsKindLine, IsLinkedReport, ReportsLinks}
-use Rattle.linked_report.specs.inner.Counted.{counted_line, line_by, judged_link_line, linked_text}
+use Rattle.linked_report.specs.Report.{kind_order, is_of_kind, kind_line, devices_line, IsLinkLine, IsKindLine, IsLinkedReport, ReportsLinks}
+use Rattle.linked_report.proofs.Once.{are_devices, all_devices}
+use Rattle.linked_report.specs.inner.Counted.{counted_line, devices_of, line_by, judged_link_line, linked_text}
 
 abbrev link_of : JudgedLink → Link
 link_of j = j.link
@@ -50,7 +51,15 @@ report_is march js h are = record {
   are_lines = lines_of (IsLinkLine march) link_of (judged_link_line (length march)) (IsJudgedLink march) (λ j right. line_of march j.link j.escape right) js h;
   are_kinds = plain_lines (IsKindLine march (map link_of js)) (counted_line js) (kind_is march js h) kind_order;
   detects = counted (Detects march) link_of is_link_covered (IsJudgedLink march) (tells march) js h;
-  is = ap (λ n. march_line march ++ flat_map (judged_link_line (length march)) js ++ flat_map (counted_line js) kind_order ++ total_line n (count_by is_link_covered js)) (sym (length-map js link_of));
+  devices = map link_of (devices_of js);
+  are_devices = are_devices js;
+  devices_covered = count_by is_link_covered (devices_of js);
+  devices_detects = counted (Detects march) link_of is_link_covered (IsJudgedLink march) (tells march) (devices_of js) (all_devices (IsJudgedLink march) [] js h);
+  is =
+      (let few = sym (length-map (devices_of js) link_of) in
+      let all = sym (length-map js link_of) in
+      λ k. march_line march ++ flat_map (judged_link_line (length march)) js ++ flat_map (counted_line js) kind_order
+      ++ devices_line (few k) (count_by is_link_covered (devices_of js)) ++ total_line (all k) (count_by is_link_covered js));
 }
 
 -- what was written and said of the links

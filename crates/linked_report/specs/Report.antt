@@ -1,4 +1,5 @@
--- Trusted. The report on linked faults: the march, a line for each link in the order of the table, one for each kind, and the total.
+-- Trusted. The report on linked faults: the march, a line for each link in the order of the table, one for each kind,
+-- one for the different devices among them, and the total.
 use Rattle.std.specs.Prelude.{◌≡◌, ◌++◌, ℕ, Bool, List, [], ◌∷◌, length, filter, count_by, codes, decimal}
 use Rattle.std.specs.Str.{bytes_eq}
 use Rattle.fault_syntax.specs.Printed.{printed as printed_prim}
@@ -11,6 +12,7 @@ use Rattle.linked_faults.specs.declared.table.LinkKind.TheVariants.{LF1, LF2aa, 
 use Rattle.linked_faults.specs.declared.escape.LinkEscape.{LinkEscape}
 use Rattle.linked_faults.specs.Kinds.{kind_of, AreLinks}
 use Rattle.linked_faults.specs.Linking.{first_places, second_places}
+use Rattle.linked_faults.specs.Devices.{AreDevices}
 use Rattle.linked_faults.specs.Detection.{Detects}
 use Rattle.linked_faults.specs.Escapes.{cells_of, IsLeastEscape}
 
@@ -65,6 +67,10 @@ IsKindLine march links kind line =
     (covered : ℕ) × CountsOf (Detects march) (filter (is_of_kind kind) links) covered
     × (line ≡ kind_line kind (kind_size kind links) covered)
 
+-- the line of the different devices: a link and the one with its two exchanged are one
+abbrev pub devices_line : ℕ → ℕ → List ℕ
+devices_line count covered = codes "devices " ++ total_line count covered
+
 -- The bytes are the report of a march on the linked faults.
 pub record IsLinkedReport (text : List ℕ) (march : List MarchElement) : Type 0 where
   pub links : List Link
@@ -75,7 +81,11 @@ pub record IsLinkedReport (text : List ℕ) (march : List MarchElement) : Type 0
   pub are_lines : AreLinesOf (IsLinkLine march) links lines
   pub are_kinds : AreLinesOf (IsKindLine march links) kind_order kinds
   pub detects : CountsOf (Detects march) links covered
-  pub is : text ≡ march_line march ++ lines ++ kinds ++ total_line (length links) covered
+  pub devices : List Link
+  pub are_devices : AreDevices links devices
+  pub devices_covered : ℕ
+  pub devices_detects : CountsOf (Detects march) devices devices_covered
+  pub is : text ≡ march_line march ++ lines ++ kinds ++ devices_line (length devices) devices_covered ++ total_line (length links) covered
 
 -- what is written and said: the report, whether a link escapes it, and its last line
 pub record ReportsLinks (march : List MarchElement) (escapes : Bool) (bytes line : List ℕ) : Type 0 where

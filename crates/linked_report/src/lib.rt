@@ -12,6 +12,7 @@
 //! It never decides by itself what is covered.
 #![tactic(auto)]
 
+mod devices;
 mod judged;
 mod kinds;
 mod lines;
@@ -19,5 +20,5 @@ mod one_text;
 mod write;
 
 pub use judged::JudgedLink;
-pub use one_text::linked_report_is_one;
+pub use one_text::{linked_report_is_one, places_are_named};
 pub use write::{LinkedReport, report_links};

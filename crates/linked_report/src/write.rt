@@ -4,6 +4,7 @@ ghost use Rattle.std.specs.Prelude.{◌≡◌, ◌++◌, OnOk, IfOk};
 ghost use Rattle.linked_report.specs.Report.{ReportsLinks};
 ghost use Rattle.linked_report.specs.inner.Counted.{linked_text};
 
+use crate::devices::write_devices;
 use crate::judged::{JudgedLink, count_covered, judge_links};
 use crate::kinds::write_kinds;
 use crate::lines::write_lines;
@@ -21,7 +22,7 @@ pub struct LinkedReport {
     pub line: Vec<u8>,
 }
 
-/// The march, a line for each judged link, one for each kind, and the total.
+/// The march, a line for each judged link, one for each kind, one for the different devices, and the total.
 fn write_judged(alloc: Global, march: &March, judged: &[JudgedLink]) -> Result<Vec<u8>, NoMemory>
     ensures { IfOk result (λ text. text.items ≡ linked_text march.now judged.now) }
 {
@@ -29,6 +30,7 @@ fn write_judged(alloc: Global, march: &March, judged: &[JudgedLink]) -> Result<V
     write_march(alloc, &mut out, march)?;
     write_lines(&mut out, judged, march.len())?;
     write_kinds(&mut out, judged)?;
+    write_devices(&mut out, judged)?;
     write_total(&mut out, judged.len(), count_covered(judged))?;
     Ok(out)
 }

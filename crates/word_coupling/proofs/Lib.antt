@@ -6,8 +6,10 @@ pub mod Runs
 pub mod Whole
 pub mod Contents
 pub mod Verdicts
+pub mod Found
 pub mod Failing
 pub mod Passing
 pub mod Reports
+pub mod Digits
 pub mod Alike
 pub mod Chips

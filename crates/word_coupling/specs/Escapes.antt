@@ -1,5 +1,5 @@
 -- Trusted. Two bits of a word at which an instance passes the test of a memory, and the least of them.
-use Rattle.std.specs.Prelude.{◌≡◌, ◌≢◌, ◌<◌, ◌≤◌, ◌+◌, ◌⊎◌, ℕ, if◌then◌else◌, Option, Some, None, List, length, slice_index}
+use Rattle.std.specs.Prelude.{◌≡◌, ◌≢◌, ◌<◌, ◌≤◌, ◌+◌, ◌⊎◌, ℕ, Bool, true, false, if◌then◌else◌, MatchBool, Option, Some, None, List, length, slice_index}
 use Rattle.fault_core.specs.Primitive.{Primitive}
 use Rattle.cell_machine.specs.declared.pair.Pair.{Pair}
 use Rattle.march_core.specs.March.{MarchElement}
@@ -7,6 +7,8 @@ use Rattle.memory_desc.specs.Descriptions.{Description}
 use Rattle.word_device.specs.Chips.{has_bit}
 use Rattle.word_coupling.specs.declared.reading.Reading.{Reading}
 use Rattle.word_coupling.specs.declared.reading.Reading.TheVariants.{Before, Behind}
+use Rattle.word_coupling.specs.declared.reading.Readings.{Readings}
+use Rattle.word_coupling.specs.declared.reading.Readings.TheVariants.{BeforeAlone, BehindAlone, Both}
 use Rattle.word_coupling.specs.declared.judging.WordEscape.{WordEscape}
 use Rattle.word_coupling.specs.declared.judging.FoundEscape.{FoundEscape}
 use Rattle.word_coupling.specs.Words.{in_word, IsCaughtInWord, DetectsBy, DetectsInWord}
@@ -43,11 +45,31 @@ abbrev pub IsVerdictBy : Reading → List MarchElement → Description → Primi
 IsVerdictBy reading march d p None = DetectsBy reading march d p
 IsVerdictBy reading march d p (Some e) = IsLeastWordEscape reading march d p e × (DetectsBy reading march d p → ⊥)
 
--- the least escape of the first reading that has one
+-- in a reading the primitive has an escape, and so the test doesn't detect it
+pub record EscapesBy (reading : Reading) (march : List MarchElement) (d : Description) (p : Primitive) : Type 0 where
+  pub escape : WordEscape
+  pub is_escape : IsWordEscape reading march d p escape
+  pub lacks : DetectsBy reading march d p → ⊥
+
+-- which readings these are, and the first of them
+abbrev pub is_among : Reading → Readings → Bool
+is_among Before BeforeAlone = true
+is_among Before BehindAlone = false
+is_among Before Both = true
+is_among Behind BeforeAlone = false
+is_among Behind BehindAlone = true
+is_among Behind Both = true
+
+abbrev pub first_of : Readings → Reading
+first_of BeforeAlone = Before
+first_of BehindAlone = Behind
+first_of Both = Before
+
+-- in each reading the primitive has an escape or is detected, and these are the readings in which it has one; the bits are the least
+-- escape of the first of them
 pub record IsFirstEscape (march : List MarchElement) (d : Description) (p : Primitive) (f : FoundEscape) : Type 0 where
-  pub least : IsLeastWordEscape f.reading march d p f.at
-  pub lacks : DetectsBy f.reading march d p → ⊥
-  pub first : f.reading ≡ Behind → DetectsBy Before march d p
+  pub each : (reading : Reading) → MatchBool (is_among reading f.readings) (EscapesBy reading march d p) (DetectsBy reading march d p)
+  pub least : IsLeastWordEscape (first_of f.readings) march d p f.at
 
 -- nothing exactly where the test detects the primitive in each reading
 abbrev pub IsWordVerdict : List MarchElement → Description → Primitive → Option FoundEscape → Type 0

@@ -3,4 +3,5 @@ pub mod Escapes
 pub mod Joint
 pub mod Alike
 pub mod Report
+pub mod Digits
 pub mod inner

@@ -9,8 +9,8 @@ use Rattle.dynamic_core.specs.declared.item.Item.{Item}
 use Rattle.dynamic_core.specs.declared.item.Item.TheVariants.{Plain, Dyn}
 use Rattle.report_lines.specs.Lines.{march_line, memory_line, total_line, prim_text, places_text, content_text}
 use Rattle.report_lines.specs.Listed.{CountsOf, AreLinesOf, ReportsOf}
-use Rattle.word_coupling.specs.declared.reading.Reading.{Reading}
-use Rattle.word_coupling.specs.declared.reading.Reading.TheVariants.{Before, Behind}
+use Rattle.word_coupling.specs.declared.reading.Readings.{Readings}
+use Rattle.word_coupling.specs.declared.reading.Readings.TheVariants.{BeforeAlone, BehindAlone, Both}
 use Rattle.word_coupling.specs.declared.judging.WordEscape.{WordEscape}
 use Rattle.word_coupling.specs.declared.judging.FoundEscape.{FoundEscape}
 use Rattle.word_coupling.specs.Words.{DetectsInWord}
@@ -32,20 +32,21 @@ judged_in d items = if d.bits == 1 then [] else couplings items
 abbrev pub word_escape_text : WordEscape → List ℕ
 word_escape_text e = places_text (Some e.agg) e.vic ++ (codes " content " ++ content_text (e.content.a ∷ e.content.v ∷ []))
 
--- the reading in which it escapes
-abbrev pub reading_text : Reading → List ℕ
-reading_text Before = codes " reading before"
-reading_text Behind = codes " reading behind"
+-- the readings in which the primitive escapes
+abbrev pub readings_text : Readings → List ℕ
+readings_text BeforeAlone = codes " reading before"
+readings_text BehindAlone = codes " reading behind"
+readings_text Both = codes " reading both"
 
 -- the line of a coupling that is covered, and of one that escapes
 abbrev pub covered_line : Primitive → List ℕ
 covered_line p = codes "covered " ++ prim_text p ++ codes "\n"
 
 abbrev pub escape_line : Primitive → FoundEscape → List ℕ
-escape_line p f = codes "escape " ++ prim_text p ++ word_escape_text f.at ++ reading_text f.reading ++ codes "\n"
+escape_line p f = codes "escape " ++ prim_text p ++ word_escape_text f.at ++ readings_text f.readings ++ codes "\n"
 
--- covered exactly where the test detects it at every two bits of every word in each reading, and else with the least escape of the first
--- reading that has one
+-- covered exactly where the test detects it at every two bits of every word in each reading; else with the readings in which it has an
+-- escape, and the least escape of the first of them
 abbrev pub IsCouplingLine : List MarchElement → Description → Primitive → List ℕ → Type 0
 IsCouplingLine march d p line =
     (DetectsInWord march d p × (line ≡ covered_line p))

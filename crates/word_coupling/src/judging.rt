@@ -2,11 +2,11 @@ ghost use Rattle.std.specs.Prelude.{◌≡◌, ◌≢◌, ◌<◌, MatchOption, 
 ghost use Rattle.cell_machine.specs.declared.pair.Pair.{Pair};
 ghost use Rattle.fault_core.specs.Primitive.{has_aggressor};
 ghost use Rattle.word_coupling.specs.Escapes.{IsVerdictBy, IsWordVerdict, content_number};
-ghost use Rattle.word_coupling.specs.inner.Searching.{end_in, run_by, passes_by, IsLeastContent, NoneAt, IsLeastAt, NoneBeside, IsLeastBeside};
+ghost use Rattle.word_coupling.specs.inner.Searching.{end_in, run_by, passes_by, IsLeastContent, NoneAt, IsLeastAt, NoneBeside, IsLeastBeside, found_of};
 
 use crate::couple::bits_at;
 use crate::ends::{EndTable, end_in, table_of};
-use crate::reading::Reading;
+use crate::reading::{Reading, Readings};
 use cell_machine::{Pair, close};
 use fault_core::Prim;
 use march_core::March;
@@ -20,10 +20,10 @@ pub struct WordEscape {
     pub content: Pair,
 }
 
-/// Such bits, and the reading in which they pass.
+/// In which readings a primitive escapes, and such bits, which pass in the first of these.
 #[derive(Clone, Copy)]
 pub struct FoundEscape {
-    pub reading: Reading,
+    pub readings: Readings,
     pub at: WordEscape,
 }
 
@@ -131,24 +131,37 @@ fn judge_by(reading: Reading, march: &March, memory: &Memory, prim: &Prim) -> Op
     None
 }
 
+/// What is found by the verdicts of both readings.
+fn found_of(before: Option<WordEscape>, behind: Option<WordEscape>) -> Option<FoundEscape>
+    ensures { result ≡ found_of before behind }
+{
+    match before {
+        Some(at) => {
+            let readings = if behind.is_some() {
+                Readings::Both
+            } else {
+                Readings::BeforeAlone
+            };
+            Some(FoundEscape { readings, at })
+        }
+        None => match behind {
+            Some(at) => Some(FoundEscape {
+                readings: Readings::BehindAlone,
+                at,
+            }),
+            None => None,
+        },
+    }
+}
+
 /// The verdict on a primitive of two cells whose cells are two bits of one word, for the whole test of a memory: none exactly where every
-/// two bits of every word are caught from every content, in each reading. Else the least escape of the first reading that has one: by the
-/// victim's bit, the aggressor's and their content. In a word of one bit there is nothing to catch.
+/// two bits of every word are caught from every content, in each reading. Else in which readings they aren't, and the least escape of the
+/// first of these: by the victim's bit, the aggressor's and their content. In a word of one bit there is nothing to catch.
 pub fn judge_in_word(march: &March, memory: &Memory, prim: &Prim) -> Option<FoundEscape>
     requires { IsTrue (has_aggressor prim.now) }
     ensures { IsWordVerdict march.now memory.now prim.now result }
 {
-    if let Some(at) = judge_by(Reading::Before, march, memory, prim) {
-        return Some(FoundEscape {
-            reading: Reading::Before,
-            at,
-        });
-    }
-    match judge_by(Reading::Behind, march, memory, prim) {
-        Some(at) => Some(FoundEscape {
-            reading: Reading::Behind,
-            at,
-        }),
-        None => None,
-    }
+    let before = judge_by(Reading::Before, march, memory, prim);
+    let behind = judge_by(Reading::Behind, march, memory, prim);
+    found_of(before, behind)
 }

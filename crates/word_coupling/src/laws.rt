@@ -1,4 +1,5 @@
 ghost use Rattle.word_coupling.specs.Alike.{AreAlike, Forgets};
+ghost use Rattle.word_coupling.specs.Digits.{DigitsAreOfPlaces};
 ghost use Rattle.word_coupling.specs.Joint.{AreDetectedChips, FailsInWord, JointFailsInWord, AreEscapeChips, JointPassesInWord};
 ghost use Rattle.word_coupling.specs.Report.{OneInWordText};
 
@@ -34,4 +35,9 @@ pub fn readings_are_alike(march: &March, memory: &Memory)
 /// The bytes of a report are determined by the march, the memory and the items.
 pub fn in_word_report_is_one()
     ensures { OneInWordText }
+{}
+
+/// The digits of an escape's line are the bits that a word which holds the escape has at the places that the line names, in their order.
+pub fn digits_are_of_places()
+    ensures { DigitsAreOfPlaces }
 {}

@@ -7,3 +7,11 @@ pub enum Reading {
     /// In that which its plain part leaves.
     Behind,
 }
+
+/// In which readings a primitive escapes: in one of them alone, or in both.
+#[derive(Clone, Copy, PartialEq, Eq)]
+pub enum Readings {
+    BeforeAlone,
+    BehindAlone,
+    Both,
+}

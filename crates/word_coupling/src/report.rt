@@ -2,12 +2,12 @@
 
 ghost use Rattle.std.specs.Prelude.{◌≡◌, ◌++◌, IfOk, OnOk, codes};
 ghost use Rattle.std.specs.List.{flat_map};
-ghost use Rattle.word_coupling.specs.Report.{word_escape_text, reading_text, apart_line, unpaired_line, ReportsInWord};
+ghost use Rattle.word_coupling.specs.Report.{word_escape_text, readings_text, apart_line, unpaired_line, ReportsInWord};
 ghost use Rattle.word_coupling.specs.inner.Judged.{judged_line, in_word_text};
 
 use crate::judged::{JudgedCoupling, count_couplings, count_covered, judge_couplings};
 use crate::judging::WordEscape;
-use crate::reading::Reading;
+use crate::reading::Readings;
 use bist_bits::NoMemory;
 use bist_text::{put, put_number_between};
 use dynamic_core::Item;
@@ -35,12 +35,13 @@ fn write_escape(out: &mut Vec<u8>, escape: &WordEscape) -> Result<(), NoMemory>
 }
 
 /// What an escape's line ends with.
-fn reading_words(reading: Reading) -> &'static [u8]
-    ensures { result.now ≡ reading_text reading }
+fn readings_words(readings: Readings) -> &'static [u8]
+    ensures { result.now ≡ readings_text readings }
 {
-    match reading {
-        Reading::Before => b" reading before",
-        Reading::Behind => b" reading behind",
+    match readings {
+        Readings::BeforeAlone => b" reading before",
+        Readings::BehindAlone => b" reading behind",
+        Readings::Both => b" reading both",
     }
 }
 
@@ -53,7 +54,7 @@ fn write_coupling(out: &mut Vec<u8>, judged: &JudgedCoupling) -> Result<(), NoMe
         Some(found) => {
             write_prim(out, b"escape ", &judged.prim)?;
             write_escape(out, &found.at)?;
-            put(out, reading_words(found.reading))
+            put(out, readings_words(found.readings))
         }
     }
 }

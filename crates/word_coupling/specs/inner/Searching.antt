@@ -1,11 +1,13 @@
 -- Inner. For proofs and private contracts alone: where a march leads in each background, and what passes by that.
-use Rattle.std.specs.Prelude.{◌≡◌, ◌≢◌, ◌<◌, ◌≤◌, ◌⊎◌, ℕ, Bool, true, if◌then◌else◌, Option, Some, is_some, List, [], ◌∷◌}
+use Rattle.std.specs.Prelude.{◌≡◌, ◌≢◌, ◌<◌, ◌≤◌, ◌⊎◌, ℕ, Bool, true, if◌then◌else◌, Option, Some, None, is_some, List, [], ◌∷◌}
 use Rattle.fault_core.specs.Primitive.{Primitive}
 use Rattle.cell_machine.specs.declared.pair.Pair.{Pair}
 use Rattle.cell_machine.specs.Pairs.{pair_close}
 use Rattle.march_core.specs.March.{MarchElement}
 use Rattle.word_coupling.specs.declared.reading.Reading.{Reading}
+use Rattle.word_coupling.specs.declared.reading.Readings.TheVariants.{BeforeAlone, BehindAlone, Both}
 use Rattle.word_coupling.specs.declared.judging.WordEscape.{WordEscape}
+use Rattle.word_coupling.specs.declared.judging.FoundEscape.{FoundEscape}
 use Rattle.word_coupling.specs.declared.ends.Ends.{Ends}
 use Rattle.word_coupling.specs.declared.ends.EndTable.{EndTable}
 use Rattle.word_coupling.specs.inner.Couples.{bits_at, behind, run_march}
@@ -74,3 +76,11 @@ pub record IsLeastBeside (run : Pair → Pair → Option Pair) (p : Primitive) (
   pub passes : PassesBy run p bits backgrounds e
   pub vic_is : e.vic ≡ vic
   pub least : (f : WordEscape) → PassesBy run p bits backgrounds f → f.vic ≡ vic → IsNoGreaterBeside e f
+
+-- ---- what is found by the verdicts of both readings
+
+abbrev pub found_of : Option WordEscape → Option WordEscape → Option FoundEscape
+found_of None None = None
+found_of None (Some behind) = Some (record { readings = BehindAlone; at = behind })
+found_of (Some before) None = Some (record { readings = BeforeAlone; at = before })
+found_of (Some before) (Some behind) = Some (record { readings = Both; at = before })
