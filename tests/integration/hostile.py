@@ -271,6 +271,12 @@ def warnings(bench: Bench) -> None:
     for name, why in (("logic", "SystemVerilog reserves 'logic'"), ("wdata_1", "'wdata_1' is also a port")):
         (bench.folder / "named.chip").write_text(FILES["two.chip"].replace("name both", f"name {name}"))
         bench.look(["./vidlakost", "chip", "named.chip", "named.v"], 0, "chip units 2", f"named.chip:2: warning: {why}")
+    (bench.folder / "runs_on.m").write_text("{up(w0);up(w1,w0);up(r0,w1);down(w0)}\n")
+    (bench.folder / "runs_on.list").write_text("<0w1w0/1/->\n<0w0w0/1/->\n")
+    for backgrounds, told in (("1 0", "runs_on.mem: warning: "), ("0 1", ""), ("00 1 0", "")):
+        (bench.folder / "runs_on.mem").write_text(f"memory 1\nname two\nwords 2\nbits 1\nbackgrounds {backgrounds}\n")
+        compiled = ["compile", "runs_on.m", "runs_on.mem", "runs_on.list", "runs_on.v", "runs_on.txt"]
+        bench.look(["./vidlakost", *compiled], 1, "total 2 covered 1 escapes 1", told)
 
 
 # ---- testbenches

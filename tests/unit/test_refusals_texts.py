@@ -26,6 +26,8 @@ class Marches(WithoutProgram):
                 Row("{any(w0);‸upp(r0)}", "M1 byte 11", "'upp' is not allowed here; did you mean 'up'?"),
                 Row("{‸ANY(w0)}", "M1 byte 1", "'ANY' is not allowed here; did you mean 'any'?"),
                 Row("{any(w0);up(r0,‸ \n", "M2", "the march ends here, but is not complete"),
+                # ⇑ ends with another byte than the arrows that a march may have
+                Row("{any(w0);‸\u21d1(r0)}", "M1 byte 10", "'\u21d1' is not allowed here"),
             ],
         )
 

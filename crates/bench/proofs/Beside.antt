@@ -2,9 +2,7 @@
 use Rattle.std.proofs.Common.{◌≡◌, ℕ, zero, suc, ◌+◌, ◌<◌, ◌^◌, ◌%◌, true, cond, List, [], ◌∷◌, ◌++◌, length, Option, Some, None, slice_index, refl, sym, ap, ◌∙◌, subst, arith, codes}
 use Rattle.std.specs.Str.{bytes_eq}
 use Rattle.std.proofs.Math.Nat.{one-le-pow, mod-lt}
-use Rattle.fault_core.specs.Primitive.{Primitive, IsPrimitive}
 use Rattle.march_core.specs.March.{MarchElement, IsMarch}
-use Rattle.array_sim.specs.Detection.{Detects}
 use Rattle.memory_desc.specs.Descriptions.{Description, IsMemory}
 use Rattle.verilog_tree.specs.declared.names.Kind.{Kind}
 use Rattle.verilog_tree.specs.declared.names.Kind.TheVariants as K
@@ -12,6 +10,7 @@ use Rattle.verilog_tree.specs.Plain.{ModuleItem, WireItem, RegItem, AssignItem, 
 use Rattle.verilog_tree.specs.Formed.{formed}
 use Rattle.verilog_tree.specs.Names.{Declaration, declarations, port_declarations, item_declarations, lookup, declared_width}
 use Rattle.verilog_tree.specs.Meaning.{Env, History, settled_width, next}
+use Rattle.verilog_tree.specs.Rules.{first_break}
 use Rattle.verilog_tree.specs.Wires.{GivenWithin, AllWithin, Starts}
 use Rattle.verilog_tree.proofs.Settling.{lawful_module}
 use Rattle.verilog_open.proofs.Histories.{starts_at}
@@ -22,18 +21,34 @@ use Rattle.self_test.specs.Ports.{port_values}
 use Rattle.self_test.specs.SelfTest.{SelfTest, AreInputs, reset_at}
 use Rattle.word_device.specs.declared.device.Planted.{Planted}
 use Rattle.word_device.specs.declared.shape.Shape.{Shape}
-use Rattle.word_device.specs.Chips.{closed_words}
 use Rattle.word_device.specs.Ports.{Chip, shape_of, chip_after, cycle_answer as chip_answer}
 use Rattle.word_device.specs.Joint.{command_on, chip_at, Joined}
-use Rattle.word_device.specs.Runs.{HasDetected}
-use Rattle.word_device.proofs.Closed.{closed_twice, length-closed_words}
-use Rattle.word_device.proofs.Joint.{joint_fails, joint_passes}
+use Rattle.word_device.specs.Memories.{Behaviour, Memory, cycle_answer, memory_after, words_with}
+use Rattle.word_device.specs.Answers.{memory_at, AnswersWrong}
+use Rattle.word_device.proofs.Joint.{joint_passes}
+use Rattle.word_device.proofs.Attaching.{Attached, wrong_fails}
 use Rattle.bench.specs.Joint.{word_in, ports_in}
 use Rattle.bench.specs.Laws.{done_at}
-use Rattle.bench.specs.Memories.{Behaviour, Memory, cycle_answer, memory_after, memory_at, words_with}
 use Rattle.bench.specs.Beside.{AreBeside, PassesBeside, FailsBeside}
 use Rattle.bench.proofs.Histories.{there, same_rule, has_rdata}
 use Rattle.bench.proofs.Inputs.{given_there}
+
+-- the memory behind the first cycle
+pub memory_next : {S : Type 0} (b : Behaviour S) (shape : Shape) (m : Memory S) (q : ℕ → PortValues) (k : ℕ)
+    → memory_at b shape m q (suc k) ≡ memory_at b shape (memory_after b shape m (command_on (q 0))) (λ n. q (suc n)) k
+memory_next b shape m q zero = refl
+memory_next b shape m q (suc k) = ap (λ x. memory_after b shape x (command_on (q (suc k)))) (memory_next b shape m q k)
+
+-- what a cycle leaves in the registers of a module fits
+pub fits_next : (mo : ModuleTree) → formed mo ≡ true → first_break mo ≡ None → (e : Env) → ((n : List ℕ) → e n < 2 ^ settled_width mo n) → Starts mo (next mo e) (λ n. 0)
+fits_next mo forms legal e within =
+    starts_at (next mo e) (λ n. 0) (declarations mo.ports mo.items) [] (declarations mo.ports mo.items) (lawful_module mo forms legal).fresh refl
+    (λ x q. by x q x.kind refl)
+  where
+    by : (x : Declaration) → lookup (declarations mo.ports mo.items) x.name ≡ Some x → (k : Kind) → x.kind ≡ k → GivenWithin (next mo e) (λ n. 0) k x.name x.width
+    by x q K.Input i = λ c. one-le-pow x.width 2 (omega arith)
+    by x q K.Wire i = tt
+    by x q K.Register i = subst (λ (v : ℕ). next mo e x.name < 2 ^ v) (ap declared_width q) (next_fits mo forms legal e within x.name)
 
 -- ---- there is a run
 
@@ -41,7 +56,7 @@ use Rattle.bench.proofs.Inputs.{given_there}
 abbrev inputs_with : ℕ → ℕ → Env
 inputs_with t word n = cond (bytes_eq n (codes "reset")) (reset_at t) (cond (bytes_eq n (codes "rdata")) word 0)
 
-items_within : (regs i j : Env) (is : List ModuleItem) → AllWithin regs i (item_declarations is) → AllWithin regs j (item_declarations is)
+pub items_within : (regs i j : Env) (is : List ModuleItem) → AllWithin regs i (item_declarations is) → AllWithin regs j (item_declarations is)
 items_within regs i j [] h = tt
 items_within regs i j (WireItem n k ∷ is) h = (tt, items_within regs i j is h.1)
 items_within regs i j (RegItem n k ∷ is) h = (h.0, items_within regs i j is h.1)
@@ -66,17 +81,6 @@ module _ (mo : ModuleTree) (march : List MarchElement) (d : Description) (test :
       subst (λ ps. AllWithin registers (inputs_with t word) (port_declarations ps ++ item_declarations mo.items)) (sym test.ports)
       (λ _. none, (λ _. reset_low t, (λ _. low, (tt, (tt, (tt, (tt, (tt, (tt, items)))))))))
 
-  -- what a cycle leaves fits
-  fits_next : formed mo ≡ true → (e : Env) → ((n : List ℕ) → e n < 2 ^ settled_width mo n) → Starts mo (next mo e) (λ n. 0)
-  fits_next forms e within =
-      starts_at (next mo e) (λ n. 0) (declarations mo.ports mo.items) [] (declarations mo.ports mo.items) (lawful_module mo forms test.legal).fresh refl
-      (λ x q. by x q x.kind refl)
-    where
-      by : (x : Declaration) → lookup (declarations mo.ports mo.items) x.name ≡ Some x → (k : Kind) → x.kind ≡ k → GivenWithin (next mo e) (λ n. 0) k x.name x.width
-      by x q K.Input i = λ c. one-le-pow x.width 2 (omega arith)
-      by x q K.Wire i = tt
-      by x q K.Register i = subst (λ (v : ℕ). next mo e x.name < 2 ^ v) (ap declared_width q) (next_fits mo forms test.legal e within x.name)
-
   module _ {S : Type 0} (b : Behaviour S) where
     pub goes : formed mo ≡ true → (k t : ℕ) (registers : Env) (rdata : ℕ) (m : Memory S) → rdata < 2 ^ d.bits → Starts mo registers (λ n. 0)
         → (cycles : List Env) × (length cycles ≡ k) × AreBeside b mo d t registers rdata m cycles
@@ -85,7 +89,7 @@ module _ (mo : ModuleTree) (march : List MarchElement) (d : Description) (test :
         let one = test.settles registers (inputs_with t rdata) (starts_with t rdata low registers fit) in
         let answer = cycle_answer b (shape_of d) m (command_on (port_values one.env)) in
         let rest = goes forms k (suc t) (next mo one.env) (answer % 2 ^ d.bits) (memory_after b (shape_of d) m (command_on (port_values one.env)))
-        (mod-lt answer (one-le-pow d.bits 2 (omega arith))) (fits_next forms one.env one.settles.within) in
+        (mod-lt answer (one-le-pow d.bits 2 (omega arith))) (fits_next mo forms test.legal one.env one.settles.within) in
         (one.env ∷ rest.0, ap suc rest.1, ((inputs_with t rdata, refl, refl, one.settles), rest.2))
 
     -- ---- it is a history
@@ -130,11 +134,6 @@ module _ (mo : ModuleTree) (march : List MarchElement) (d : Description) (test :
         (test.meets registers history.words history.inputs es history.are_inputs history.history t e.0 e.1))
 
     -- and the word of a cycle is what the memory answered in the cycle before
-    memory_next : (m : Memory S) (q : ℕ → PortValues) (k : ℕ)
-        → memory_at b (shape_of d) m q (suc k) ≡ memory_at b (shape_of d) (memory_after b (shape_of d) m (command_on (q 0))) (λ n. q (suc n)) k
-    memory_next m q zero = refl
-    memory_next m q (suc k) = ap (λ x. memory_after b (shape_of d) x (command_on (q (suc k)))) (memory_next m q k)
-
     pub answered : (t : ℕ) (registers : Env) (rdata : ℕ) (m : Memory S) (es : List Env) → AreBeside b mo d t registers rdata m es → (k : ℕ) → suc k < length es
         → word_in es (suc k) ≡ cycle_answer b (shape_of d) (memory_at b (shape_of d) m (ports_in es) k) (command_on (ports_in es k)) % 2 ^ d.bits
     answered t registers rdata m [] h k l = absurd (omega arith)
@@ -143,9 +142,29 @@ module _ (mo : ModuleTree) (march : List MarchElement) (d : Description) (test :
         word_now (suc t) (next mo e) (cycle_answer b (shape_of d) m (command_on (port_values e)) % 2 ^ d.bits) (memory_after b (shape_of d) m (command_on (port_values e))) f es h.1
     answered t registers rdata m (e ∷ f ∷ es) h (suc k) l =
         answered (suc t) (next mo e) (cycle_answer b (shape_of d) m (command_on (port_values e)) % 2 ^ d.bits) (memory_after b (shape_of d) m (command_on (port_values e))) (f ∷ es) h.1 k (omega arith)
-        ∙ ap (λ x. cycle_answer b (shape_of d) x (command_on (ports_in (f ∷ es) k)) % 2 ^ d.bits) (sym (memory_next m (ports_in (e ∷ f ∷ es)) k))
+        ∙ ap (λ x. cycle_answer b (shape_of d) x (command_on (ports_in (f ∷ es) k)) % 2 ^ d.bits) (sym (memory_next b (shape_of d) m (ports_in (e ∷ f ∷ es)) k))
 
--- ---- words with a planted instance are a chip
+-- ---- beside any memory that answers some read wrong it fails
+
+attached_to : {S : Type 0} (b : Behaviour S) (mo : ModuleTree) (march : List MarchElement) (d : Description) → SelfTest mo march d → (m : Memory S) → length m.pending + 1 ≡ d.latency
+    → (registers : Env) (rdata : ℕ) (cycles : List Env) → length cycles ≡ cycle_count march d → AreBeside b mo d 0 registers rdata m cycles
+    → Attached b march d m (ports_in cycles) (word_in cycles) (done_at march d)
+attached_to b mo march d test m way registers rdata cycles count beside = record {
+  under_way = way;
+  rule = λ t h. rule mo march d test b registers rdata m cycles beside t (omega (arith, count));
+  answer = λ t h. answered mo march d test b 0 registers rdata m cycles beside t (omega (arith, count));
+  late = omega arith;
+}
+
+pub ends_failing : {S : Type 0} (b : Behaviour S) (mo : ModuleTree) (march : List MarchElement) (d : Description) → SelfTest mo march d → formed mo ≡ true → (m : Memory S)
+    → length m.pending + 1 ≡ d.latency → AnswersWrong march d S b m → FailsBeside mo march d S b m
+ends_failing b mo march d test forms m way wrong = record {
+  runs = λ registers rdata fit low. goes mo march d test b forms (cycle_count march d) 0 registers rdata m low fit;
+  ends = λ registers rdata cycles count beside.
+      wrong_fails b m (ports_in cycles) march d (word_in cycles) (done_at march d) (attached_to b mo march d test m way registers rdata cycles count beside) wrong;
+}
+
+-- ---- beside a sound one it passes
 
 abbrev pub chip_of : Option Planted → Memory (List ℕ) → Chip
 chip_of p m = record { words = m.state; planted = p; pending = m.pending; idle = m.idle }
@@ -154,46 +173,20 @@ pub chip_as : (shape : Shape) (p : Option Planted) (m : Memory (List ℕ)) (q : 
 chip_as shape p m q zero = refl
 chip_as shape p m q (suc t) = ap (λ c. chip_after shape c (command_on (q t))) (chip_as shape p m q t)
 
-module _ (mo : ModuleTree) (march : List MarchElement) (d : Description) (test : SelfTest mo march d) (p : Option Planted) (m : Memory (List ℕ)) (way : length m.pending + 1 ≡ d.latency)
-    (registers : Env) (rdata : ℕ) (es : List Env) (count : length es ≡ cycle_count march d) (beside : AreBeside (words_with p) mo d 0 registers rdata m es) where
-  joined : Joined march d (chip_of p m) (ports_in es) (word_in es) (done_at march d)
-  joined = record {
-    under_way = way;
-    rule = λ t h. rule mo march d test (words_with p) registers rdata m es beside t (omega (arith, count));
-    answer = λ t h.
-        answered mo march d test (words_with p) 0 registers rdata m es beside t (omega (arith, count))
-        ∙ ap (λ c. chip_answer (shape_of d) c (command_on (ports_in es t)) % 2 ^ d.bits) (sym (chip_as (shape_of d) p m (ports_in es) t));
-    late = omega arith;
-  }
+pub joined_of : (p : Option Planted) (m : Memory (List ℕ)) (march : List MarchElement) (d : Description) (q : ℕ → PortValues) (returned : ℕ → ℕ) (last : ℕ)
+    → Attached (words_with p) march d m q returned last → Joined march d (chip_of p m) q returned last
+joined_of p m march d q returned last attached = record {
+  under_way = attached.under_way;
+  rule = attached.rule;
+  answer = λ t h. attached.answer t h ∙ ap (λ c. chip_answer (shape_of d) c (command_on (q t)) % 2 ^ d.bits) (sym (chip_as (shape_of d) p m q t));
+  late = attached.late;
+}
 
--- ---- so each ends so
-
-module _ (mo : ModuleTree) (march : List MarchElement) (d : Description) (test : SelfTest mo march d) (forms : formed mo ≡ true) where
-  pub passes_beside : IsMarch march → IsMemory d → PassesBeside mo march d
-  passes_beside is m memory has = record {
-    runs = λ registers rdata fit low. goes mo march d test (words_with None) forms (cycle_count march d) 0 registers rdata memory low fit;
-    ends = λ registers rdata cycles count beside.
-        joint_passes march d is m (chip_of None memory) (ports_in cycles) (word_in cycles) (done_at march d) (record { words = has.words; planted = refl })
-        (joined mo march d test None memory has.under_way registers rdata cycles count beside);
-  }
-
-  pub fails_beside : IsMemory d → (p : Primitive) → IsPrimitive p → Detects march p → FailsBeside mo march d p
-  fails_beside m p is detects memory i has same fits =
-      let prim : IsPrimitive i.prim = subst IsPrimitive (sym same) is in
-      let caught : Detects march i.prim = subst (Detects march) (sym same) detects in
-      let inside : i.vic.word < length memory.state = subst (λ (n : ℕ). i.vic.word < n) (sym has.words) fits.word in
-      let closed : Memory (List ℕ) = record memory { state = closed_words i memory.state } in
-      let found : HasDetected march d i (chip_of (Some i) closed) = record {
-        words = length-closed_words i memory.state ∙ has.words;
-        planted = refl;
-        primitive = prim;
-        places = fits;
-        closed = closed_twice i memory.state prim inside;
-        detected = caught d.words m.words_low;
-      } in
-      record {
-        runs = λ registers rdata fit low. goes mo march d test (words_with (Some i)) forms (cycle_count march d) 0 registers rdata closed low fit;
-        ends = λ registers rdata cycles count beside.
-            joint_fails march d m (chip_of (Some i) closed) i (ports_in cycles) (word_in cycles) (done_at march d) found
-            (joined mo march d test (Some i) closed has.under_way registers rdata cycles count beside);
-      }
+pub passes_beside : (mo : ModuleTree) (march : List MarchElement) (d : Description) → SelfTest mo march d → formed mo ≡ true → IsMarch march → IsMemory d → PassesBeside mo march d
+passes_beside mo march d test forms is m memory has = record {
+  runs = λ registers rdata fit low. goes mo march d test (words_with None) forms (cycle_count march d) 0 registers rdata memory low fit;
+  ends = λ registers rdata cycles count beside.
+      joint_passes march d is m (chip_of None memory) (ports_in cycles) (word_in cycles) (done_at march d) (record { words = has.words; planted = refl })
+      (joined_of None memory march d (ports_in cycles) (word_in cycles) (done_at march d)
+      (attached_to (words_with None) mo march d test memory has.under_way registers rdata cycles count beside));
+}

@@ -1,6 +1,5 @@
 -- Trusted. A module beside a memory, whatever its registers and the memory hold at first: that it has a run there, and how each ends.
-use Rattle.std.specs.Prelude.{◌≡◌, ◌+◌, ◌%◌, ◌^◌, ◌<◌, ℕ, suc, List, [], ◌∷◌, length, Some, None, codes}
-use Rattle.fault_core.specs.Primitive.{Primitive}
+use Rattle.std.specs.Prelude.{◌≡◌, ◌%◌, ◌^◌, ◌<◌, ℕ, suc, List, [], ◌∷◌, length, None, codes}
 use Rattle.verilog_tree.specs.Plain.{ModuleTree}
 use Rattle.verilog_tree.specs.Meaning.{Env, Settles, next}
 use Rattle.verilog_tree.specs.Wires.{Starts}
@@ -9,13 +8,12 @@ use Rattle.memory_desc.specs.Descriptions.{Description}
 use Rattle.word_march.specs.Commands.{cycle_count}
 use Rattle.self_test.specs.Ports.{port_values}
 use Rattle.self_test.specs.SelfTest.{reset_at}
-use Rattle.word_device.specs.declared.device.Planted.{Planted}
-use Rattle.word_device.specs.Chips.{FitsMemory, closed_words}
+use Rattle.word_device.specs.Memories.{Behaviour, Memory, cycle_answer, memory_after, words_with}
 use Rattle.word_device.specs.Ports.{shape_of}
 use Rattle.word_device.specs.Joint.{command_on, EndsFailing, EndsPassing}
+use Rattle.word_device.specs.Answers.{HasWords, Claim}
 use Rattle.bench.specs.Joint.{word_in, ports_in}
 use Rattle.bench.specs.Laws.{done_at}
-use Rattle.bench.specs.Memories.{Behaviour, Memory, cycle_answer, memory_after, words_with}
 
 -- Cycles of the module beside a memory from cycle t on, with these registers, and this word on `rdata`, in the first. The outputs of a cycle
 -- command the memory, and the low bits of its answer stand on `rdata` in the next.
@@ -42,17 +40,10 @@ FailsAt march d cycles = EndsFailing (ports_in cycles (done_at march d))
 abbrev pub PassesAt : List MarchElement → Description → List Env → Type 0
 PassesAt march d cycles = EndsPassing march d (word_in cycles) (ports_in cycles (done_at march d))
 
--- a memory of this description: any words, as many answers under way as its latency asks for, any count of idle cycles
-pub record HasWords (d : Description) (m : Memory (List ℕ)) : Type 0 where
-  pub words : length m.state ≡ d.words
-  pub under_way : length m.pending + 1 ≡ d.latency
-
 -- beside each sound memory the module passes
 abbrev pub PassesBeside : ModuleTree → List MarchElement → Description → Type 0
 PassesBeside mo march d = (m : Memory (List ℕ)) → HasWords d m → EndsBeside (words_with None) mo march d m (PassesAt march d)
 
--- beside each with an instance of this primitive, at any place that fits, it fails
-abbrev pub FailsBeside : ModuleTree → List MarchElement → Description → Primitive → Type 0
-FailsBeside mo march d p =
-    (m : Memory (List ℕ)) (i : Planted) → HasWords d m → i.prim ≡ p → FitsMemory i d.words d.bits
-    → EndsBeside (words_with (Some i)) mo march d (record m { state = closed_words i m.state }) (FailsAt march d)
+-- beside this memory it fails
+abbrev pub FailsBeside : ModuleTree → List MarchElement → Description → Claim
+FailsBeside mo march d S b m = EndsBeside b mo march d m (FailsAt march d)

@@ -1,6 +1,5 @@
 pub mod Joint
 pub mod Endings
 pub mod Laws
-pub mod Memories
 pub mod Beside
 pub mod inner

@@ -1,5 +1,5 @@
 -- A chip beside the memory of one of its units has histories, as long as one likes.
-use Rattle.bist_app.proofs.Common.{◌≡◌, ◌≢◌, ◌<◌, ◌≤◌, ◌∙◌, sym, subst, ap, refl, arith, ℕ, Bool, true, false, List, [], ◌∷◌, length, Option, Some, None, Description, TestUnit, shape_of}
+use Rattle.bist_app.proofs.Common.{◌≡◌, ◌≢◌, ◌<◌, ◌≤◌, ◌∙◌, sym, subst, ap, refl, arith, ℕ, Bool, true, false, List, [], ◌∷◌, length, Option, Some, Description, TestUnit, shape_of}
 use Rattle.std.specs.Prelude.{zero, suc, ◌+◌, ◌^◌, ◌%◌, ◌++◌, ◌&&◌, cond, map, slice_get, codes}
 use Rattle.std.specs.Str.{bytes_eq}
 use Rattle.std.proofs.Common.{⊎_elim}
@@ -7,26 +7,20 @@ use Rattle.std.proofs.Math.Nat.{one-le-pow, mod-lt}
 use Rattle.std.proofs.lemmas.Bool.{and_parts, cases_eq}
 use Rattle.std.proofs.lemmas.Option.{slice_get_within}
 use Rattle.std.proofs.lemmas.Slice.Eq.{bytes_eq-Decides}
-use Rattle.verilog_tree.specs.declared.names.Kind.{Kind}
-use Rattle.verilog_tree.specs.declared.names.Kind.TheVariants as K
 use Rattle.verilog_tree.specs.declared.tree.Dir.TheVariants.{Output}
-use Rattle.verilog_tree.specs.Plain.{ModuleItem, WireItem, RegItem, AssignItem, AlwaysItem, ModulePort, ModuleTree}
+use Rattle.verilog_tree.specs.Plain.{ModulePort, ModuleTree}
 use Rattle.verilog_tree.specs.Formed.{formed}
 use Rattle.verilog_tree.specs.Fits.{ports_fit, items_fit, fits}
 use Rattle.verilog_tree.specs.Words.{is_name}
-use Rattle.verilog_tree.specs.Names.{Declaration, declarations, port_declarations, item_declarations, lookup, declared_width}
-use Rattle.verilog_tree.specs.Meaning.{Env, settled_width, next}
-use Rattle.verilog_tree.specs.Rules.{first_break}
-use Rattle.verilog_tree.specs.Wires.{GivenWithin, AllWithin, Starts}
-use Rattle.verilog_tree.proofs.Settling.{lawful_module}
-use Rattle.verilog_open.proofs.Histories.{starts_at}
-use Rattle.verilog_open.proofs.Within.{next_fits}
-use Rattle.word_march.specs.PortRule.{PortValues}
-use Rattle.word_device.specs.declared.shape.Shape.{Shape}
+use Rattle.verilog_tree.specs.Names.{Declaration, declarations, port_declarations, item_declarations}
+use Rattle.verilog_tree.specs.Meaning.{Env}
+use Rattle.verilog_tree.specs.Wires.{AllWithin, Starts}
 use Rattle.self_test.specs.Ports.{port}
 use Rattle.self_test.specs.SelfTest.{reset_at}
 use Rattle.word_device.specs.Joint.{command_on}
-use Rattle.bench.specs.Memories.{Behaviour, Memory, cycle_answer, memory_after, memory_at}
+use Rattle.word_device.specs.Memories.{Behaviour, Memory, cycle_answer, memory_after}
+use Rattle.word_device.specs.Answers.{memory_at}
+use Rattle.bench.proofs.Beside.{memory_next, fits_next, items_within}
 use Rattle.chip_rtl.specs.ChipTree.{PlacedTree, ChipTree}
 use Rattle.chip_rtl.specs.ChipLaws.{AllTested, memories}
 use Rattle.chip_rtl.specs.ChipTest.{ChipTest, unit_values, words_of}
@@ -37,17 +31,7 @@ use Rattle.chip_rtl.proofs.Composing.{unit_at, same_count}
 use Rattle.chip_rtl.proofs.Naming.{numbered}
 use Rattle.bist_app.specs.ChipBeside.{unit_ports, RunsFrom}
 
--- ---- what a cycle leaves in the registers of a module
-
-fits_next : (mo : ModuleTree) → formed mo ≡ true → first_break mo ≡ None → (e : Env) → ((n : List ℕ) → e n < 2 ^ settled_width mo n) → Starts mo (next mo e) zeros
-fits_next mo forms legal e within =
-    starts_at (next mo e) zeros (declarations mo.ports mo.items) [] (declarations mo.ports mo.items) (lawful_module mo forms legal).fresh refl
-    (λ x q. by x q x.kind refl)
-  where
-    by : (x : Declaration) → lookup (declarations mo.ports mo.items) x.name ≡ Some x → (k : Kind) → x.kind ≡ k → GivenWithin (next mo e) zeros k x.name x.width
-    by x q K.Input i = λ c. one-le-pow x.width 2 (omega arith)
-    by x q K.Wire i = tt
-    by x q K.Register i = subst (λ (v : ℕ). next mo e x.name < 2 ^ v) (ap declared_width q) (next_fits mo forms legal e within x.name)
+-- ---- the modules of a chip
 
 forms_of : (ms : List ModuleTree) → AllFit ms → (j : ℕ) (mo : ModuleTree) → slice_get ms j ≡ Some mo → formed mo ≡ true
 forms_of [] fit j mo e = cc
@@ -100,13 +84,6 @@ module _ (i t word : ℕ) (others : Env) where
       ap (λ b. cond b (reset_at t) (cond (bytes_eq name (rdata_of i)) word (others name))) (other_bytes name (codes "reset") nr)
       ∙ ap (λ b. cond b word (others name)) (other_bytes name (rdata_of i) nw)
 
-  items_within : (is : List ModuleItem) → AllWithin zeros others (item_declarations is) → AllWithin zeros (reads i t word others) (item_declarations is)
-  items_within [] g = tt
-  items_within (WireItem n k ∷ is) g = (tt, items_within is g.1)
-  items_within (RegItem n k ∷ is) g = (g.0, items_within is g.1)
-  items_within (AssignItem n x ∷ is) g = items_within is g
-  items_within (AlwaysItem c ss ∷ is) g = items_within is g
-
   word_within : (j bits : ℕ) → i < 1000 → j < 1000 → (j ≡ i → word < 2 ^ bits) → others (rdata_of j) < 2 ^ bits → reads i t word others (rdata_of j) < 2 ^ bits
   word_within j bits i_few j_few own other =
       ⊎_elim
@@ -151,7 +128,7 @@ module _ (i t word : ℕ) (others : Env) where
         (
           λ c. reset_low t,
           units_within 0 ds last (item_declarations mo.items) few (omega arith) (λ k d e q. own d (let same : k ≡ i = omega arith in subst (λ n. slice_get ds n ≡ Some d) same e))
-              g.1.1 (λ r. (tt, (tt, items_within mo.items r.1.1))),
+              g.1.1 (λ r. (tt, (tt, items_within zeros others (reads i t word others) mo.items r.1.1))),
         ),
       )
 
@@ -161,11 +138,6 @@ described : (us : List TestUnit) (i : ℕ) (u : TestUnit) → slice_get us i ≡
 described [] i u e = cc
 described (v ∷ us) zero u e = let same : v ≡ u = cc in ap (λ (x : TestUnit). Some x.memory) same
 described (v ∷ us) (suc i) u e = described us i u e
-
-memory_next : {S : Type 0} (b : Behaviour S) (shape : Shape) (m : Memory S) (q : ℕ → PortValues) (k : ℕ)
-    → memory_at b shape m q (suc k) ≡ memory_at b shape (memory_after b shape m (command_on (q 0))) (λ n. q (suc n)) k
-memory_next b shape m q zero = refl
-memory_next b shape m q (suc k) = ap (λ x. memory_after b shape x (command_on (q (suc k)))) (memory_next b shape m q k)
 
 module _ (c : ChipTree) (us : List TestUnit) (budget : ℕ) (groups : List ℕ) (test : ChipTest c us budget groups) (legal : IsChip c) (tested : AllTested c.units us) (fit : AllFit c.units)
     (ports : c.top.ports ≡ top_ports (memories us)) (few : length us ≤ 16) (i : ℕ) (u : TestUnit) (is_unit : slice_get us i ≡ Some u) where

@@ -11,9 +11,8 @@ use Rattle.bist_app.specs.Compile.{IsCompiled, LeavesCompile, DecidesCompile, co
 use Rattle.march_core.specs.March.{IsMarch}
 use Rattle.verilog_emit.proofs.OneTree.{text_formed}
 use Rattle.bench.proofs.Beside.{passes_beside}
-use Rattle.word_faults.proofs.Linked.{linked_fails}
-use Rattle.word_faults.proofs.Decoders.{decoder_fails}
 use Rattle.bist_app.specs.Headline.{Only, InputHas, IsCompilation, LeavesCompilation}
+use Rattle.bist_app.proofs.Beside.{links_fail, decoders_fail, in_word_fails}
 use Rattle.bist_app.proofs.Listed.{each_fails}
 use Rattle.bist_app.proofs.Complete.{if_told}
 use Rattle.bist_app.proofs.Succeeding.{Succeeds, succeeds, not_refused, same_value}
@@ -138,8 +137,9 @@ compilation words files old new n s =
         freely = (c.text, w.first, (c.tests.freely, c.tests.freely_no_other));
         passes = passes_beside c.tests.tree i.march i.memory c.tests.self_test forms (is_march files (word words 1) i.march i.march_text) i.is_memory;
         fails = each_fails files (word words 3) c.tests.tree i.march i.memory i.items c.tests.self_test forms i.is_memory i.list_text;
-        fails_linked = linked_fails i.march i.memory (is_march files (word words 1) i.march i.march_text) i.is_memory c.tests.tree c.tests.self_test forms;
-        fails_decoder = decoder_fails i.march i.memory (is_march files (word words 1) i.march i.march_text) i.is_memory c.tests.tree c.tests.self_test forms;
+        fails_linked = links_fail c.tests.tree i.march i.memory c.tests.self_test forms (is_march files (word words 1) i.march i.march_text) i.is_memory;
+        fails_decoder = decoders_fail c.tests.tree i.march i.memory c.tests.self_test forms (is_march files (word words 1) i.march i.march_text) i.is_memory;
+        fails_in_word = in_word_fails c.tests.tree i.march i.memory c.tests.self_test forms i.is_memory;
         report_text = (c.bytes, w.second, c.reports.report);
         escapes = s.done.found;
         found = c.reports.found;

@@ -9,6 +9,7 @@ pub mod DirectionWord
 pub mod Judging
 pub mod Decoding
 pub mod Listing
+pub mod Beside
 pub mod Listed
 pub mod OneCommand
 pub mod PlaceWords

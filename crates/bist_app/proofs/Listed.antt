@@ -23,9 +23,8 @@ use Rattle.dynamic_core.specs.Items.{SpellsItems}
 use Rattle.verilog_tree.specs.Plain.{ModuleTree}
 use Rattle.verilog_tree.specs.Formed.{formed}
 use Rattle.self_test.specs.SelfTest.{SelfTest}
-use Rattle.bench.proofs.Beside.{fails_beside}
-use Rattle.word_faults.proofs.Dynamic.{dynamic_fails}
 use Rattle.bist_app.specs.Headline.{Only, InputHas, FailsWhereDetected}
+use Rattle.bist_app.proofs.Beside.{planted_fails, dynamic_fails}
 
 -- an item is a primitive
 abbrev IsOne : Item → Type 0
@@ -88,8 +87,8 @@ each_is (l ∷ ls) items (item, first, others, line, brings, rest, same) =
 module _ (mo : ModuleTree) (march : List MarchElement) (d : Description) (test : SelfTest mo march d) (forms : formed mo ≡ true) (m : IsMemory d) where
   fails_all : (items : List Item) → AllByRecursion IsOne items → AllByRecursion (FailsWhereDetected mo march d) items
   fails_all [] a = tt
-  fails_all (Plain p ∷ items) a = (fails_beside mo march d test forms m p a.0, fails_all items a.1)
-  fails_all (Dyn p ∷ items) a = (λ solid detects. dynamic_fails march d m mo p test forms a.0 solid detects, fails_all items a.1)
+  fails_all (Plain p ∷ items) a = (planted_fails mo march d test forms m p a.0, fails_all items a.1)
+  fails_all (Dyn p ∷ items) a = (dynamic_fails mo march d test forms m p a.0, fails_all items a.1)
 
 pub each_fails : (files : Files) (name : List ℕ) (mo : ModuleTree) (march : List MarchElement) (d : Description) (items : List Item) → SelfTest mo march d → formed mo ≡ true → IsMemory d
     → InputHas files name (λ bytes. Only (SpellsItems bytes) items) → AllByRecursion (FailsWhereDetected mo march d) items

@@ -1,18 +1,18 @@
 -- Trusted. A chip beside the memory of one of its units, whatever this and the registers hold at first, and whatever the other units read: how the
 -- test of that unit ends.
 use Rattle.std.specs.Prelude.{◌≡◌, ◌≢◌, ◌+◌, ◌<◌, ◌≤◌, ◌^◌, ◌%◌, ℕ, zero, suc, Bool, true, false, List, [], ◌∷◌, length, Some, None, slice_get, codes}
-use Rattle.fault_core.specs.Primitive.{IsPrimitive}
+use Rattle.fault_core.specs.Primitive.{Primitive, IsPrimitive}
 use Rattle.array_sim.specs.Detection.{Detects}
 use Rattle.verilog_tree.specs.Meaning.{Env}
 use Rattle.memory_desc.specs.Descriptions.{Description}
 use Rattle.word_march.specs.PortRule.{PortValues}
-use Rattle.word_device.specs.declared.device.Planted.{Planted}
-use Rattle.word_device.specs.Chips.{FitsMemory, closed_words}
+use Rattle.word_device.specs.Memories.{Behaviour, Memory, cycle_answer, words_with}
 use Rattle.word_device.specs.Ports.{shape_of}
 use Rattle.word_device.specs.Joint.{command_on}
+use Rattle.word_device.specs.Answers.{HasWords, memory_at, Claim, EachPlanted}
+use Rattle.word_faults.specs.Laws.{OfDetectedLinks, OfDetectedDecoders, OfDetectedDynamic}
+use Rattle.word_coupling.specs.Memories.{OfDetectedInWord}
 use Rattle.bench.specs.Joint.{nothing}
-use Rattle.bench.specs.Memories.{Behaviour, Memory, cycle_answer, memory_at, words_with}
-use Rattle.bench.specs.Beside.{HasWords}
 use Rattle.chip_plan.specs.Groups.{start_of}
 use Rattle.chip_rtl.specs.ChipTree.{ChipTree}
 use Rattle.chip_rtl.specs.Together.{ChipStarts, ChipCycle, ChipHistory}
@@ -52,12 +52,24 @@ pub record UnitEnds {S : Type 0} (failed : Bool) (b : Behaviour S) (c : ChipTree
   pub ends : (cycles : List ChipCycle) → IsBeside b c i u.memory m cycles
       → (t : ℕ) → s + test_length u ≤ t → t < length cycles → (unit_ports i cycles t).fail ≡ failed
 
--- the test passes every sound memory, and fails one with an instance of a primitive that the unit's march detects, in one cell or in two of different
--- words
+-- beside this memory it ends at 1
+abbrev pub FailsUnit : ChipTree → ℕ → TestUnit → ℕ → Claim
+FailsUnit c i u s S b m = UnitEnds true b c i u s m
+
+-- the test of a unit, which starts in cycle s
 pub record UnitTests (c : ChipTree) (i : ℕ) (u : TestUnit) (s : ℕ) : Type 0 where
+  -- it passes beside each sound memory
   pub passes : (m : Memory (List ℕ)) → HasWords u.memory m → UnitEnds false (words_with None) c i u s m
-  pub fails : (m : Memory (List ℕ)) (p : Planted) → HasWords u.memory m → IsPrimitive p.prim → Detects u.march p.prim
-      → FitsMemory p u.memory.words u.memory.bits → UnitEnds true (words_with (Some p)) c i u s (record m { state = closed_words p m.state })
+  -- and fails beside each with an instance of a detected static primitive, in one cell or in two of different words
+  pub fails : (p : Primitive) → IsPrimitive p → Detects u.march p → EachPlanted (FailsUnit c i u s) u.memory p
+  -- of a detected dynamic primitive, in one cell or in two of different words, where the background before can't begin it
+  pub fails_dynamic : OfDetectedDynamic (FailsUnit c i u s) u.march u.memory
+  -- with a detected linked fault, at bits of different words, that no pause sets off
+  pub fails_linked : OfDetectedLinks (FailsUnit c i u s) u.march u.memory
+  -- whose address decoder has a detected fault, whatever else is wrong with it
+  pub fails_decoder : OfDetectedDecoders (FailsUnit c i u s) u.march u.memory
+  -- with an instance at two bits of one word, which the test detects there in a reading, found in that reading
+  pub fails_in_word : OfDetectedInWord (FailsUnit c i u s) u.march u.memory
 
 -- each unit's does, from the start of its group on
 abbrev pub EachUnitTests : ChipTree → List TestUnit → List ℕ → Type 0

@@ -20,9 +20,11 @@ use Rattle.self_test.specs.Numbers.{ShowsNumbers}
 use Rattle.word_march.specs.Commands.{cycle_count}
 use Rattle.port_check.specs.declared.answer.PortAnswer.{PortAnswer}
 use Rattle.port_check.specs.Answers.{IsAnswer}
+use Rattle.word_device.specs.Answers.{EachPlanted}
+use Rattle.word_faults.specs.Dynamic.{EachDynamic}
+use Rattle.word_faults.specs.Laws.{BeginsAfresh, OfDetectedLinks, OfDetectedDecoders}
+use Rattle.word_coupling.specs.Memories.{OfDetectedInWord}
 use Rattle.bench.specs.Beside.{PassesBeside, FailsBeside}
-use Rattle.word_faults.specs.Dynamic.{FailsDynamic}
-use Rattle.word_faults.specs.Laws.{BeginsAfresh, FailsEachLinked, FailsEachDecoder}
 use Rattle.report.specs.Report.{IsMixedReport, DetectsOf}
 use Rattle.report_lines.specs.Lines.{total_line}
 use Rattle.bist_endings.specs.Words.{Words, word}
@@ -44,25 +46,16 @@ FileHas files name P = (bytes : List ℕ) × (files name ≡ Some bytes) × P by
 abbrev pub InputHas : Files → List ℕ → (List ℕ → Type 0) → Type 0
 InputHas files name P = FileHas files name (λ bytes. (length bytes ≤ input_limit) × P bytes)
 
--- Where the march detects this item, the module fails beside each memory with an instance of it; of a dynamic item, where the background
--- before can't begin it.
+-- Where the march detects this item, the module fails beside each memory with an instance of it; of a dynamic item, where the background before can't
+-- begin it.
 abbrev pub FailsWhereDetected : ModuleTree → List MarchElement → Description → Item → Type 0
-FailsWhereDetected mo march d (Plain p) = Detects march p → FailsBeside mo march d p
-FailsWhereDetected mo march d (Dyn p) = BeginsAfresh march d → DetectsDyn march p → FailsDynamic mo march d p
+FailsWhereDetected mo march d (Plain p) = Detects march p → EachPlanted (FailsBeside mo march d) d p
+FailsWhereDetected mo march d (Dyn p) = BeginsAfresh p march d → DetectsDyn march p → EachDynamic (FailsBeside mo march d) d p
 
--- The files MARCH, MEMORY and FAULTS were read as a march, a memory and a list, and spell no others. Now the bytes of VERILOG are the text of a
--- module and of no other: its layout, with parentheses round each operator and begin and end round each body, where its names are legal and its
--- literals hold their values. Read by the grammar, with all parentheses or with operators that bind by precedence, they are that module and no
--- other. The module is a self-test of that memory by that march; `wdata` has what a read expects in the cycle of each; and where nothing is
--- known of its registers at first, nor of `rdata` but where the answer of a read stands there, each output has a number behind the reset, and in
--- it `en`, `done` and `fail` have 0. The answer of its open run, by which `check` tells, is that it conforms, and no other. Beside a memory of the
--- description, whatever its registers and the memory hold at first, it ends without `fail` and every read is right, if nothing is planted there;
--- and with `fail`, where that is an instance of an item that the march detects, in one cell or in cells of two words. So it does beside one with a
--- linked fault at bits of different words, and beside one whose decoder has a fault, that the march detects. The bytes of REPORT are the report of the
--- list. Some item isn't detected exactly where the status is 1. How many there are and how many are detected was said, and all other files are as
--- before.
+-- What was read, what was written, and what the module does beside a memory, whatever its registers and the memory hold at first.
 pub record IsCompilation (words : Words) (files files' : Files) (said said' : Option (List ℕ)) (status : ℕ) : Type 0 where
   pub shape : HasForm compile_form words
+  -- The files MARCH, MEMORY and FAULTS were read as a march, a memory and a list, and spell no others.
   pub march : List MarchElement
   pub memory : Description
   pub is_memory : IsMemory memory
@@ -70,22 +63,37 @@ pub record IsCompilation (words : Words) (files files' : Files) (said said' : Op
   pub march_text : InputHas files (word words 1) (λ bytes. Only (SpellsMarch bytes) march)
   pub memory_text : InputHas files (word words 2) (λ bytes. Only (SpellsMemory bytes) memory)
   pub list_text : InputHas files (word words 3) (λ bytes. Only (SpellsItems bytes) items)
+  -- The module is a self-test of that memory by that march, and `wdata` has what a read expects in the cycle of each.
   pub tree : ModuleTree
   pub self_test : SelfTest tree march memory
   pub expected : ShowsExpected tree march memory
+  -- Where nothing is known of its registers at first, nor of `rdata` but where the answer of a read stands there, each output has a number behind the
+  -- reset, and in it `en`, `done` and `fail` have 0.
   pub numbers : ShowsNumbers tree march memory
+  -- The answer of its open run, by which `check` tells, is that it conforms, and no other.
   pub conforms : Only (IsAnswer tree march memory) (PortAnswer.Conforms (cycle_count march memory))
+  -- The bytes of VERILOG are the text of this module and of no other: its layout, with parentheses round each operator and begin and end round each
+  -- body, where its names are legal and its literals hold their values.
   pub module_text : FileHas files' (word words 4) (λ bytes. Only (IsTextOf bytes) tree)
+  -- Read by the grammar, with all parentheses, they are it and no other; and so with operators that bind by precedence.
   pub spells : FileHas files' (word words 4) (λ bytes. Only (Spells bytes) tree)
   pub freely : FileHas files' (word words 4) (λ bytes. Only (FreelySpells bytes) tree)
+  -- Beside each sound memory of the description it ends without `fail`, and every read is right.
   pub passes : PassesBeside tree march memory
+  -- It ends with `fail` beside each memory with an instance of an item that the march detects, in one cell or in two of different words;
   pub fails : AllByRecursion (FailsWhereDetected tree march memory) items
-  pub fails_linked : FailsEachLinked tree march memory
-  pub fails_decoder : FailsEachDecoder tree march memory
+  -- beside each with a linked fault that it detects, at bits of different words, and that no pause sets off;
+  pub fails_linked : OfDetectedLinks (FailsBeside tree march memory) march memory
+  -- beside each whose address decoder has a fault that it detects, whatever else is wrong with that;
+  pub fails_decoder : OfDetectedDecoders (FailsBeside tree march memory) march memory
+  -- and beside each with an instance at two bits of one word, where `inword` detects the primitive in a reading, and it is found in that reading.
+  pub fails_in_word : OfDetectedInWord (FailsBeside tree march memory) march memory
+  -- The bytes of REPORT are the report of the list. Some item isn't detected exactly where the status is 1.
   pub report_text : FileHas files' (word words 5) (λ bytes. IsMixedReport bytes march (Some memory) items)
   pub escapes : Bool
   pub found : SomeEscapes march items escapes
   pub status_is : status ≡ found_status escapes
+  -- How many items there are and how many are detected was said, and all other files are as before.
   pub covered : ℕ
   pub detects : DetectsOf march items covered
   pub says : Says said said' (total_line (length items) covered)

@@ -36,8 +36,8 @@ AreUnitsOf files (d ∷ ds) (u ∷ us) = IsUnitOf files d u × AreUnitsOf files 
 -- and whatever words return, in the groups of the first fit within the described budget. Its modules show on `wdata` what each read expects, and
 -- so does the chip; and behind the reset they show numbers where their registers are open at first. The text of each module, read with operators
 -- that bind by precedence, is that module and no other. Beside the memory of a unit, whatever else the chip reads, that unit's bit of `fail` ends at
--- 0 if nothing is planted there, and at 1 where that is an instance of a static primitive that its march detects. How many units and groups there
--- are was said, and the first cycle in which every test is over; and all other files are as before.
+-- 0 if that is sound, and at 1 beside each faulty memory of which `UnitTests` speaks: those beside which one self-test fails. How many units and
+-- groups there are was said, and the first cycle in which every test is over; and all other files are as before.
 pub record IsTestedChip (words : Words) (files files' : Files) (said said' : Option (List ℕ)) : Type 0 where
   pub shape : HasForm chip_form words
   pub chip : ChipDescription

@@ -6,8 +6,9 @@ use Rattle.word_device.specs.declared.device.PortCmd.{PortCmd}
 use Rattle.word_device.specs.declared.shape.Shape.{Shape}
 use Rattle.word_device.specs.Ports.{queued, addressed}
 use Rattle.word_device.specs.Runs.{IsSlot, AreSlots}
-use Rattle.bench.specs.Memories.{Behaviour, Memory, answer_at, own_answer}
-use Rattle.word_faults.proofs.Memories.{IsLawful, own_answers}
+use Rattle.word_device.specs.Memories.{Behaviour, Memory, answer_at, own_answer}
+use Rattle.word_device.specs.Answers.{own_answers}
+use Rattle.word_device.proofs.Answering.{IsLawful}
 use Rattle.macro_pins.specs.Asked.{Asked}
 use Rattle.macro_pins.specs.Macros.{Values, own}
 use Rattle.collar_rtl.proofs.Waiting.{state_at}
@@ -24,7 +25,7 @@ module _ {S : Type 0} (b : Behaviour S) (Good : S → Type 0) (lawful : IsLawful
   state s es t = state_at (memory_of b shape) c r s es t
 
   own_at : (es : List Values) (s : Kept S) (pending : List ℕ) (t : ℕ) (e : Values) → slice_get es t ≡ Some e
-      → slice_index (own_answers b Good lawful shape (chip_of s pending) (cmds_of es)) t ≡ own_answer b shape (chip_of (state s es t) []) (cmd_of (c e))
+      → slice_index (own_answers b shape (chip_of s pending) (cmds_of es)) t ≡ own_answer b shape (chip_of (state s es t) []) (cmd_of (c e))
   unfolding own_answers
   own_at [] s pending t e at = cc
   own_at (g ∷ es) s pending zero e at =
@@ -57,7 +58,7 @@ module _ {S : Type 0} (b : Behaviour S) (Good : S → Type 0) (lawful : IsLawful
 
   -- the word of a read in these cycles
   pub read_answer : (n : ℕ) (es : List Values) (s : Kept S) (t : ℕ) (e : Values) → t < n → slice_get es t ≡ Some e → (c e).en ≡ true → (c e).we ≡ false
-      → own (memory_of b shape) (state s es t) (c e) ≡ Some (slice_index (own_answers b Good lawful shape (chip_of s []) (cmds_of (take n es))) t % 2 ^ shape.bits)
+      → own (memory_of b shape) (state s es t) (c e) ≡ Some (slice_index (own_answers b shape (chip_of s []) (cmds_of (take n es))) t % 2 ^ shape.bits)
   read_answer n es s t e low at on read =
       let here = own_at (take n es) s [] t e (at_first n es t low ∙ at) in
       own_read (state s es t) (c e) on read

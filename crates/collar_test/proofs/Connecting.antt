@@ -1,5 +1,5 @@
 -- What the links of a collar's top connect.
-use Rattle.std.proofs.Common.{◌≡◌, Bool, true, false, not, ◌&&◌, ◌||◌, inl, inr, cond, ℕ, List, [], ◌∷◌, ◌++◌, map, codes, refl, sym, ap, subst, ◌∙◌}
+use Rattle.std.proofs.Common.{◌≡◌, Bool, true, false, not, ◌&&◌, ◌||◌, inl, inr, cond, ℕ, Some, List, [], ◌∷◌, ◌++◌, map, codes, refl, sym, ap, subst, ◌∙◌}
 use Rattle.std.specs.Str.{bytes_eq}
 use Rattle.std.proofs.lemmas.Slice.Eq.{bytes_eq-Decides}
 use Rattle.march_core.specs.March.{MarchElement}
@@ -14,7 +14,9 @@ use Rattle.chip_rtl.specs.ChipTree.{LinkTree}
 use Rattle.chip_rtl.specs.Together.{net_of}
 use Rattle.macro_pins.specs.declared.pins.PinKind.{PinKind}
 use Rattle.macro_pins.specs.declared.pins.PinKind.TheVariants as K
-use Rattle.bench.specs.Memories.{Behaviour, words_with}
+use Rattle.word_device.specs.Memories.{Behaviour, words_with}
+use Rattle.word_device.specs.Answers.{IsWhole}
+use Rattle.word_coupling.specs.Memories.{read_by}
 use Rattle.word_faults.specs.Linked.{linked as linked_words_of}
 use Rattle.word_faults.specs.Decoders.{decoded}
 use Rattle.word_faults.specs.Dynamic.{dynamic}
@@ -25,7 +27,7 @@ use Rattle.collar_rtl.specs.Interface.{at_pin, port, functional_port, pin_ports,
 use Rattle.collar_rtl.proofs.Settles.{word_among, ds}
 use Rattle.collar_top.specs.Links.{is_linked, once, all_once}
 use Rattle.collar_top.specs.CollarTops.{Placing, same, to_interface, to_clock, functional_link, self_test_links, pin_links, interface_links, macro_links, placed_three, interface_name}
-use Rattle.collar_test.specs.CollarTest.{Among, is_tied, Cycle, IsWhole, HasSize, HasHeldSize}
+use Rattle.collar_test.specs.CollarTest.{Among, is_tied, Cycle, HasSize, HasHeldSize}
 use Rattle.collar_test.proofs.Listed.{on_left, on_right, mapped, input_among, behind_eight}
 use Rattle.collar_test.specs.Tops.{pin_port, ArePlaced, Connects, TopConnects, RunsInTop, TopShows}
 use Rattle.collar_test.proofs.Joint.{given_at}
@@ -243,6 +245,7 @@ pub top_shows : TopShows
 top_shows mo march d w tests linked = record {
   words = λ planted. runs_in_top (words_with planted) (IsWhole d planted) mo march d w tests linked;
   links = λ link at. runs_in_top (linked_words_of link at) (HasSize d) mo march d w tests linked;
-  decoders = λ decoder. runs_in_top (decoded d.bits decoder) (HasSize d) mo march d w tests linked;
+  decoders = λ decoder read. runs_in_top (decoded decoder read) (HasSize d) mo march d w tests linked;
   dynamics = λ prim at. runs_in_top (dynamic prim at) (HasHeldSize d) mo march d w tests linked;
+  in_words = λ reading i. runs_in_top (read_by reading i) (IsWhole d (Some i)) mo march d w tests linked;
 }

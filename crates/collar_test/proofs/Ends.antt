@@ -17,8 +17,9 @@ use Rattle.word_device.specs.Ports.{shape_of, addressed, idle_more}
 use Rattle.word_device.specs.Runs.{IsCommand, IsSlot, AreSlots, IsRight, IsWrong, SomeWrong}
 use Rattle.word_device.specs.Joint.{command_on, EndsFailing}
 use Rattle.word_device.proofs.Core.{SomeReplyDiffers, AllRepliesRight}
-use Rattle.bench.specs.Memories.{Behaviour, acted_at, rested}
-use Rattle.word_faults.proofs.Memories.{IsLawful, own_answers, replies}
+use Rattle.word_device.specs.Memories.{Behaviour, acted_at, rested}
+use Rattle.word_device.specs.Answers.{own_answers}
+use Rattle.word_device.proofs.Answering.{IsLawful, replies}
 use Rattle.word_device.proofs.Cycles.{length-slots, stands, only, some_command, at_within}
 use Rattle.macro_pins.specs.Pins.{Pins}
 use Rattle.macro_pins.specs.Asked.{Asked}
@@ -277,7 +278,7 @@ module _ (mo : ModuleTree) (march : List MarchElement) (d : Description) (tests 
           let low : k < length (slots march d) = omega arith in
           let some_due : 1 ≤ length sees.due = omega arith in
           let word = answered mem (command_at 0) given_word k sees.state sees.due es here.0 x.0.pins
-          (slice_index (own_answers b Good lawful (shape_of d) (chip_of b Good lawful (shape_of d) (command_at 0) given_word sees.state []) run_cmds) k % 2 ^ d.bits)
+          (slice_index (own_answers b (shape_of d) (chip_of b Good lawful (shape_of d) (command_at 0) given_word sees.state []) run_cmds) k % 2 ^ d.bits)
           some_due sees.cycles here.1 (ap (slice_get es) then_ ∙ there)
           (read_answer b Good lawful (shape_of d) (command_at 0) given_word (length (slots march d)) es sees.state k here.0 low here.1 slot.enabled (slot.write ∙ read)) in
           let at_cycle : cycle_of march d j + d.latency ≡ suc (k + d.latency) = omega arith in

@@ -14,9 +14,10 @@ use Rattle.word_device.specs.Ports.{shape_of, shown}
 use Rattle.word_device.specs.Runs.{AreSlots, IsRight, SomeWrong}
 use Rattle.word_device.proofs.Core.{SomeReplyDiffers, AllRepliesRight}
 use Rattle.word_device.proofs.Porting.{march_in_memory}
-use Rattle.bench.specs.Memories.{Behaviour, Memory}
-use Rattle.word_faults.proofs.Memories.{IsLawful, own_answers, answers_of_slots, replies, answer_in_run}
-use Rattle.word_faults.proofs.Attaching.{command_of_operation, low_shown}
+use Rattle.word_device.specs.Memories.{Behaviour, Memory}
+use Rattle.word_device.specs.Answers.{own_answers}
+use Rattle.word_device.proofs.Answering.{IsLawful, answers_of_slots, replies, answer_in_run}
+use Rattle.word_device.proofs.Attaching.{command_of_operation, low_shown}
 
 operation_at : (d : Description) (os : List WordOp) (j : ℕ) (c : PortOp) → slice_get (map (port_op d) os) j ≡ Some c
     → (o : WordOp) × (slice_get os j ≡ Some o) × (port_op d o ≡ c)
@@ -37,7 +38,7 @@ module _ {S : Type 0} (b : Behaviour S) (Good : S → Type 0) (lawful : IsLawful
   memory = record { state = s; pending = pending; idle = idle }
 
   abbrev pub answer : ℕ → ℕ
-  answer j = slice_index (own_answers b Good lawful (shape_of d) (record { state = s; pending = pending; idle = idle }) cmds) (command_at march d j)
+  answer j = slice_index (own_answers b (shape_of d) (record { state = s; pending = pending; idle = idle }) cmds) (command_at march d j)
 
   shows : (j : ℕ) (o : WordOp) (r : ℕ) → slice_get (word_ops march d) j ≡ Some o → o.write ≡ false
       → slice_get (replies b Good lawful s (word_steps march d)) j ≡ Some r → answer j ≡ bit_xor r d.polarity

@@ -4,7 +4,7 @@ use Rattle.march_core.specs.March.{MarchElement}
 use Rattle.memory_desc.specs.Descriptions.{Description}
 use Rattle.verilog_tree.specs.Plain.{ModuleTree}
 use Rattle.verilog_tree.specs.Meaning.{Env, next}
-use Rattle.bench.specs.Memories.{Behaviour}
+use Rattle.word_device.specs.Memories.{Behaviour}
 use Rattle.macro_pins.specs.Pins.{Pins}
 use Rattle.macro_pins.specs.Macros.{Held}
 use Rattle.collar_rtl.specs.Interface.{interface}

@@ -6,8 +6,8 @@ use Rattle.word_device.specs.declared.shape.Shape.{Shape}
 use Rattle.word_device.specs.declared.device.PortCmd.{PortCmd}
 use Rattle.word_device.specs.Ports.{addressed, stored_op, shown, idle_more}
 use Rattle.word_device.proofs.Porting.{op_of}
-use Rattle.bench.specs.Memories.{Behaviour, acted_at, answer_at, rested}
-use Rattle.word_faults.proofs.Memories.{IsLawful, state_same, reply_same}
+use Rattle.word_device.specs.Memories.{Behaviour, acted_at, answer_at, rested}
+use Rattle.word_device.proofs.Answering.{IsLawful, state_same, reply_same}
 use Rattle.macro_pins.specs.Asked.{Asked}
 use Rattle.macro_pins.specs.Ports.{SameAsked}
 use Rattle.macro_pins.specs.Macros.{own}

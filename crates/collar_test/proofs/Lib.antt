@@ -4,7 +4,6 @@ pub mod Chips
 pub mod Ends
 pub mod Joint
 pub mod Runs
-pub mod Planted
 pub mod Tests
 pub mod Histories
 pub mod Uses

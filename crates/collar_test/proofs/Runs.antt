@@ -19,8 +19,8 @@ use Rattle.verilog_open.proofs.Histories.{starts_at}
 use Rattle.verilog_open.proofs.Within.{next_fits}
 use Rattle.self_test.specs.SelfTest.{SelfTest}
 use Rattle.word_device.specs.Ports.{shape_of}
-use Rattle.bench.specs.Memories.{Behaviour}
-use Rattle.word_faults.proofs.Memories.{IsLawful}
+use Rattle.word_device.specs.Memories.{Behaviour}
+use Rattle.word_device.proofs.Answering.{IsLawful}
 use Rattle.macro_pins.specs.Pins.{PinTree, Pins}
 use Rattle.macro_pins.specs.Ports.{IsPort}
 use Rattle.macro_pins.specs.Macros.{Held, Stands}

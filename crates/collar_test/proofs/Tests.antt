@@ -8,20 +8,24 @@ use Rattle.verilog_tree.specs.Plain.{ModuleTree}
 use Rattle.dynamic_core.specs.Primitive.{DynamicPrimitive}
 use Rattle.self_test.specs.SelfTest.{SelfTest}
 use Rattle.word_device.specs.Joint.{EndsFailing}
-use Rattle.bench.specs.Memories.{Behaviour, words_with}
+use Rattle.word_device.specs.Answers.{IsWhole}
+use Rattle.word_device.specs.Memories.{Behaviour, words_with}
 use Rattle.word_faults.specs.Linked.{linked}
 use Rattle.word_faults.specs.Decoders.{decoded}
 use Rattle.word_faults.specs.Dynamic.{DynPlaces, dynamic}
-use Rattle.word_faults.proofs.Attaching.{AlwaysDiffers}
+use Rattle.word_device.proofs.Attaching.{AlwaysDiffers, DiffersRested}
 use Rattle.word_faults.proofs.Linked.{linked_caught}
 use Rattle.word_faults.proofs.Decoders.{decoder_caught}
-use Rattle.word_faults.proofs.Dynamic.{IsCaughtUnarmed, dynamic_caught}
+use Rattle.word_faults.proofs.Dynamic.{dynamic_caught}
+use Rattle.word_coupling.specs.Words.{in_word}
+use Rattle.word_coupling.specs.Memories.{read_by}
+use Rattle.word_coupling.proofs.Memories.{in_word_caught}
 use Rattle.macro_pins.specs.Pins.{Pins}
-use Rattle.collar_test.specs.CollarTest.{EndsBehind, EndsBehindRest, IsShort, IsWhole, HasSize, HasHeldSize, PassesBehind, CollarTests}
+use Rattle.collar_test.specs.CollarTest.{EndsBehind, EndsBehindRest, IsShort, HasSize, HasHeldSize, PassesBehind, CollarTests}
 use Rattle.collar_test.proofs.Histories.{begins, first_cycles}
 use Rattle.collar_test.proofs.Runs.{has_runs}
 use Rattle.collar_test.proofs.Uses.{has_use, has_rest}
-use Rattle.collar_test.proofs.Planted.{lawful_words, words_caught, words_right}
+use Rattle.word_device.proofs.Wholes.{lawful_words, words_caught, words_right}
 use Rattle.collar_test.proofs.Ends.{ends_failing, ends_sound, ends_still}
 
 pub ends_caught : {S : Type 0} (b : Behaviour S) (Good : S → Type 0) (mo : ModuleTree) (march : List MarchElement) (d : Description) (p : Pins) → SelfTest mo march d → IsMemory d → IsShort p
@@ -50,7 +54,7 @@ ends_passing mo march d p tests is m short = record {
 }
 
 pub ends_unarmed : (mo : ModuleTree) (march : List MarchElement) (d : Description) (p : Pins) → SelfTest mo march d → IsMemory d → IsShort p → (prim : DynamicPrimitive) (at : DynPlaces)
-    → IsCaughtUnarmed prim at march d → EndsBehindRest (dynamic prim at) (HasHeldSize d) mo march d p EndsFailing
+    → DiffersRested (dynamic prim at) (HasHeldSize d) (λ h. h.armed ≡ false) march d → EndsBehindRest (dynamic prim at) (HasHeldSize d) mo march d p EndsFailing
 ends_unarmed mo march d p tests m short prim at caught = record {
   runs = has_runs (dynamic prim at) (HasHeldSize d) caught.lawful mo march d p tests;
   uses = has_use (dynamic prim at) (HasHeldSize d) mo march d p tests;
@@ -72,7 +76,10 @@ collar_tests mo march d p tests is m short = record {
       (words_caught march d m i (subst IsPrimitive (sym same) primitive) fits (let all : Detects march i.prim = subst (Detects march) (sym same) detects in all d.words m.words_low));
   fails_linked = λ link pair first_stays second_stays detected at places.
       ends_caught (linked link at) (HasSize d) mo march d p tests m short (linked_caught march d is m link pair first_stays second_stays detected at places);
-  fails_decoder = λ fault detected at decoder places has.
-      ends_caught (decoded d.bits decoder) (HasSize d) mo march d p tests m short (decoder_caught march d is m fault detected at decoder places has);
+  fails_decoder = λ fault detected at decoder read places has reads.
+      ends_caught (decoded decoder read) (HasSize d) mo march d p tests m short (decoder_caught march d is m fault detected at decoder read places has reads);
   fails_dynamic = λ prim dyn fresh detected at places. ends_unarmed mo march d p tests m short prim at (dynamic_caught march d m prim dyn fresh detected at places);
+  fails_in_word = λ prim reading primitive detects word agg vic bits.
+      ends_caught (read_by reading (in_word prim word agg vic)) (IsWhole d (Some (in_word prim word agg vic))) mo march d p tests m short
+      (in_word_caught march d prim reading primitive detects word agg vic bits);
 }

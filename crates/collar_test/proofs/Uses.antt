@@ -6,7 +6,7 @@ use Rattle.verilog_tree.specs.Plain.{ModuleTree}
 use Rattle.verilog_tree.specs.Meaning.{Env, next}
 use Rattle.self_test.specs.SelfTest.{SelfTest}
 use Rattle.word_device.specs.Ports.{shape_of}
-use Rattle.bench.specs.Memories.{Behaviour}
+use Rattle.word_device.specs.Memories.{Behaviour}
 use Rattle.macro_pins.specs.declared.pins.PinKind.{PinKind}
 use Rattle.macro_pins.specs.declared.pins.PinKind.TheVariants as K
 use Rattle.macro_pins.specs.Pins.{PinTree, Pins, has_enable}

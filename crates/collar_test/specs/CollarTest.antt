@@ -1,5 +1,5 @@
 -- Public. A self-test behind its collar, in front of a macro: that it has cycles there, and how it ends, whenever `test` rises.
-use Rattle.std.specs.Prelude.{◌≡◌, ◌⊎◌, ◌+◌, ◌%◌, ◌^◌, ◌≤◌, ℕ, suc, Bool, true, false, IsTrue, if◌then◌else◌, List, [], ◌∷◌, ◌++◌, Option, Some, None, length, map, slice_get, codes}
+use Rattle.std.specs.Prelude.{◌≡◌, ◌⊎◌, ◌+◌, ◌%◌, ◌^◌, ◌≤◌, ℕ, suc, Bool, true, false, IsTrue, if◌then◌else◌, List, [], ◌∷◌, ◌++◌, Some, None, length, map, slice_get, codes}
 use Rattle.std.specs.Str.{bytes_eq}
 use Rattle.fault_core.specs.Primitive.{Primitive, IsPrimitive, is_retention}
 use Rattle.march_core.specs.March.{MarchElement, IsMarch}
@@ -18,10 +18,11 @@ use Rattle.self_test.specs.SelfTest.{SelfTest}
 use Rattle.word_device.specs.declared.device.Planted.{Planted}
 use Rattle.word_device.specs.declared.device.PortCmd.{PortCmd}
 use Rattle.word_device.specs.declared.shape.Shape.{Shape}
-use Rattle.word_device.specs.Chips.{closed_by, FitsMemory}
+use Rattle.word_device.specs.Chips.{FitsMemory}
 use Rattle.word_device.specs.Ports.{shape_of, addressed, idle_more}
 use Rattle.word_device.specs.Joint.{EndsFailing}
-use Rattle.bench.specs.Memories.{Behaviour, acted_at, answer_at, rested, words_with}
+use Rattle.word_device.specs.Answers.{IsWhole}
+use Rattle.word_device.specs.Memories.{Behaviour, acted_at, answer_at, rested, words_with}
 use Rattle.linked_faults.specs.declared.link.Link.{Link}
 use Rattle.linked_faults.specs.Linking.{IsLinked}
 use Rattle.linked_faults.specs.Detection.{Detects as DetectsLink}
@@ -33,7 +34,10 @@ use Rattle.dynamic_core.specs.Detecting.{DetectsDyn}
 use Rattle.word_faults.specs.Laws.{BeginsAfresh}
 use Rattle.word_faults.specs.Linked.{Bits, FitsBits, linked}
 use Rattle.word_faults.specs.Dynamic.{DynPlaces, FitsDynPlaces, HeldWords, dynamic}
-use Rattle.word_faults.specs.Decoders.{decoded}
+use Rattle.word_faults.specs.Decoders.{decoded, ReadsSomeBit}
+use Rattle.word_coupling.specs.declared.reading.Reading.{Reading}
+use Rattle.word_coupling.specs.Words.{in_word, AreBits, DetectsBy}
+use Rattle.word_coupling.specs.Memories.{read_by}
 use Rattle.macro_pins.specs.declared.pins.PinKind.{PinKind}
 use Rattle.macro_pins.specs.declared.pins.PinKind.TheVariants.{Tie}
 use Rattle.macro_pins.specs.Pins.{PinTree, Pins, has_enable}
@@ -69,11 +73,6 @@ IsKind Good s = Good s.state
 -- as many words as the memory has
 abbrev pub HasSize : Description → List ℕ → Type 0
 HasSize d words = length words ≡ d.words
-
--- and closed
-pub record IsWhole (d : Description) (planted : Option Planted) (words : List ℕ) : Type 0 where
-  pub size : length words ≡ d.words
-  pub closed : closed_by planted words ≡ words
 
 -- ---- cycles
 
@@ -235,14 +234,20 @@ abbrev pub FailsBehind : ModuleTree → List MarchElement → Description → Pi
 FailsBehind mo march d p prim =
     (i : Planted) → i.prim ≡ prim → FitsMemory i d.words d.bits → EndsBehind (words_with (Some i)) (IsWhole d (Some i)) mo march d p EndsFailing
 
--- so beside each linked fault at bits of any three words, and each fault of the decoder at any two, whatever else is wrong with it
+-- so beside each linked fault at bits of different words, and each fault of the decoder at any two, whatever else is wrong with it
 abbrev pub FailsLinkedBehind : ModuleTree → List MarchElement → Description → Pins → Link → Type 0
 FailsLinkedBehind mo march d p link = (at : Bits) → FitsBits link at d.words d.bits → EndsBehind (linked link at) (HasSize d) mo march d p EndsFailing
 
 abbrev pub FailsDecoderBehind : ModuleTree → List MarchElement → Description → Pins → DecoderFault → Type 0
 FailsDecoderBehind mo march d p fault =
-    (at : AddressPair) (decoder : Decoder) → FitsPair at d.words → HasFault decoder fault at
-    → EndsBehind (decoded d.bits decoder) (HasSize d) mo march d p EndsFailing
+    (at : AddressPair) (decoder : Decoder) (read : ℕ → List ℕ → ℕ) → FitsPair at d.words → HasFault decoder fault at → ReadsSomeBit d.bits decoder read
+    → EndsBehind (decoded decoder read) (HasSize d) mo march d p EndsFailing
+
+-- and beside each instance at two bits of one word, in this reading
+abbrev pub FailsInWordBehind : ModuleTree → List MarchElement → Description → Pins → Reading → Primitive → Type 0
+FailsInWordBehind mo march d p reading prim =
+    (word agg vic : ℕ) → AreBits d word agg vic
+    → EndsBehind (read_by reading (in_word prim word agg vic)) (IsWhole d (Some (in_word prim word agg vic))) mo march d p EndsFailing
 
 -- and beside each instance of a dynamic primitive, at any place that fits
 abbrev pub HasHeldSize : Description → HeldWords → Type 0
@@ -274,8 +279,9 @@ pub record TestsBehind (mo : ModuleTree) (march : List MarchElement) (d : Descri
       → FailsLinkedBehind mo march d p link
   pub fails_decoder : (fault : DecoderFault) → DetectsDecoder march fault → FailsDecoderBehind mo march d p fault
   -- where a run of the background 0 begins afresh
-  pub fails_dynamic : (prim : DynamicPrimitive) → IsDynamic prim → BeginsAfresh march d → DetectsDyn march prim
+  pub fails_dynamic : (prim : DynamicPrimitive) → IsDynamic prim → BeginsAfresh prim march d → DetectsDyn march prim
       → FailsDynamicBehind mo march d p prim
+  pub fails_in_word : (prim : Primitive) (reading : Reading) → IsPrimitive prim → DetectsBy reading march d prim → FailsInWordBehind mo march d p reading prim
 
 abbrev pub CollarTests : Type 0
 CollarTests =

@@ -1,5 +1,5 @@
 -- Public. What a collar's top connects.
-use Rattle.std.specs.Prelude.{◌≡◌, ℕ, true, false, Option, List, [], ◌∷◌, ◌++◌, map, codes}
+use Rattle.std.specs.Prelude.{◌≡◌, ℕ, true, false, Option, Some, List, [], ◌∷◌, ◌++◌, map, codes}
 use Rattle.march_core.specs.March.{MarchElement}
 use Rattle.memory_desc.specs.Descriptions.{Description}
 use Rattle.verilog_tree.specs.declared.tree.Dir.TheVariants.{Input, Output}
@@ -9,13 +9,16 @@ use Rattle.self_test.specs.WrongPort.{is_input}
 use Rattle.self_test.specs.SelfTest.{SelfTest}
 use Rattle.word_device.specs.declared.device.Planted.{Planted}
 use Rattle.word_device.specs.Ports.{shape_of}
-use Rattle.bench.specs.Memories.{Behaviour, words_with}
+use Rattle.word_device.specs.Memories.{Behaviour, words_with}
+use Rattle.word_device.specs.Answers.{IsWhole}
 use Rattle.linked_faults.specs.declared.link.Link.{Link}
 use Rattle.decoder_faults.specs.Decoding.{Decoder}
 use Rattle.dynamic_core.specs.Primitive.{DynamicPrimitive}
 use Rattle.word_faults.specs.Linked.{Bits, linked as linked_at}
 use Rattle.word_faults.specs.Decoders.{decoded}
 use Rattle.word_faults.specs.Dynamic.{DynPlaces, dynamic}
+use Rattle.word_coupling.specs.declared.reading.Reading.{Reading}
+use Rattle.word_coupling.specs.Memories.{read_by}
 use Rattle.chip_rtl.specs.ChipTree.{LinkTree, PlacedTree}
 use Rattle.chip_rtl.specs.Together.{net_of}
 use Rattle.macro_pins.specs.Pins.{PinTree}
@@ -23,7 +26,7 @@ use Rattle.macro_pins.specs.Macros.{Values, Held, MacroCycle}
 use Rattle.collar_rtl.specs.Interface.{test, at_pin, port, interface}
 use Rattle.collar_top.specs.Links.{all_once}
 use Rattle.collar_top.specs.CollarTops.{Placing, placed_three, interface_name, collar_top_of}
-use Rattle.collar_test.specs.CollarTest.{Among, is_tied, Cycle, Linked, Kept, memory_of, IsKind, IsWhole, HasSize, HasHeldSize, AreRun}
+use Rattle.collar_test.specs.CollarTest.{Among, is_tied, Cycle, Linked, Kept, memory_of, IsKind, HasSize, HasHeldSize, AreRun}
 
 -- A placed module: each of its inputs has the value of the net that it is linked to, and each net that an output is linked to has that of the
 -- output.
@@ -111,8 +114,9 @@ module _ {S : Type 0} (b : Behaviour S) (Good : S → Type 0) (mo : ModuleTree) 
 pub record TopRuns (mo : ModuleTree) (march : List MarchElement) (d : Description) (w : Placing) : Type 0 where
   pub words : (planted : Option Planted) → RunsInTop (words_with planted) (IsWhole d planted) mo march d w
   pub links : (link : Link) (at : Bits) → RunsInTop (linked_at link at) (HasSize d) mo march d w
-  pub decoders : (decoder : Decoder) → RunsInTop (decoded d.bits decoder) (HasSize d) mo march d w
+  pub decoders : (decoder : Decoder) (read : ℕ → List ℕ → ℕ) → RunsInTop (decoded decoder read) (HasSize d) mo march d w
   pub dynamics : (prim : DynamicPrimitive) (at : DynPlaces) → RunsInTop (dynamic prim at) (HasHeldSize d) mo march d w
+  pub in_words : (reading : Reading) (i : Planted) → RunsInTop (read_by reading i) (IsWhole d (Some i)) mo march d w
 
 abbrev pub TopShows : Type 0
 TopShows =

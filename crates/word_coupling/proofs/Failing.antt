@@ -20,7 +20,7 @@ use Rattle.word_coupling.specs.Words.{in_word, is_wrong, is_caught}
 use Rattle.word_coupling.specs.Joint.{HasDetectedInWord, FailsInWord, JointFailsInWord}
 
 -- a wrong read differs
-wrong_differs : (bits : ℕ) (o : WordOp) (reply : ℕ) → is_wrong bits o reply ≡ true → (o.write ≡ false) × (reply % 2 ^ bits ≢ o.word)
+pub wrong_differs : (bits : ℕ) (o : WordOp) (reply : ℕ) → is_wrong bits o reply ≡ true → (o.write ≡ false) × (reply % 2 ^ bits ≢ o.word)
 wrong_differs bits o reply wrong = go o.write refl wrong
   where
     go : (write : Bool) → o.write ≡ write → (not write && not (reply % 2 ^ bits == o.word)) ≡ true → (o.write ≡ false) × (reply % 2 ^ bits ≢ o.word)

@@ -8,6 +8,7 @@ pub mod Contents
 pub mod Verdicts
 pub mod Found
 pub mod Failing
+pub mod Memories
 pub mod Passing
 pub mod Reports
 pub mod Digits

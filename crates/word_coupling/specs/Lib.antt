@@ -1,6 +1,7 @@
 pub mod Words
 pub mod Escapes
 pub mod Joint
+pub mod Memories
 pub mod Alike
 pub mod Report
 pub mod Digits

@@ -31,8 +31,8 @@ mod report;
 
 pub use judging::{FoundEscape, WordEscape, judge_in_word};
 pub use laws::{
-    digits_are_of_places, escape_in_word_passes, in_word_report_is_one, planted_in_word_fails,
-    readings_are_alike,
+    digits_are_of_places, escape_in_word_passes, in_word_answers_wrong, in_word_report_is_one,
+    planted_in_word_fails, readings_are_alike,
 };
 pub use reading::{Reading, Readings};
 pub use report::{InWordReport, report_in_word};

@@ -23,7 +23,7 @@ carried : (o : PortOp) (q : PortValues) → Carries o q → IsCommand o (command
 carried o q c = record { enabled = c.enabled; write = c.write; address = c.address; word = c.word }
 
 -- the ports in a cycle of the run
-port_slot : (march : List MarchElement) (d : Description) (returned : ℕ → ℕ) (t : ℕ) (s : Option PortOp) (q : PortValues) → PortRule march d returned t q
+pub port_slot : (march : List MarchElement) (d : Description) (returned : ℕ → ℕ) (t : ℕ) (s : Option PortOp) (q : PortValues) → PortRule march d returned t q
     → slice_get (run_slots march d) t ≡ Some s → IsSlot s (command_on q)
 port_slot march d returned zero s q rule at =
     let idle : ◌≡◌ {A = Option PortOp} None s = cc in
@@ -45,7 +45,7 @@ port_slot march d returned (suc k) None q rule at =
         let c = some_command march d j within in
         (c.0, ap (slice_get (slots march d)) here ∙ stands march d j c.0 c.1)
 
-slots_from : (ss : List (Option PortOp)) (f : ℕ → PortCmd) (a : ℕ) → ((t : ℕ) (s : Option PortOp) → slice_get ss t ≡ Some s → IsSlot s (f (a + t)))
+pub slots_from : (ss : List (Option PortOp)) (f : ℕ → PortCmd) (a : ℕ) → ((t : ℕ) (s : Option PortOp) → slice_get ss t ≡ Some s → IsSlot s (f (a + t)))
     → AreSlots ss (map f (range_with_len a (length ss)))
 slots_from [] f a each = tt
 slots_from (s ∷ ss) f a each =

@@ -13,4 +13,7 @@ pub mod Running
 pub mod Marching
 pub mod Joining
 pub mod Joint
+pub mod Answering
+pub mod Attaching
+pub mod Wholes
 pub mod WayBack

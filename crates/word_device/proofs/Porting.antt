@@ -113,7 +113,7 @@ falls_same None place k a b = refl
 falls_same (Some sense) None k a b = refl
 falls_same (Some sense) (Some p) k a b = refl
 
-matches_read : (i : Planted) (ws : List ℕ) (k a b : ℕ) → matches i ws (op_of false k a) ≡ matches i ws (op_of false k b)
+pub matches_read : (i : Planted) (ws : List ℕ) (k a b : ℕ) → matches i ws (op_of false k a) ≡ matches i ws (op_of false k b)
 unfolding matches
 matches_read i ws k a b =
     ap (λ t. (falls_on i.prim.vic.act i.vic (op_of false k a) || t) && bits_hold i ws) (falls_same i.prim.agg i.agg k a b)

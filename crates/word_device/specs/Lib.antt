@@ -4,5 +4,6 @@ pub mod Ports
 pub mod Boxes
 pub mod Runs
 pub mod Joint
+pub mod Answers
 pub mod WayBack
 pub mod inner

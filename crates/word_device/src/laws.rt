@@ -3,6 +3,7 @@ ghost use Rattle.word_device.specs.declared.shape.Shape.{Shape};
 ghost use Rattle.word_device.specs.Boxes.{IsShape};
 ghost use Rattle.word_device.specs.Runs.{Closes, FailsPlanted, FailsAlone, FailsFresh, PassesPlain, PassesAlone};
 ghost use Rattle.word_device.specs.Joint.{JointFails, JointPasses, JointEnds, SameWords, SameFirst};
+ghost use Rattle.word_device.specs.Answers.{PlantedWrong};
 
 use march_core::March;
 use memory_desc::Memory;
@@ -24,6 +25,13 @@ pub fn planted_fails(march: &March, memory: &Memory)
 /// So does a chip in which it was just planted.
 pub fn freshly_planted_fails(march: &March, memory: &Memory)
     ensures { FailsFresh march.now memory.now }
+{
+    memory.known();
+}
+
+/// The same of a memory of words behind its port, at any place that fits.
+pub fn planted_answers_wrong(march: &March, memory: &Memory)
+    ensures { PlantedWrong march.now memory.now }
 {
     memory.known();
 }

@@ -39,7 +39,7 @@ pub use counting::CountDevice;
 pub use device::{BitPlace, Device, DeviceFault, Planted, PortCmd};
 pub use laws::{
     closing, first_differs, freshly_planted_fails, joint_fails, joint_passes,
-    pauses_are_those_of_memories, planted_fails, unplanted_passes,
+    pauses_are_those_of_memories, planted_answers_wrong, planted_fails, unplanted_passes,
 };
 pub use no_fit::NoFitDevice;
 pub use shape::{Shape, shape_of};

@@ -1,5 +1,5 @@
 -- Memories of words with a fault do what planted instances, cells and plain words do.
-use Rattle.std.proofs.Common.{◌≡◌, ◌<◌, not, ◌&&◌, ℕ, Bool, true, false, Option, Some, None, List, refl, ap, sym, ◌∙◌}
+use Rattle.std.proofs.Common.{◌≡◌, not, ◌&&◌, ℕ, Bool, true, false, Option, Some, None, List, refl, ap, sym, ◌∙◌}
 use Rattle.std.specs.Prelude.{if◌then◌else◌, slice_set, slice_index, bit_xor, ◌^◌}
 use Rattle.std.proofs.lemmas.List.{set-get_or}
 use Rattle.fault_core.specs.Primitive.{same_bit, is_retention}
@@ -10,12 +10,9 @@ use Rattle.word_device.specs.declared.device.Planted.{Planted}
 use Rattle.word_device.specs.Chips.{has_bit, with_bit, with_bit_in, bit_in, bits_hold, closed_words, matches, plain_words, plain_reply, acted_words, answered, paused_words, words_after, reply_to}
 use Rattle.linked_faults.specs.declared.link.Link.{Link}
 use Rattle.linked_faults.specs.Linking.{IsLinked}
-use Rattle.decoder_faults.specs.Decoding.{read_through}
 use Rattle.word_faults.specs.Linked.{Bits, first_of, second_of, linked}
-use Rattle.word_faults.specs.Decoders.{read_words}
-use Rattle.word_faults.specs.Cells.{column}
 use Rattle.word_faults.specs.Dynamic.{is_second}
-use Rattle.word_faults.specs.Alike.{DoesAs, LinkedAsOne, DecodedByBits, DecodedPlainly, ChangesVictim, DynamicInPlace}
+use Rattle.word_faults.specs.Alike.{DoesAs, LinkedAsOne, DecodedByBits, DecodedPlainly, ChangesVictim, DynamicInPlace, DynamicRests}
 use Rattle.word_faults.proofs.Decoders.{acts_as, read_as}
 
 -- ---- linked primitives
@@ -69,19 +66,14 @@ as_one link at is = record {
 -- ---- the decoder
 
 pub by_bits : DecodedByBits
-by_bits bits decoder = record {
-  after = λ words o j. acts_as bits j decoder words o;
-  reply = λ words o j low read. replies words o j low o.write read;
+by_bits decoder = record {
+  after = λ read words o j. acts_as j decoder read words o;
+  reads = λ bits k words j low. read_as bits j low (decoder k) words;
 }
-  where
-    replies : (words : List ℕ) (o : WordOp) (j : ℕ) → j < bits → (write : Bool) → write ≡ false
-        → has_bit (if write then 0 else read_words bits (decoder o.index) words) j ≡ read_through (decoder o.index) (column j words)
-    replies words o j low true read = cc
-    replies words o j low false read = read_as bits j low (decoder o.index) words
 
 pub plainly : DecodedPlainly
 unfolding words_after reply_to
-plainly bits words o = ((refl, refl), refl)
+plainly words o = ((refl, refl), refl)
 
 -- ---- a dynamic primitive
 
@@ -122,3 +114,6 @@ in_place p at h o = go (is_second p at h o) refl
       read = has_bit shown at.vic.bit;
       reply = ap (λ (b : Bool). if b then answered p.answer at.vic shown else shown) is ∙ sym (own_bit shown at.vic.bit);
     }
+
+pub rests : DynamicRests
+rests p at h = record { idled = refl; paused = refl }

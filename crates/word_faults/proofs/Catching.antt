@@ -1,5 +1,5 @@
 -- Where a state of the memory is seen as cells that the march catches, some reply in the run of the background 0 differs.
-use Rattle.std.proofs.Common.{◌≡◌, ◌≢◌, ◌<◌, ◌^◌, ◌%◌, ℕ, zero, suc, Bool, true, false, Option, Some, None, List, [], ◌∷◌, ◌++◌, length, map, refl, sym, subst, ◌⊎◌, inl, inr, arith}
+use Rattle.std.proofs.Common.{◌≡◌, ◌≢◌, ◌<◌, ◌^◌, ◌%◌, ℕ, zero, suc, Bool, true, false, Option, Some, None, List, [], ◌∷◌, ◌++◌, length, map, refl, ap, sym, subst, arith}
 use Rattle.std.specs.Prelude.{slice_get, slice_index_or}
 use Rattle.std.specs.List.{flat_map}
 use Rattle.march_core.specs.March.{MarchElement}
@@ -10,8 +10,13 @@ use Rattle.memory_desc.specs.Descriptions.{Description, IsMemory}
 use Rattle.word_march.specs.declared.operations.WordOp.{WordOp}
 use Rattle.word_march.specs.Commands.{word_op, word_step, word_steps}
 use Rattle.word_device.proofs.Core.{SomeReplyDiffers}
-use Rattle.bench.specs.Memories.{Behaviour}
-use Rattle.word_faults.proofs.Memories.{IsLawful, replies}
+use Rattle.word_device.specs.Memories.{Behaviour}
+use Rattle.word_device.proofs.Answering.{IsLawful, replies}
+
+pub solid_at : (set : List ℕ) (k : ℕ) → k < length set → slice_index_or set k 0 ≡ 0 → slice_get set k ≡ Some 0
+solid_at [] k inside zero_is = absurd (omega arith)
+solid_at (x ∷ xs) zero inside zero_is = ap Some zero_is
+solid_at (x ∷ xs) (suc k) inside zero_is = solid_at xs k (omega arith) zero_is
 
 module _ {S : Type 0} (b : Behaviour S) (Good : S → Type 0) (lawful : IsLawful b Good) (bits : ℕ) where
   unfoldable pub stepped : S → Option WordOp → S
@@ -79,7 +84,7 @@ module _ {S : Type 0} (b : Behaviour S) (Good : S → Type 0) (lawful : IsLawful
         (caught_steps (before ++ visiting v ∷ after_) rest (b.after s o) (lawful.good_after s o good) v before after_ refl
         (subst (λ (c : C). is_wrong (left_behind after c before) v ≡ true) (sym (visits_as s w good)) wrong)))
 
-    -- the runs of the backgrounds, up to one of the background 0: the first, or else any where each begins with a state of this kind
+    -- the runs of the backgrounds, up to one of the background 0 that begins with a state of this kind
     module _ (march : List MarchElement) (d : Description) (same_bits : d.bits ≡ bits) (Begun : S → Type 0)
         (caught : (rest : List (Option WordOp)) (s : S) → Good s → Begun s
         → SomeReplyDiffers bits (map (word_step bits 0) (visits march (up march) d.words) ++ rest) (replies b Good lawful s (map (word_step bits 0) (visits march (up march) d.words) ++ rest))) where
@@ -89,31 +94,32 @@ module _ {S : Type 0} (b : Behaviour S) (Good : S → Type 0) (lawful : IsLawful
       abbrev Fails : List ℕ → S → Type 0
       Fails set s = SomeReplyDiffers bits (flat_map one_run set) (replies b Good lawful s (flat_map one_run set))
 
+      -- so the run before the one at a place leaves it
+      abbrev pub LeavesBegun : List ℕ → ℕ → Type 0
+      LeavesBegun set zero = Unit {0}
+      LeavesBegun set (suc k) = (x : ℕ) → slice_get set k ≡ Some x → (s : S) → Good s → Begun (behind s (one_run x))
+
       first_run : (x : ℕ) (xs : List ℕ) (s : S) → x ≡ 0 → Good s → Begun s → Fails (x ∷ xs) s
       first_run x xs s solid good begun =
           let rest : List (Option WordOp) = flat_map one_run xs in
           subst (λ y. SomeReplyDiffers bits (one_run y ++ rest) (replies b Good lawful s (one_run y ++ rest))) (sym solid) (caught rest s good begun)
 
-      later_run : ((x : ℕ) (s : S) → Good s → Begun (behind s (one_run x))) → (set : List ℕ) (k : ℕ) → k < length set → slice_index_or set k 0 ≡ 0 → (s : S) → Good s → Begun s → Fails set s
-      later_run begins [] k inside solid s good begun = absurd (omega arith)
-      later_run begins (x ∷ xs) zero inside solid s good begun = first_run x xs s solid good begun
-      later_run begins (x ∷ xs) (suc k) inside solid s good begun =
+      some_run : (set : List ℕ) (k : ℕ) → slice_get set k ≡ Some 0 → LeavesBegun set k → (s : S) → Good s → (k ≡ 0 → Begun s) → Fails set s
+      some_run [] k at before s good begun = cc
+      some_run (x ∷ xs) zero at before s good begun = first_run x xs s (let solid : x ≡ 0 = cc in solid) good (begun refl)
+      some_run (x ∷ xs) (suc zero) at before s good begun =
           skipped (one_run x) (flat_map one_run xs) s
-          (later_run begins xs k (omega arith) solid (behind s (one_run x)) (good_behind (one_run x) s good) (begins x s good))
+          (some_run xs zero at tt (behind s (one_run x)) (good_behind (one_run x) s good) (λ e. before x refl s good))
+      some_run (x ∷ xs) (suc (suc k)) at before s good begun =
+          skipped (one_run x) (flat_map one_run xs) s
+          (some_run xs (suc k) at before (behind s (one_run x)) (good_behind (one_run x) s good) (λ e. cc))
 
-      some_run : (set : List ℕ) (k : ℕ) → k < length set → slice_index_or set k 0 ≡ 0 → (slice_get set 0 ≡ Some 0) ⊎ ((x : ℕ) (s : S) → Good s → Begun (behind s (one_run x)))
-          → (s : S) → Good s → Begun s → Fails set s
-      some_run set k inside solid (inr begins) s good begun = later_run begins set k inside solid s good begun
-      some_run [] k inside solid (inl first) s good begun = absurd (omega arith)
-      some_run (x ∷ xs) k inside solid (inl first) s good begun = first_run x xs s (let zero_is : x ≡ 0 = cc in zero_is) good begun
-
-      pub catches_begun : IsMemory d → (slice_get d.backgrounds 0 ≡ Some 0) ⊎ ((x : ℕ) (s : S) → Good s → Begun (behind s (one_run x))) → (s : S) → Good s → Begun s
+      pub catches_begun : (k : ℕ) → slice_get d.backgrounds k ≡ Some 0 → LeavesBegun d.backgrounds k → (s : S) → Good s → Begun s
           → SomeReplyDiffers d.bits (word_steps march d) (replies b Good lawful s (word_steps march d))
-      catches_begun memory begins s good begun =
-          let solid = memory.tested.solid in
+      catches_begun k at before s good begun =
           subst (λ n. SomeReplyDiffers n (flat_map (λ x. map (word_step n x) (visits march (up march) d.words)) d.backgrounds)
           (replies b Good lawful s (flat_map (λ x. map (word_step n x) (visits march (up march) d.words)) d.backgrounds))) (sym same_bits)
-          (some_run d.backgrounds solid.0 solid.1 solid.2 begins s good begun)
+          (some_run d.backgrounds k at before s good (λ e. begun))
 
     -- a run of the background 0
     pub one_caught : (vs : List MarchStep) (rest : List (Option WordOp)) (s : S) → Good s → SomeDiffersBy after is_wrong (view s) vs
@@ -123,4 +129,11 @@ module _ {S : Type 0} (b : Behaviour S) (Good : S → Type 0) (lawful : IsLawful
     pub catches : (march : List MarchElement) (d : Description) → d.bits ≡ bits → ((s : S) → Good s → SomeDiffersBy after is_wrong (view s) (visits march (up march) d.words))
         → IsMemory d → (s : S) → Good s → SomeReplyDiffers d.bits (word_steps march d) (replies b Good lawful s (word_steps march d))
     catches march d same_bits caught memory s good =
-        catches_begun march d same_bits (λ s. Unit {0}) (λ rest s good begun. one_caught (visits march (up march) d.words) rest s good (caught s good)) memory (inr (λ x s good. tt)) s good tt
+        let solid = memory.tested.solid in
+        catches_begun march d same_bits (λ s. Unit {0}) (λ rest s good begun. one_caught (visits march (up march) d.words) rest s good (caught s good)) solid.0
+        (solid_at d.backgrounds solid.0 solid.1 solid.2) (any d.backgrounds solid.0) s good tt
+      where
+        any : (set : List ℕ) (k : ℕ)
+            → LeavesBegun march d same_bits (λ s. Unit {0}) (λ rest s good begun. one_caught (visits march (up march) d.words) rest s good (caught s good)) set k
+        any set zero = tt
+        any set (suc k) = λ x at s good. tt

@@ -16,6 +16,8 @@ use Rattle.word_march.specs.Commands.{word_op}
 use Rattle.word_march.specs.declared.operations.WordOp.{WordOp}
 use Rattle.word_device.specs.Chips.{has_bit, act_on}
 use Rattle.word_device.proofs.Lanes.{lane_set, lane_cell, length-lane, has_bit-zero}
+use Rattle.word_device.proofs.Answering.{IsLawful}
+use Rattle.word_device.proofs.Attaching.{AlwaysDiffers, from_any, answers_wrong}
 use Rattle.decoder_faults.specs.declared.fault.DecoderFault.{DecoderFault}
 use Rattle.decoder_faults.specs.declared.fault.Wired.{Wired}
 use Rattle.decoder_faults.specs.declared.fault.Wired.TheVariants.{And, Or, Own}
@@ -23,11 +25,10 @@ use Rattle.decoder_faults.specs.Decoding.{AddressPair, FitsPair, HasFault, Decod
 use Rattle.decoder_faults.specs.Detection.{cells_behind, is_wrong_there, DetectsDecoder}
 use Rattle.decoder_faults.proofs.Among.{caught_among}
 use Rattle.decoder_faults.proofs.TakenCells.{met_where}
-use Rattle.word_faults.specs.Laws.{DecoderFails}
+use Rattle.word_faults.specs.Laws.{DecoderWrong}
 use Rattle.word_faults.specs.Cells.{column}
-use Rattle.word_faults.specs.Decoders.{write_words, wired_words, read_words, decoded}
-use Rattle.word_faults.proofs.Memories.{IsLawful}
-use Rattle.word_faults.proofs.Attaching.{AlwaysDiffers, ends_failing}
+use Rattle.word_faults.specs.Decoders.{write_words, decoded, ReadsSomeBit}
+use Rattle.word_faults.specs.Alike.{wired_words, read_words}
 use Rattle.word_faults.proofs.Catching.{catches}
 use Rattle.word_faults.proofs.Solid.{act_solid, wrong_read, word_differs, up_fits}
 
@@ -74,8 +75,8 @@ read_as bits j some (two_cells wired c e) ws =
     cell_at : List ℕ → ℕ → Bool
     cell_at ws c = read_through (one_cell c) (column j ws)
 
-pub acts_as : (bits j : ℕ) (decoder : Decoder) (ws : List ℕ) (o : WordOp) → column j ((decoded bits decoder).after ws o) ≡ act_through (decoder o.index) (column j ws) (act_on o j)
-acts_as bits j decoder ws o = go o.write
+pub acts_as : (j : ℕ) (decoder : Decoder) (read : ℕ → List ℕ → ℕ) (ws : List ℕ) (o : WordOp) → column j ((decoded decoder read).after ws o) ≡ act_through (decoder o.index) (column j ws) (act_on o j)
+acts_as j decoder read ws o = go o.write
   where
     go : (write : Bool) → column j (if write then write_words (decoder o.index) ws o.word else ws)
         ≡ act_through (decoder o.index) (column j ws) (if write then Write (has_bit o.word j) else Read)
@@ -89,8 +90,8 @@ length_written (no_cell answer) ws word = refl
 length_written (one_cell c) ws word = length-set ws c word
 length_written (two_cells wired c e) ws word = length-set (slice_set ws c word) e word ∙ length-set ws c word
 
-lawful : (bits words : ℕ) (decoder : Decoder) → IsLawful (decoded bits decoder) (λ ws. length ws ≡ words)
-lawful bits words decoder = record {
+lawful : (words : ℕ) (decoder : Decoder) (read : ℕ → List ℕ → ℕ) → IsLawful (decoded decoder read) (λ ws. length ws ≡ words)
+lawful words decoder read = record {
   same_after = λ s k x y. refl;
   same_reply = λ s k x y. refl;
   good_after = λ s o good. by o.write s o.index o.word good;
@@ -105,42 +106,46 @@ lawful bits words decoder = record {
     by true s k word good = length_written (decoder k) s word ∙ good
     by false s k word good = good
 
-module _ (bits : ℕ) (some : 0 < bits) (decoder : Decoder) where
-  visits_as : (ws : List ℕ) (v : Visit) → column 0 ((decoded bits decoder).after ws (word_op bits 0 v)) ≡ cells_behind decoder (column 0 ws) (visiting v)
-  visits_as ws v = acts_as bits 0 decoder ws (word_op bits 0 v) ∙ ap (act_through (decoder v.address) (column 0 ws)) (act_solid bits 0 v some)
+module _ (bits : ℕ) (decoder : Decoder) (read : ℕ → List ℕ → ℕ) (reads : ReadsSomeBit bits decoder read) where
+  abbrev seen : List ℕ → List Bool
+  seen ws = column reads.bit ws
 
-  wrong_as : (ws : List ℕ) (v : Visit) → is_wrong_there decoder (column 0 ws) v ≡ true
-      → (is_write v.op ≡ false) × ((decoded bits decoder).reply ws (word_op bits 0 v) % 2 ^ bits ≢ word_of 0 (data_value v.op) bits)
+  visits_as : (ws : List ℕ) (v : Visit) → seen ((decoded decoder read).after ws (word_op bits 0 v)) ≡ cells_behind decoder (seen ws) (visiting v)
+  visits_as ws v = acts_as reads.bit decoder read ws (word_op bits 0 v) ∙ ap (act_through (decoder v.address) (seen ws)) (act_solid bits reads.bit v reads.low)
+
+  wrong_as : (ws : List ℕ) (v : Visit) → is_wrong_there decoder (seen ws) v ≡ true
+      → (is_write v.op ≡ false) × ((decoded decoder read).reply ws (word_op bits 0 v) % 2 ^ bits ≢ word_of 0 (data_value v.op) bits)
   wrong_as ws v wrong =
-      let bad = wrong_read v.op (answer_through (decoder v.address) (column 0 ws) (act_of v.op)) wrong in
-      let reply : (decoded bits decoder).reply ws (word_op bits 0 v) ≡ read_words bits (decoder v.address) ws =
-      ap (λ (w : Bool). if w then 0 else read_words bits (decoder v.address) ws) bad.0 in
-      let shown : answer_through (decoder v.address) (column 0 ws) (act_of v.op) ≡ Some (has_bit ((decoded bits decoder).reply ws (word_op bits 0 v)) 0) =
-      ap (answer_through (decoder v.address) (column 0 ws)) bad.1 ∙ ap Some (sym (read_as bits 0 some (decoder v.address) ws)) ∙ ap (λ n. Some (has_bit n 0)) (sym reply) in
-      (bad.0, word_differs bits 0 v ((decoded bits decoder).reply ws (word_op bits 0 v)) some (λ e. bad.2 (shown ∙ e)))
+      let bad = wrong_read v.op (answer_through (decoder v.address) (seen ws) (act_of v.op)) wrong in
+      let reply : (decoded decoder read).reply ws (word_op bits 0 v) ≡ read v.address ws =
+      ap (λ (w : Bool). if w then 0 else read v.address ws) bad.0 in
+      let shown : answer_through (decoder v.address) (seen ws) (act_of v.op) ≡ Some (has_bit ((decoded decoder read).reply ws (word_op bits 0 v)) reads.bit) =
+      ap (answer_through (decoder v.address) (seen ws)) bad.1 ∙ ap Some (sym (reads.as_cell v.address ws)) ∙ ap (λ n. Some (has_bit n reads.bit)) (sym reply) in
+      (bad.0, word_differs bits reads.bit v ((decoded decoder read).reply ws (word_op bits 0 v)) reads.low (λ e. bad.2 (shown ∙ e)))
 
 -- ---- the test
 
 pub decoder_caught : (march : List MarchElement) (d : Description) → IsMarch march → IsMemory d → (fault : DecoderFault) → DetectsDecoder march fault → (at : AddressPair) (decoder : Decoder)
-    → FitsPair at d.words → HasFault decoder fault at → AlwaysDiffers (decoded d.bits decoder) (λ s. length s ≡ d.words) march d
-decoder_caught march d marches is fault detected at decoder places fault_is =
-    let some : 0 < d.bits = let low = is.bits_low in omega arith in
-    let law = lawful d.bits d.words decoder in
+    (read : ℕ → List ℕ → ℕ) → FitsPair at d.words → HasFault decoder fault at → ReadsSomeBit d.bits decoder read → AlwaysDiffers (decoded decoder read) (λ s. length s ≡ d.words) march d
+decoder_caught march d marches is fault detected at decoder read places fault_is reads =
+    let law = lawful d.words decoder read in
     let Good : List ℕ → Type 0 = λ ws. length ws ≡ d.words in
     record {
       lawful = law;
       differs =
-          catches (decoded d.bits decoder) Good law d.bits (cells_behind decoder) (is_wrong_there decoder) (column 0)
-          (λ s v good. visits_as d.bits some decoder s v) (λ s e good. refl) (λ s v good wrong. wrong_as d.bits some decoder s v wrong) march d refl
+          catches (decoded decoder read) Good law d.bits (cells_behind decoder) (is_wrong_there decoder) (column reads.bit)
+          (λ s v good. visits_as d.bits decoder read reads s v) (λ s e good. refl) (λ s v good wrong. wrong_as d.bits decoder read reads s v wrong) march d refl
           (λ s good. by s good) is;
     }
   where
-    by : (s : List ℕ) → length s ≡ d.words → SomeDiffersBy (cells_behind decoder) (is_wrong_there decoder) (column 0 s) (visits march (up march) d.words)
+    by : (s : List ℕ) → length s ≡ d.words → SomeDiffersBy (cells_behind decoder) (is_wrong_there decoder) (column reads.bit s) (visits march (up march) d.words)
     by s good =
-        let size : length (column 0 s) ≡ d.words = length-lane (λ k. 0) s ∙ good in
-        subst (λ (n : ℕ). SomeDiffersBy (cells_behind decoder) (is_wrong_there decoder) (column 0 s) (visits march (up march) n)) size
-        (caught_among march fault (met_where march fault marches detected) (up march) decoder at (column 0 s) (up_fits march) (subst (FitsPair at) (sym size) places) fault_is)
+        let size : length (column reads.bit s) ≡ d.words = length-lane (λ k. reads.bit) s ∙ good in
+        subst (λ (n : ℕ). SomeDiffersBy (cells_behind decoder) (is_wrong_there decoder) (column reads.bit s) (visits march (up march) n)) size
+        (caught_among march fault (met_where march fault marches detected) (up march) decoder at (column reads.bit s) (up_fits march) (subst (FitsPair at) (sym size) places) fault_is)
 
-pub decoder_fails : (march : List MarchElement) (d : Description) → IsMarch march → IsMemory d → DecoderFails march d
-decoder_fails march d marches is mo test forms fault detected m at decoder has places fault_is =
-    ends_failing (decoded d.bits decoder) (λ s. length s ≡ d.words) mo march d (decoder_caught march d marches is fault detected at decoder places fault_is) test forms is m has.words has.under_way
+pub decoder_wrong : (march : List MarchElement) (d : Description) → IsMarch march → IsMemory d → DecoderWrong march d
+decoder_wrong march d marches is fault detected m at decoder read has places fault_is reads =
+    let G : List ℕ → Type 0 = λ s. length s ≡ d.words in
+    answers_wrong (decoded decoder read) G (λ s. Unit {0}) march d
+    (from_any (decoded decoder read) G march d (decoder_caught march d marches is fault detected at decoder read places fault_is reads)) is m has.words

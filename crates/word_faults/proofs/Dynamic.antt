@@ -1,12 +1,11 @@
 -- An instance of a dynamic primitive at bits of words is, in a lane through these bits, that instance at cells.
-use Rattle.std.proofs.Common.{◌≡◌, ◌≢◌, ◌^◌, ◌%◌, ◌==◌, ◌⊎◌, inl, inr, ℕ, Bool, true, false, cond, eqb, ◌&&◌, Option, Some, None, is_some, IsSome, List, [], ◌∷◌, ◌++◌, map, length, refl, ap, ap₂, sym, subst, ◌∙◌, ⊎_elim}
-use Rattle.std.specs.Prelude.{if◌then◌else◌, slice_get, slice_set, slice_index}
-use Rattle.std.proofs.lemmas.Bool.{ne_eqb}
+use Rattle.std.proofs.Common.{◌≡◌, ◌≢◌, ◌^◌, ◌%◌, ◌==◌, ℕ, zero, suc, Bool, true, false, cond, eqb, ◌&&◌, Option, Some, None, is_some, IsSome, List, [], ◌∷◌, ◌++◌, map, length, refl, ap, ap₂, sym, subst, ◌∙◌, ⊎_elim}
+use Rattle.std.specs.Prelude.{if◌then◌else◌, slice_set, slice_index}
 use Rattle.std.proofs.lemmas.Bool.Decides.{eqb_tells}
 use Rattle.fault_core.specs.declared.primitive.Act.{Act}
 use Rattle.fault_core.specs.declared.primitive.Act.TheVariants.{Write, Read}
-use Rattle.fault_core.specs.Primitive.{same_bit}
 use Rattle.fault_core.specs.Cells.{cell, same_act, plain_cells, answer_or}
+use Rattle.fault_core.proofs.Tests.{same_act-equal}
 use Rattle.march_core.specs.March.{MarchElement}
 use Rattle.march_core.specs.Runs.{up, is_write, data_value}
 use Rattle.march_core.specs.Visits.{Visit, MarchStep, pausing, visiting, visits}
@@ -15,23 +14,23 @@ use Rattle.array_sim.specs.Differing.{SomeDiffersBy}
 use Rattle.backgrounds.specs.Backgrounds.{word_of as background_word}
 use Rattle.memory_desc.specs.Descriptions.{Description, IsMemory}
 use Rattle.word_march.specs.declared.operations.WordOp.{WordOp}
-use Rattle.word_march.specs.Commands.{word_op, word_step, word_steps}
-use Rattle.word_device.specs.Ports.{shape_of, idle_more}
+use Rattle.word_march.specs.Commands.{word_op, word_step}
 use Rattle.word_device.specs.Chips.{has_bit, with_bit, with_bit_in, act_on, plain_words, plain_reply, answered}
 use Rattle.word_device.proofs.Core.{SomeReplyDiffers}
 use Rattle.word_device.proofs.Lanes.{lane_cell, length-lane, with_bit_same}
 use Rattle.word_device.proofs.Steps.{lane_with_bit, lane_if}
+use Rattle.word_device.proofs.Answering.{IsLawful, replies}
+use Rattle.word_device.proofs.Attaching.{DiffersRested, answers_wrong}
 use Rattle.dynamic_core.specs.declared.stepping.Actor.{Actor}
-use Rattle.dynamic_core.specs.Primitive.{TwoActs, DynamicPrimitive, IsDynamic, left_by, second_act}
+use Rattle.dynamic_core.specs.Primitive.{TwoActs, DynamicSense, DynamicPrimitive, IsDynamic, aggressor_acts, second_act}
 use Rattle.dynamic_core.specs.Dynamic.{held_as, actor_on, agg_actor, actor_or, actor_of, all_states_hold, matches_of, arms_of, set_where, dyn_cells, dyn_step, dyn_answer}
 use Rattle.dynamic_core.specs.Differing.{held_after, is_wrong_visit}
 use Rattle.dynamic_core.specs.Detecting.{DetectsDyn}
-use Rattle.word_faults.specs.Laws.{EndsElsewhere, BeginsAfresh, DynamicFails}
+use Rattle.word_faults.specs.Alike.{DynamicAnswers}
+use Rattle.word_faults.specs.Laws.{acts_of, RunsOn, IsBegun, BeginsAfresh, DynamicWrong}
 use Rattle.word_faults.specs.Cells.{cells_in}
 use Rattle.word_faults.specs.Dynamic.{DynPlaces, word_of, words_of, bit_or, bit_of, FitsDynPlaces, HeldWords, held_words, seen, is_second, dyn_words, dynamic}
-use Rattle.word_faults.proofs.Memories.{IsLawful, replies, begun, good_begun}
-use Rattle.word_faults.proofs.Attaching.{ends_failing_from}
-use Rattle.word_faults.proofs.Catching.{stepped, behind, one_caught, catches_begun}
+use Rattle.word_faults.proofs.Catching.{stepped, behind, one_caught, LeavesBegun, catches_begun}
 use Rattle.word_faults.proofs.Linked.{same_number, length_if, length_bit, length_plain, lane_plain}
 use Rattle.word_faults.proofs.Solid.{act_solid, wrong_read, word_differs, up_fits}
 
@@ -192,33 +191,77 @@ module _ (p : DynamicPrimitive) (at : DynPlaces) (words bits : ℕ) (fits : Fits
       ap₂ (λ (x : ℕ) (l : List ℕ). x ∷ l) (reply_same h (word_op bits 0 v) off)
       (ap (λ (s : HeldWords). replies (dynamic p at) Good lawful s (map (word_step bits 0) vs ++ rest)) (step_same h (word_op bits 0 v) off))
 
-  -- what an operation on another word arms is no second act
-  elsewhere : (h : HeldWords) (one other : WordOp) → other.index ≢ one.index → is_second p at ((dynamic p at).after h one) other ≡ false
-  unfolding dyn_step
-  elsewhere h one other apart = go (actor_of p (words_of at))
+  -- an operation that is the second act right behind another runs on from it
+  record Follows (one other : WordOp) : Type 0 where
+    same : one.index ≡ other.index
+    acts : TwoActs
+    are_acts : acts_of p ≡ Some acts
+    ends : act_on one (t one.index) ≡ acts.first
+    begins : act_on other (t other.index) ≡ acts.second
+
+  and_parts : (a b : Bool) → (a && b) ≡ true → (a ≡ true) × (b ≡ true)
+  and_parts true true h = (refl, refl)
+  and_parts true false h = cc
+  and_parts false b h = cc
+
+  same_place : (x y : ℕ) → (x == y) ≡ true → x ≡ y
+  same_place x y h =
+      ⊎_elim (λ (k : (eqb x y ≡ true) × (x ≡ y)). k.1) (λ (k : (eqb x y ≡ false) × (x ≢ y)). absurd (let z : true ≡ false = sym h ∙ k.0 in cc)) (eqb_tells x y)
+
+  -- the acts of the cell that has them
+  actor_acts : (s : Actor) → actor_of p (words_of at) ≡ Some s → (acts : TwoActs) × (acts_of p ≡ Some acts) × (acts.first ≡ s.first) × (acts.second ≡ s.second)
+  actor_acts s e = of_victim p.vic.acts p.agg (word_of at.agg) e
     where
-      act : Act
-      act = act_on other (t other.index)
+      of_victim : (vic : Option TwoActs) (agg : Option DynamicSense) (place : Option ℕ) → actor_or (actor_on at.vic.word p.vic.state vic) (agg_actor agg place) ≡ Some s
+          → (acts : TwoActs) × ((if is_some vic then vic else aggressor_acts agg) ≡ Some acts) × (acts.first ≡ s.first) × (acts.second ≡ s.second)
+      of_victim (Some acts) agg place h = (acts, refl, ap first_act h, ap then_act h)
+        where
+          first_act : Option Actor → Act
+          first_act None = acts.first
+          first_act (Some a) = a.first
 
-      and_false : (b : Bool) → (b && false) ≡ false
-      and_false true = refl
-      and_false false = refl
+          then_act : Option Actor → Act
+          then_act None = acts.second
+          then_act (Some a) = a.second
+      of_victim None None place h = cc
+      of_victim None (Some sense) None h = cc
+      of_victim None (Some sense) (Some a) h = of_aggressor sense.acts h
+        where
+          of_aggressor : (o : Option TwoActs) → actor_on a sense.state o ≡ Some s → (acts : TwoActs) × (o ≡ Some acts) × (acts.first ≡ s.first) × (acts.second ≡ s.second)
+          of_aggressor None k = cc
+          of_aggressor (Some acts) k = (acts, refl, ap first_act k, ap then_act k)
+            where
+              first_act : Option Actor → Act
+              first_act None = acts.first
+              first_act (Some x) = x.first
 
-      go : (a : Option Actor) → matches_of a (arms_of a (all_states_hold p (words_of at) (cells_in t h.words)) (dyn_cells p (words_of at) (seen at h) one.index (act_on one (t one.index)))
-          one.index (act_on one (t one.index))) other.index act ≡ false
-      go None = refl
-      go (Some s) =
-          ⊎_elim
-          (λ (k : (eqb s.place one.index ≡ true) × (s.place ≡ one.index)).
-          let off : s.place ≢ other.index = λ e. apart (sym e ∙ k.1) in
-          ap (λ b. arms_of (Some s) (all_states_hold p (words_of at) (cells_in t h.words)) (dyn_cells p (words_of at) (seen at h) one.index (act_on one (t one.index)))
-          one.index (act_on one (t one.index)) && (b && same_act act s.second)) (ne_eqb s.place other.index off)
-          ∙ and_false _)
-          (λ (k : (eqb s.place one.index ≡ false) × (s.place ≢ one.index)).
-          ap (λ b. ((b && same_act (act_on one (t one.index)) s.first) && (all_states_hold p (words_of at) (cells_in t h.words)
-          && same_bit (cell (dyn_cells p (words_of at) (seen at h) one.index (act_on one (t one.index))) s.place) (left_by s.state s.first)))
-          && ((s.place == other.index) && same_act act s.second)) k.0)
-          (eqb_tells s.place one.index)
+              then_act : Option Actor → Act
+              then_act None = acts.second
+              then_act (Some x) = x.second
+
+  follows : (h : HeldWords) (one other : WordOp) → is_second p at ((dynamic p at).after h one) other ≡ true → Follows one other
+  unfolding dyn_step
+  follows h one other hit = go (actor_of p (words_of at)) refl hit
+    where
+      go : (a : Option Actor) → actor_of p (words_of at) ≡ a
+          → matches_of a (arms_of a (all_states_hold p (words_of at) (cells_in t h.words)) (dyn_cells p (words_of at) (seen at h) one.index (act_on one (t one.index)))
+          one.index (act_on one (t one.index))) other.index (act_on other (t other.index)) ≡ true
+          → Follows one other
+      go None is h = cc
+      go (Some s) is h =
+          let both = and_parts (arms_of (Some s) (all_states_hold p (words_of at) (cells_in t _)) (dyn_cells p (words_of at) (seen at _) one.index (act_on one (t one.index)))
+          one.index (act_on one (t one.index))) ((s.place == other.index) && same_act (act_on other (t other.index)) s.second) h in
+          let second = and_parts (s.place == other.index) (same_act (act_on other (t other.index)) s.second) both.1 in
+          let armed = and_parts ((s.place == one.index) && same_act (act_on one (t one.index)) s.first) _ both.0 in
+          let first = and_parts (s.place == one.index) (same_act (act_on one (t one.index)) s.first) armed.0 in
+          let acts = actor_acts s is in
+          record {
+            same = sym (same_place s.place one.index first.0) ∙ same_place s.place other.index second.0;
+            acts = acts.0;
+            are_acts = acts.1;
+            ends = same_act-equal (act_on one (t one.index)) s.first first.1 ∙ sym acts.2;
+            begins = same_act-equal (act_on other (t other.index)) s.second second.1 ∙ sym acts.3;
+          }
 
   behind_last : (h : HeldWords) (x : ℕ) (before : List MarchStep) (last : MarchStep)
       → behind (dynamic p at) Good lawful bits h (map (word_step bits x) (before ++ last ∷ []))
@@ -227,10 +270,14 @@ module _ (p : DynamicPrimitive) (at : DynPlaces) (words bits : ℕ) (fits : Fits
   behind_last h x [] last = refl
   behind_last h x (step ∷ before) last = behind_last (stepped (dynamic p at) Good lawful bits h (word_step bits x step)) x before last
 
-  begun_behind : (vs : List MarchStep) → EndsElsewhere vs → (x : ℕ) (h : HeldWords) → Begun vs (behind (dynamic p at) Good lawful bits h (map (word_step bits x) vs))
+  begun_behind : (vs : List MarchStep) (x : ℕ) → (RunsOn p vs bits x 0 → ⊥) → (h : HeldWords) → Begun vs (behind (dynamic p at) Good lawful bits h (map (word_step bits x) vs))
   unfolding stepped
-  begun_behind vs apart x h v more e = go (last_of vs)
+  begun_behind vs x apart h v more e = go (last_of vs)
     where
+      not_hit : (b : Bool) → (b ≡ true → ⊥) → b ≡ false
+      not_hit true never_so = absurd (never_so refl)
+      not_hit false never_so = refl
+
       go : HasLast vs → is_second p at (behind (dynamic p at) Good lawful bits h (map (word_step bits x) vs)) (word_op bits 0 v) ≡ false
       go (no_step is) = let clash : [] ≡ visiting v ∷ more = sym is ∙ e in cc
       go (ends_with before (pausing n) is) =
@@ -238,20 +285,34 @@ module _ (p : DynamicPrimitive) (at : DynPlaces) (words bits : ℕ) (fits : Fits
           ∙ ap (λ (s : HeldWords). is_second p at s (word_op bits 0 v)) (behind_last h x before (pausing n))
           ∙ never (let s : HeldWords = behind (dynamic p at) Good lawful bits h (map (word_step bits x) before) in s.words) (word_op bits 0 v)
       go (ends_with before (visiting w) is) =
+          let s : HeldWords = behind (dynamic p at) Good lawful bits h (map (word_step bits x) before) in
           ap (λ l. is_second p at (behind (dynamic p at) Good lawful bits h (map (word_step bits x) l)) (word_op bits 0 v)) is
           ∙ ap (λ (s : HeldWords). is_second p at s (word_op bits 0 v)) (behind_last h x before (visiting w))
-          ∙ elsewhere (behind (dynamic p at) Good lawful bits h (map (word_step bits x) before)) (word_op bits x w) (word_op bits 0 v) (apart v w more before e is)
+          ∙ not_hit (is_second p at ((dynamic p at).after s (word_op bits x w)) (word_op bits 0 v)) (λ hit.
+          let on = follows s (word_op bits x w) (word_op bits 0 v) hit in
+          apart (record {
+            last = w;
+            first = v;
+            before = before;
+            behind = more;
+            is_last = is;
+            is_first = e;
+            same_word = on.same;
+            acts = on.acts;
+            are_acts = on.are_acts;
+            bit = t w.address;
+            low = fits.each_bit w.address;
+            ends = on.ends;
+            begins = ap (λ k. act_on (word_op bits 0 v) (t k)) on.same ∙ on.begins;
+          }))
+
+pub answers_as : DynamicAnswers
+answers_as p at words bits h o dyn fits read = lane_answer p at words bits fits dyn h o read
 
 -- ---- the test
 
--- where nothing is armed at first
-pub record IsCaughtUnarmed (p : DynamicPrimitive) (at : DynPlaces) (march : List MarchElement) (d : Description) : Type 0 where
-  pub lawful : IsLawful (dynamic p at) (λ h. length h.words ≡ d.words)
-  pub differs : (h : HeldWords) → length h.words ≡ d.words → h.armed ≡ false
-      → SomeReplyDiffers d.bits (word_steps march d) (replies (dynamic p at) (λ h. length h.words ≡ d.words) lawful h (word_steps march d))
-
-pub dynamic_caught : (march : List MarchElement) (d : Description) → IsMemory d → (p : DynamicPrimitive) → IsDynamic p → BeginsAfresh march d → DetectsDyn march p
-    → (at : DynPlaces) → FitsDynPlaces p at d.words d.bits → IsCaughtUnarmed p at march d
+pub dynamic_caught : (march : List MarchElement) (d : Description) → IsMemory d → (p : DynamicPrimitive) → IsDynamic p → BeginsAfresh p march d → DetectsDyn march p
+    → (at : DynPlaces) → FitsDynPlaces p at d.words d.bits → DiffersRested (dynamic p at) (λ h. length h.words ≡ d.words) (λ h. h.armed ≡ false) march d
 unfolding unarmed
 dynamic_caught march d is p dyn fresh detected at places =
     let law = lawful p at d.words d.bits places dyn in
@@ -259,15 +320,12 @@ dynamic_caught march d is p dyn fresh detected at places =
     let B : HeldWords → Type 0 = Begun p at d.words d.bits places dyn vs in
     record {
       lawful = law;
+      idled = λ h. refl;
+      paused = λ h. refl;
       differs = λ s good off.
           catches_begun (dynamic p at) G law d.bits (held_after p (words_of at)) (is_wrong_visit p (words_of at)) (seen at)
           (λ h v g. visits_as p at d.words d.bits places dyn h v) (λ h e g. refl) (λ h v g wrong. wrong_as p at d.words d.bits places dyn h v wrong) march d refl B
-          (λ rest h good begun.
-          let found = by h.words good in
-          subst (SomeReplyDiffers d.bits (map (word_step d.bits 0) vs ++ rest)) (sym (replies_same p at d.words d.bits places dyn vs rest h begun (some found)))
-          (one_caught (dynamic p at) G law d.bits (held_after p (words_of at)) (is_wrong_visit p (words_of at)) (seen at)
-          (λ h v g. visits_as p at d.words d.bits places dyn h v) (λ h e g. refl) (λ h v g wrong. wrong_as p at d.words d.bits places dyn h v wrong) vs rest (held_words h.words false) good found))
-          is (begins fresh) s good (λ v more e. still s off (word_op d.bits 0 v));
+          from_begun fresh.0 fresh.1 (begins fresh.0 fresh.2) s good (λ v more e. still s off (word_op d.bits 0 v));
     }
   where
     vs : List MarchStep
@@ -275,12 +333,6 @@ dynamic_caught march d is p dyn fresh detected at places =
 
     still : (h : HeldWords) → h.armed ≡ false → (o : WordOp) → is_second p at h o ≡ false
     still h off o = ap (λ b. is_second p at (held_words h.words b) o) off ∙ never p at d.words d.bits places dyn h.words o
-
-    begins : BeginsAfresh march d → (slice_get d.backgrounds 0 ≡ Some 0)
-        ⊎ ((x : ℕ) (h : HeldWords) → length h.words ≡ d.words → Begun p at d.words d.bits places dyn vs
-        (behind (dynamic p at) (Good p at d.words d.bits places dyn) (lawful p at d.words d.bits places dyn) d.bits h (map (word_step d.bits x) vs)))
-    begins (inl first) = inl first
-    begins (inr apart) = inr (λ x h good. begun_behind p at d.words d.bits places dyn vs apart x h)
 
     by : (ws : List ℕ) → length ws ≡ d.words
         → SomeDiffersBy (held_after p (words_of at)) (is_wrong_visit p (words_of at)) (held_as (cells_in (bit_of at) ws) false) (visits march (up march) d.words)
@@ -296,16 +348,22 @@ dynamic_caught march d is p dyn fresh detected at places =
         no [] k = cc
         no (x ∷ xs) k = cc
 
-pub dynamic_fails : (march : List MarchElement) (d : Description) → IsMemory d → DynamicFails march d
-unfolding begun
-dynamic_fails march d is mo p test forms dyn fresh detected m at has places =
-    let caught = dynamic_caught march d is p dyn fresh detected at places in
-    let G : HeldWords → Type 0 = λ h. length h.words ≡ d.words in
-    ends_failing_from (dynamic p at) G caught.lawful mo march d test forms is m has.words has.under_way
-    (caught.differs (begun (dynamic p at) G caught.lawful d m) (good_begun (dynamic p at) G caught.lawful d m has.words)
-    (rested_unarmed (idle_more (shape_of d) m.idle == d.pause)))
-  where
-    -- an idle cycle leaves nothing armed
-    rested_unarmed : (b : Bool) → (let h : HeldWords = if b then (dynamic p at).paused m.state else (dynamic p at).idled m.state in h.armed) ≡ false
-    rested_unarmed true = refl
-    rested_unarmed false = refl
+    from_begun : (rest : List (Option WordOp)) (h : HeldWords) → length h.words ≡ d.words → Begun p at d.words d.bits places dyn vs h
+        → SomeReplyDiffers d.bits (map (word_step d.bits 0) vs ++ rest)
+        (replies (dynamic p at) (Good p at d.words d.bits places dyn) (lawful p at d.words d.bits places dyn) h (map (word_step d.bits 0) vs ++ rest))
+    from_begun rest h good begun =
+        let found = by h.words good in
+        subst (SomeReplyDiffers d.bits (map (word_step d.bits 0) vs ++ rest)) (sym (replies_same p at d.words d.bits places dyn vs rest h begun (some found)))
+        (one_caught (dynamic p at) (Good p at d.words d.bits places dyn) (lawful p at d.words d.bits places dyn) d.bits (held_after p (words_of at)) (is_wrong_visit p (words_of at)) (seen at)
+        (λ h v g. visits_as p at d.words d.bits places dyn h v) (λ h e g. refl) (λ h v g wrong. wrong_as p at d.words d.bits places dyn h v wrong) vs rest (held_words h.words false) good found)
+
+    begins : (k : ℕ) → IsBegun p march d k
+        → LeavesBegun (dynamic p at) (Good p at d.words d.bits places dyn) (lawful p at d.words d.bits places dyn) d.bits (held_after p (words_of at)) (is_wrong_visit p (words_of at)) (seen at)
+        (λ h v g. visits_as p at d.words d.bits places dyn h v) (λ h e g. refl) (λ h v g wrong. wrong_as p at d.words d.bits places dyn h v wrong) march d refl
+        (Begun p at d.words d.bits places dyn vs) from_begun d.backgrounds k
+    begins zero fresh = tt
+    begins (suc k) fresh = λ x there h good. begun_behind p at d.words d.bits places dyn vs x (fresh x there) h
+
+pub dynamic_wrong : (march : List MarchElement) (d : Description) → IsMemory d → DynamicWrong march d
+dynamic_wrong march d is p dyn fresh detected m at has places =
+    answers_wrong (dynamic p at) (λ h. length h.words ≡ d.words) (λ h. h.armed ≡ false) march d (dynamic_caught march d is p dyn fresh detected at places) is m has.words

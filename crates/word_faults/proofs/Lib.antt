@@ -1,5 +1,3 @@
-pub mod Memories
-pub mod Attaching
 pub mod Catching
 pub mod Solid
 pub mod Decoders

@@ -1,5 +1,5 @@
 -- A linked fault at bits of different words is, in a lane through these bits, that fault at cells.
-use Rattle.std.proofs.Common.{◌≡◌, ◌≢◌, ◌<◌, ◌≤◌, ◌^◌, ◌%◌, ℕ, Bool, true, false, cond, eqb, ◌&&◌, ◌||◌, Option, Some, None, IsSome, List, [], ◌∷◌, ◌++◌, length, length-append, refl, ap, sym, subst, ◌∙◌, ◌↔◌, ⊎_elim, arith}
+use Rattle.std.proofs.Common.{◌≡◌, ◌≢◌, ◌<◌, ◌≤◌, ◌^◌, ◌%◌, ℕ, Bool, true, false, cond, eqb, ◌&&◌, Option, Some, None, IsSome, List, [], ◌∷◌, ◌++◌, length, length-append, refl, ap, sym, subst, ◌∙◌, ◌↔◌, ⊎_elim, arith}
 use Rattle.std.specs.Prelude.{if◌then◌else◌, slice_set, slice_index}
 use Rattle.std.proofs.lemmas.Bool.{ne_eqb, cases_lt}
 use Rattle.std.proofs.lemmas.Bool.Decides.{eqb_tells}
@@ -19,20 +19,19 @@ use Rattle.memory_desc.specs.Descriptions.{Description, IsMemory}
 use Rattle.word_march.specs.declared.operations.WordOp.{WordOp}
 use Rattle.word_march.specs.Commands.{word_op}
 use Rattle.word_device.specs.declared.device.BitPlace.{BitPlace}
-use Rattle.word_device.specs.declared.device.Planted.{Planted}
-use Rattle.word_device.specs.Chips.{FitsAggPlace, has_bit, with_bit, with_bit_in, bits_hold, act_on, falls_on, falls_on_agg, matches, plain_words, plain_reply, answered, reply_to}
+use Rattle.word_device.specs.Chips.{FitsAggPlace, has_bit, with_bit, with_bit_in, act_on, matches, plain_words, plain_reply, answered, reply_to}
 use Rattle.word_device.proofs.Lanes.{lane, lane_set, length-lane}
-use Rattle.word_device.proofs.Porting.{op_of}
+use Rattle.word_device.proofs.Porting.{op_of, matches_read}
 use Rattle.word_device.proofs.Steps.{word_at, spots, Through, ThroughAgg, lane_with_bit, lane_if, matches_same, lane_reply}
+use Rattle.word_device.proofs.Answering.{IsLawful}
+use Rattle.word_device.proofs.Attaching.{AlwaysDiffers, from_any, answers_wrong}
 use Rattle.linked_faults.specs.declared.link.Link.{Link}
 use Rattle.linked_faults.specs.declared.link.Spots.{Spots}
 use Rattle.linked_faults.specs.Linking.{IsLinked, FitsLink, first_places, second_places, linked_cells, linked_answer, linked_pause}
 use Rattle.linked_faults.specs.Detection.{cells_behind, is_wrong_there, Detects}
 use Rattle.linked_faults.proofs.Places.{have_spots}
-use Rattle.word_faults.specs.Laws.{LinkedFails}
+use Rattle.word_faults.specs.Laws.{LinkedWrong}
 use Rattle.word_faults.specs.Linked.{Bits, FitsBits, bit_beside, first_of, second_of, linked_words, linked_reply, linked}
-use Rattle.word_faults.proofs.Memories.{IsLawful}
-use Rattle.word_faults.proofs.Attaching.{AlwaysDiffers, ends_failing}
 use Rattle.word_faults.proofs.Catching.{catches}
 use Rattle.word_faults.proofs.Fewer.{fewer}
 use Rattle.word_faults.proofs.Solid.{act_solid, wrong_read, word_differs, up_fits}
@@ -155,16 +154,6 @@ lane_plain t ws o = go o.write
         ≡ plain_cells (lane t ws) o.index (if write then Write (has_bit o.word (t o.index)) else Read)
     go true = lane_set t ws o.index o.word
     go false = refl
-
-falls_same : (agg : Option Sense) (place : Option BitPlace) (k x y : ℕ) → falls_on_agg agg place (op_of false k x) ≡ falls_on_agg agg place (op_of false k y)
-falls_same None place k x y = refl
-falls_same (Some sense) None k x y = refl
-falls_same (Some sense) (Some p) k x y = refl
-
-matches_read : (i : Planted) (ws : List ℕ) (k x y : ℕ) → matches i ws (op_of false k x) ≡ matches i ws (op_of false k y)
-unfolding matches
-matches_read i ws k x y =
-    ap (λ t. (falls_on i.prim.vic.act i.vic (op_of false k x) || t) && bits_hold i ws) (falls_same i.prim.agg i.agg k x y)
 
 -- ---- the fault
 
@@ -393,6 +382,8 @@ linked_caught march d marches is link pair first_stays second_stays detected at 
           (λ s g. found.caught (lane (lane_of link at) s) (length-lane (lane_of link at) s ∙ g)) is;
     }
 
-pub linked_fails : (march : List MarchElement) (d : Description) → IsMarch march → IsMemory d → LinkedFails march d
-linked_fails march d marches is mo test forms link pair first_stays second_stays detected m at has places =
-    ends_failing (linked link at) (λ s. length s ≡ d.words) mo march d (linked_caught march d marches is link pair first_stays second_stays detected at places) test forms is m has.words has.under_way
+pub linked_wrong : (march : List MarchElement) (d : Description) → IsMarch march → IsMemory d → LinkedWrong march d
+linked_wrong march d marches is link pair first_stays second_stays detected m at has places =
+    let G : List ℕ → Type 0 = λ s. length s ≡ d.words in
+    answers_wrong (linked link at) G (λ s. Unit {0}) march d
+    (from_any (linked link at) G march d (linked_caught march d marches is link pair first_stays second_stays detected at places)) is m has.words

@@ -1,15 +1,21 @@
 -- What the laws ask for is there.
-use Rattle.std.proofs.Common.{◌≡◌, ◌≢◌, ◌<◌, ℕ, IsSome, Bool, true, false, cond, eqb, Option, Some, None, sym, ◌∙◌}
-use Rattle.memory_desc.specs.Descriptions.{Description}
+use Rattle.std.proofs.Common.{◌≡◌, ◌≢◌, ◌<◌, ℕ, zero, suc, IsSome, Bool, true, false, cond, eqb, Option, Some, None, List, refl, sym, ◌∙◌}
+use Rattle.march_core.specs.March.{MarchElement}
+use Rattle.march_core.specs.Runs.{up}
+use Rattle.march_core.specs.Visits.{visits}
+use Rattle.memory_desc.specs.Descriptions.{Description, IsMemory}
 use Rattle.std.specs.Prelude.{if◌then◌else◌}
 use Rattle.fault_core.specs.declared.primitive.Sense.{Sense}
 use Rattle.word_device.specs.declared.device.BitPlace.{BitPlace}
 use Rattle.word_device.specs.Chips.{FitsAggPlace}
-use Rattle.dynamic_core.specs.Primitive.{DynamicSense}
+use Rattle.dynamic_core.specs.Primitive.{DynamicSense, DynamicPrimitive}
 use Rattle.dynamic_core.specs.Detecting.{FitsDynAgg}
 use Rattle.word_faults.specs.Linked.{bit_beside}
 use Rattle.word_faults.specs.Dynamic.{word_of, bit_or}
-use Rattle.word_faults.specs.There.{IsBit, AreThere}
+use Rattle.word_faults.specs.Laws.{IsBegun}
+use Rattle.word_faults.specs.There.{EndsElsewhere, IsBit, AreThere}
+use Rattle.word_faults.proofs.Decoders.{read_as}
+use Rattle.word_faults.proofs.Catching.{solid_at}
 
 agg_fits : (d : Description) (agg : Option DynamicSense) (a v : BitPlace) → IsBit d a → a.word ≢ v.word → FitsDynAgg agg (word_of (bit_beside agg a)) v.word d.words
 agg_fits d None a v is apart = tt
@@ -43,8 +49,12 @@ no_aggressor (Some sense) none some = absurd (cc)
 clash : {A : Type 0} {b : Bool} → b ≡ true → b ≡ false → A
 clash on off = absurd (let wrong : true ≡ false = sym on ∙ off in cc)
 
-pub are_there : (d : Description) → AreThere d
-are_there d = record {
+apart_begins : (d : Description) (p : DynamicPrimitive) (march : List MarchElement) → EndsElsewhere (visits march (up march) d.words) → (k : ℕ) → IsBegun p march d k
+apart_begins d p march apart zero = tt
+apart_begins d p march apart (suc k) = λ x at on. apart on.first on.last on.behind on.before on.is_first on.is_last (sym on.same_word)
+
+pub are_there : (d : Description) → IsMemory d → AreThere d
+are_there d is = record {
   words = λ words pending idle size way. record { words = size; under_way = way };
   held = λ words pending armed idle size way. record { words = size; under_way = way };
   bits = λ link a b v a_is b_is v_is av bv ab. record {
@@ -66,4 +76,7 @@ are_there d = record {
     cells = record { victim = v_is.word; aggressor = agg_fits d p.agg a v a_is apart };
     each_bit = bits_fit d p.agg a v a_is v_is;
   };
+  reads = λ decoder j low. (record { bit = j; low = low; as_cell = λ k words. read_as d.bits j low (decoder k) words }, refl);
+  first = λ p march at. (0, at, tt);
+  elsewhere = λ p march apart. let solid = is.tested.solid in (solid.0, solid_at d.backgrounds solid.0 solid.1 solid.2, apart_begins d p march apart solid.0);
 }

@@ -1,17 +1,15 @@
 -- Trusted. A memory of words with an instance of a dynamic primitive: its two operations are one right behind the other.
 use Rattle.std.specs.Prelude.{◌≡◌, ◌<◌, ◌==◌, ◌+◌, ℕ, Bool, false, if◌then◌else◌, Option, Some, None, List, length}
 use Rattle.fault_core.specs.declared.cells.Places.{Places}
-use Rattle.verilog_tree.specs.Plain.{ModuleTree}
-use Rattle.march_core.specs.March.{MarchElement}
 use Rattle.memory_desc.specs.Descriptions.{Description}
 use Rattle.word_march.specs.declared.operations.WordOp.{WordOp}
 use Rattle.word_device.specs.declared.device.BitPlace.{BitPlace}
 use Rattle.word_device.specs.Chips.{with_bit_in, act_on, plain_words, plain_reply, answered}
+use Rattle.word_device.specs.Memories.{Behaviour, Memory}
+use Rattle.word_device.specs.Answers.{Claim}
 use Rattle.dynamic_core.specs.Primitive.{DynamicPrimitive}
 use Rattle.dynamic_core.specs.Dynamic.{Held, held_as, actor_of, matches_of, dyn_step}
 use Rattle.dynamic_core.specs.Detecting.{FitsDyn}
-use Rattle.bench.specs.Memories.{Behaviour, Memory}
-use Rattle.bench.specs.Beside.{EndsBeside, FailsAt}
 use Rattle.word_faults.specs.Cells.{cells_in}
 
 -- the bits of the aggressor, if there is one, and of the victim
@@ -76,8 +74,7 @@ pub record HasHeldWords (d : Description) (m : Memory HeldWords) : Type 0 where
   pub words : length m.state.words ≡ d.words
   pub under_way : length m.pending + 1 ≡ d.latency
 
--- beside each such memory with an instance of this primitive, at any place that fits, the module fails
-abbrev pub FailsDynamic : ModuleTree → List MarchElement → Description → DynamicPrimitive → Type 0
-FailsDynamic mo march d p =
-    (m : Memory HeldWords) (at : DynPlaces) → HasHeldWords d m → FitsDynPlaces p at d.words d.bits
-    → EndsBeside (dynamic p at) mo march d m (FailsAt march d)
+-- said of each such memory with an instance of this primitive, at any place that fits
+abbrev pub EachDynamic : Claim → Description → DynamicPrimitive → Type 0
+EachDynamic Says d p =
+    (m : Memory HeldWords) (at : DynPlaces) → HasHeldWords d m → FitsDynPlaces p at d.words d.bits → Says HeldWords (dynamic p at) m

@@ -1,52 +1,75 @@
--- Trusted. What a module ends with beside memories with the linked faults, or with the faults of the address decoder, that its march detects.
-use Rattle.std.specs.Prelude.{◌≡◌, ◌≢◌, ◌⊎◌, true, false, Some, List, [], ◌∷◌, ◌++◌, slice_get}
+-- Trusted. What is said of memories with the linked faults, the faults of the address decoder and the dynamic primitives that a march detects.
+use Rattle.std.specs.Prelude.{◌≡◌, ◌<◌, ℕ, zero, suc, false, Option, Some, List, [], ◌∷◌, ◌++◌, is_some, if◌then◌else◌, slice_get}
 use Rattle.fault_core.specs.Primitive.{is_retention}
-use Rattle.verilog_tree.specs.Plain.{ModuleTree}
-use Rattle.verilog_tree.specs.Formed.{formed}
 use Rattle.march_core.specs.March.{MarchElement}
 use Rattle.march_core.specs.Runs.{up}
 use Rattle.march_core.specs.Visits.{Visit, MarchStep, visiting, visits}
 use Rattle.memory_desc.specs.Descriptions.{Description}
-use Rattle.self_test.specs.SelfTest.{SelfTest}
+use Rattle.word_march.specs.Commands.{word_op}
+use Rattle.word_device.specs.Chips.{act_on}
+use Rattle.word_device.specs.Answers.{Claim, AnswersWrong}
 use Rattle.linked_faults.specs.declared.link.Link.{Link}
 use Rattle.linked_faults.specs.Linking.{IsLinked}
 use Rattle.linked_faults.specs.Detection.{Detects}
 use Rattle.decoder_faults.specs.declared.fault.DecoderFault.{DecoderFault}
 use Rattle.decoder_faults.specs.Detection.{DetectsDecoder}
-use Rattle.dynamic_core.specs.Primitive.{DynamicPrimitive, IsDynamic}
+use Rattle.dynamic_core.specs.Primitive.{TwoActs, DynamicPrimitive, IsDynamic, aggressor_acts}
 use Rattle.dynamic_core.specs.Detecting.{DetectsDyn}
-use Rattle.word_faults.specs.Linked.{FailsLinked}
-use Rattle.word_faults.specs.Decoders.{FailsDecoder}
-use Rattle.word_faults.specs.Dynamic.{FailsDynamic}
+use Rattle.word_faults.specs.Linked.{EachLinked}
+use Rattle.word_faults.specs.Decoders.{EachDecoder}
+use Rattle.word_faults.specs.Dynamic.{EachDynamic}
 
--- it fails beside each linked fault that the march detects, and that no pause sets off
-abbrev pub FailsEachLinked : ModuleTree → List MarchElement → Description → Type 0
-FailsEachLinked mo march d =
-    (link : Link) → IsLinked link → is_retention link.first ≡ false → is_retention link.second ≡ false → Detects march link
-    → FailsLinked mo march d link
+-- of each linked fault that the march detects, and that no pause sets off
+abbrev pub OfDetectedLinks : Claim → List MarchElement → Description → Type 0
+OfDetectedLinks Says march d =
+    (link : Link) → IsLinked link → is_retention link.first ≡ false → is_retention link.second ≡ false → Detects march link → EachLinked Says d link
 
--- and beside each fault of the decoder that it detects
-abbrev pub FailsEachDecoder : ModuleTree → List MarchElement → Description → Type 0
-FailsEachDecoder mo march d = (fault : DecoderFault) → DetectsDecoder march fault → FailsDecoder mo march d fault
+-- of each fault of the decoder that it detects
+abbrev pub OfDetectedDecoders : Claim → List MarchElement → Description → Type 0
+OfDetectedDecoders Says march d = (fault : DecoderFault) → DetectsDecoder march fault → EachDecoder Says d fault
 
--- so does each self-test whose text can be written
-abbrev pub LinkedFails : List MarchElement → Description → Type 0
-LinkedFails march d = (mo : ModuleTree) → SelfTest mo march d → formed mo ≡ true → FailsEachLinked mo march d
+-- ---- where the background before can't begin a dynamic primitive
 
-abbrev pub DecoderFails : List MarchElement → Description → Type 0
-DecoderFails march d = (mo : ModuleTree) → SelfTest mo march d → formed mo ≡ true → FailsEachDecoder mo march d
+abbrev pub acts_of : DynamicPrimitive → Option TwoActs
+acts_of p = if is_some p.vic.acts then p.vic.acts else aggressor_acts p.agg
 
--- the last of these steps isn't a visit to the word that the first visits
-abbrev pub EndsElsewhere : List MarchStep → Type 0
-EndsElsewhere steps =
-    (v w : Visit) (behind before : List MarchStep) → steps ≡ visiting v ∷ behind → steps ≡ before ++ visiting w ∷ [] → v.address ≢ w.address
+-- the last operation of a run in one background and the first of the run in the other are on one word, and at some bit they are the two acts
+pub record RunsOn (p : DynamicPrimitive) (steps : List MarchStep) (bits one other : ℕ) : Type 0 where
+  pub last : Visit
+  pub first : Visit
+  pub before : List MarchStep
+  pub behind : List MarchStep
+  pub is_last : steps ≡ before ++ visiting last ∷ []
+  pub is_first : steps ≡ visiting first ∷ behind
+  pub same_word : last.address ≡ first.address
+  pub acts : TwoActs
+  pub are_acts : acts_of p ≡ Some acts
+  pub bit : ℕ
+  pub low : bit < bits
+  pub ends : act_on (word_op bits one last) bit ≡ acts.first
+  pub begins : act_on (word_op bits other first) bit ≡ acts.second
 
--- no act of the background before can be the first of two: the background 0 is the first, or the march ends elsewhere than it begins
-abbrev pub BeginsAfresh : List MarchElement → Description → Type 0
-BeginsAfresh march d = (slice_get d.backgrounds 0 ≡ Some 0) ⊎ EndsElsewhere (visits march (up march) d.words)
+-- before the background at this place there is none, or its run doesn't run on into a run of the background 0
+abbrev pub IsBegun : DynamicPrimitive → List MarchElement → Description → ℕ → Type 0
+IsBegun p march d zero = Unit {0}
+IsBegun p march d (suc k) =
+    (background : ℕ) → slice_get d.backgrounds k ≡ Some background → RunsOn p (visits march (up march) d.words) d.bits background 0 → ⊥
 
--- of a detected dynamic primitive, where a run of the background 0 begins afresh
-abbrev pub DynamicFails : List MarchElement → Description → Type 0
-DynamicFails march d =
-    (mo : ModuleTree) (p : DynamicPrimitive) → SelfTest mo march d → formed mo ≡ true → IsDynamic p → BeginsAfresh march d
-    → DetectsDyn march p → FailsDynamic mo march d p
+-- some run of the background 0 begins so
+abbrev pub BeginsAfresh : DynamicPrimitive → List MarchElement → Description → Type 0
+BeginsAfresh p march d = (k : ℕ) × (slice_get d.backgrounds k ≡ Some 0) × IsBegun p march d k
+
+-- of each dynamic primitive that the march detects, where a run begins afresh
+abbrev pub OfDetectedDynamic : Claim → List MarchElement → Description → Type 0
+OfDetectedDynamic Says march d = (p : DynamicPrimitive) → IsDynamic p → BeginsAfresh p march d → DetectsDyn march p → EachDynamic Says d p
+
+-- ---- each such memory answers some read wrong
+
+abbrev pub LinkedWrong : List MarchElement → Description → Type 0
+LinkedWrong march d = OfDetectedLinks (AnswersWrong march d) march d
+
+abbrev pub DecoderWrong : List MarchElement → Description → Type 0
+DecoderWrong march d = OfDetectedDecoders (AnswersWrong march d) march d
+
+abbrev pub DynamicWrong : List MarchElement → Description → Type 0
+DynamicWrong march d = OfDetectedDynamic (AnswersWrong march d) march d

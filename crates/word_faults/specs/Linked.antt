@@ -1,15 +1,13 @@
 -- Trusted. A memory of words with a linked fault at bits of different words.
 use Rattle.std.specs.Prelude.{◌≡◌, ◌≢◌, ℕ, false, IsSome, if◌then◌else◌, Option, Some, None, List}
-use Rattle.verilog_tree.specs.Plain.{ModuleTree}
-use Rattle.march_core.specs.March.{MarchElement}
 use Rattle.memory_desc.specs.Descriptions.{Description}
 use Rattle.word_march.specs.declared.operations.WordOp.{WordOp}
 use Rattle.word_device.specs.declared.device.BitPlace.{BitPlace}
 use Rattle.word_device.specs.declared.device.Planted.{Planted}
 use Rattle.word_device.specs.Chips.{FitsMemory, with_bit_in, matches, plain_words, plain_reply, answered}
+use Rattle.word_device.specs.Memories.{Behaviour, Memory}
+use Rattle.word_device.specs.Answers.{HasWords, Claim}
 use Rattle.linked_faults.specs.declared.link.Link.{Link}
-use Rattle.bench.specs.Memories.{Behaviour, Memory}
-use Rattle.bench.specs.Beside.{EndsBeside, FailsAt, HasWords}
 
 -- the bits of the first aggressor, the second, and the victim; an aggressor that there isn't plays no part
 pub record Bits : Type 0 where
@@ -52,7 +50,7 @@ linked_reply link at words o =
 abbrev pub linked : Link → Bits → Behaviour (List ℕ)
 linked link at = record { after = linked_words link at; reply = linked_reply link at; idled = λ words. words; paused = λ words. words }
 
--- beside each memory with this fault, at any bits that fit, the module fails
-abbrev pub FailsLinked : ModuleTree → List MarchElement → Description → Link → Type 0
-FailsLinked mo march d link =
-    (m : Memory (List ℕ)) (at : Bits) → HasWords d m → FitsBits link at d.words d.bits → EndsBeside (linked link at) mo march d m (FailsAt march d)
+-- said of each memory with this fault, at any bits that fit
+abbrev pub EachLinked : Claim → Description → Link → Type 0
+EachLinked Says d link =
+    (m : Memory (List ℕ)) (at : Bits) → HasWords d m → FitsBits link at d.words d.bits → Says (List ℕ) (linked link at) m

@@ -1,13 +1,20 @@
 -- Public. That what the laws of memories with a fault ask for is there: each content, each count of answers under way and of idle cycles, and each place.
-use Rattle.std.specs.Prelude.{◌≡◌, ◌≢◌, ◌+◌, ◌<◌, ℕ, Bool, true, IsSome, None, List, length}
+use Rattle.std.specs.Prelude.{◌≡◌, ◌≢◌, ◌+◌, ◌<◌, ℕ, Bool, true, IsSome, None, Some, List, [], ◌∷◌, ◌++◌, length, slice_get}
+use Rattle.march_core.specs.March.{MarchElement}
+use Rattle.march_core.specs.Runs.{up}
+use Rattle.march_core.specs.Visits.{Visit, MarchStep, visiting, visits}
 use Rattle.memory_desc.specs.Descriptions.{Description}
 use Rattle.word_device.specs.declared.device.BitPlace.{BitPlace}
+use Rattle.word_device.specs.Memories.{Memory}
+use Rattle.word_device.specs.Answers.{HasWords}
 use Rattle.linked_faults.specs.declared.link.Link.{Link}
+use Rattle.decoder_faults.specs.Decoding.{Decoder}
 use Rattle.dynamic_core.specs.Primitive.{DynamicPrimitive}
-use Rattle.bench.specs.Memories.{Memory}
-use Rattle.bench.specs.Beside.{HasWords}
 use Rattle.word_faults.specs.Linked.{Bits, FitsBits, bit_beside}
+use Rattle.word_faults.specs.Alike.{read_words}
+use Rattle.word_faults.specs.Decoders.{ReadsSomeBit}
 use Rattle.word_faults.specs.Dynamic.{DynPlaces, FitsDynPlaces, held_words, HasHeldWords}
+use Rattle.word_faults.specs.Laws.{BeginsAfresh}
 
 abbrev pub memory_of : {S : Type 0} → S → List ℕ → ℕ → Memory S
 memory_of state pending idle = record { state = state; pending = pending; idle = idle }
@@ -23,6 +30,11 @@ pub record IsBit (d : Description) (at : BitPlace) : Type 0 where
   pub word : at.word < d.words
   pub bit : at.bit < d.bits
 
+-- the last of these steps isn't a visit to the word that the first visits
+abbrev pub EndsElsewhere : List MarchStep → Type 0
+EndsElsewhere steps =
+    (v w : Visit) (behind before : List MarchStep) → steps ≡ visiting v ∷ behind → steps ≡ before ++ visiting w ∷ [] → v.address ≢ w.address
+
 pub record AreThere (d : Description) : Type 0 where
   pub words : (words pending : List ℕ) (idle : ℕ) → length words ≡ d.words → length pending + 1 ≡ d.latency → HasWords d (memory_of words pending idle)
   pub held : (words pending : List ℕ) (armed : Bool) (idle : ℕ) → length words ≡ d.words → length pending + 1 ≡ d.latency
@@ -34,3 +46,7 @@ pub record AreThere (d : Description) : Type 0 where
       → FitsBits link (three_bits a a v) d.words d.bits
   pub one_bit : (link : Link) (v : BitPlace) → link.first.agg ≡ None → link.second.agg ≡ None → IsBit d v → FitsBits link (three_bits v v v) d.words d.bits
   pub places : (p : DynamicPrimitive) (a v : BitPlace) → IsBit d a → IsBit d v → a.word ≢ v.word → FitsDynPlaces p (dyn_places p a v) d.words d.bits
+  pub reads : (decoder : Decoder) (j : ℕ) → j < d.bits → (r : ReadsSomeBit d.bits decoder (λ k words. read_words d.bits (decoder k) words)) × (r.bit ≡ j)
+  -- where the background 0 is the first, or the march ends elsewhere than it begins
+  pub first : (p : DynamicPrimitive) (march : List MarchElement) → slice_get d.backgrounds 0 ≡ Some 0 → BeginsAfresh p march d
+  pub elsewhere : (p : DynamicPrimitive) (march : List MarchElement) → EndsElsewhere (visits march (up march) d.words) → BeginsAfresh p march d

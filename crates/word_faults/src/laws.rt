@@ -1,29 +1,29 @@
-ghost use Rattle.word_faults.specs.Alike.{LinkedAsOne, DecodedByBits, DecodedPlainly, DynamicByCells, DynamicInPlace};
+ghost use Rattle.word_faults.specs.Alike.{LinkedAsOne, DecodedByBits, DecodedPlainly, DynamicByCells, DynamicInPlace, DynamicAnswers, DynamicRests};
 ghost use Rattle.word_faults.specs.There.{AreThere};
-ghost use Rattle.word_faults.specs.Laws.{LinkedFails, DecoderFails, DynamicFails};
+ghost use Rattle.word_faults.specs.Laws.{LinkedWrong, DecoderWrong, DynamicWrong};
 
 use march_core::March;
 use memory_desc::Memory;
 
-/// A self-test beside a memory with a detected linked fault ends with `fail`.
-pub fn linked_fails(march: &March, memory: &Memory)
-    ensures { LinkedFails march.now memory.now }
+/// A memory with a detected linked fault answers some read of the march wrong.
+pub fn linked_answers_wrong(march: &March, memory: &Memory)
+    ensures { LinkedWrong march.now memory.now }
 {
     march.known();
     memory.known();
 }
 
-/// A self-test beside a memory whose decoder has a detected fault ends with `fail`.
-pub fn decoder_fails(march: &March, memory: &Memory)
-    ensures { DecoderFails march.now memory.now }
+/// A memory whose decoder has a detected fault answers some read of the march wrong.
+pub fn decoder_answers_wrong(march: &March, memory: &Memory)
+    ensures { DecoderWrong march.now memory.now }
 {
     march.known();
     memory.known();
 }
 
-/// A self-test beside a memory with an instance of a detected dynamic primitive ends with `fail`, where the background before can't begin it.
-pub fn dynamic_fails(march: &March, memory: &Memory)
-    ensures { DynamicFails march.now memory.now }
+/// A memory with an instance of a detected dynamic primitive answers some read of the march wrong, where a run of the background 0 begins afresh.
+pub fn dynamic_answers_wrong(march: &March, memory: &Memory)
+    ensures { DynamicWrong march.now memory.now }
 {
     memory.known();
 }
@@ -37,9 +37,14 @@ pub fn memories_do_as_known()
     ensures plainly { DecodedPlainly }
     ensures by_cells { DynamicByCells }
     ensures in_place { DynamicInPlace }
+    ensures answers { DynamicAnswers }
+    ensures rests { DynamicRests }
 {}
 
-/// What the laws above ask for is there: in a memory of this description each content, each count of answers under way and of idle cycles, and each place.
+/// What the laws above ask for is there: in a memory of this description each content, each count of answers under way and of idle cycles, each place,
+/// and a run that begins afresh where the background 0 is the first or the march ends elsewhere than it begins.
 pub fn memories_are_there(memory: &Memory)
     ensures { AreThere memory.now }
-{}
+{
+    memory.known();
+}

@@ -203,6 +203,12 @@ def promised(graph: Graph, page: str) -> list[Clause]:
     return [clause for clause in graph.clauses if is_promised(clause)]
 
 
+def headline_count(graph: Graph) -> str:
+    """How much has to be read to know what the headline says."""
+    keys = headline_and_others(graph)[0]
+    return f"{len(keys):,} definitions of {lines_of(graph, keys):,} lines"
+
+
 def wrong_claims(graph: Graph, page: str) -> list[str]:
     """The lines of a page's list of calls that name a call or a clause that does not exist, and what is wrong. A name
     alone is that of a call in the crate of its line."""

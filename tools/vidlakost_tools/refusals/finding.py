@@ -240,6 +240,21 @@ def word_start(text: bytes, at: int) -> int:
     return at
 
 
+def character_start(text: bytes, at: int) -> int:
+    """The beginning of the character of UTF-8 that has this byte; the byte itself where it is in none."""
+    for start in range(at, max(at - 4, -1), -1):
+        if not 0x80 <= text[start] < 0xC0:
+            end = start + 1
+            while end < len(text) and end < start + 4 and 0x80 <= text[end] < 0xC0:
+                end += 1
+            try:
+                text[start:end].decode("utf-8")
+            except UnicodeDecodeError:
+                return at
+            return start if at < end else at
+    return at
+
+
 def word_at(text: bytes, at: int, behind: bool = False) -> str:
     """The word or the mark at a byte. With `behind` it is what begins there, not the word that ends there."""
     start = at if behind else word_start(text, at)

@@ -1,14 +1,20 @@
 """What other tools may read otherwise than the program, although the standard is on its side. In comments these are
 bytes that some tools obey, or take for the end of a line. There are also a `?` that some take for a digit, shifts by so
-much that some take another value, and names of a chip that SystemVerilog reserves."""
+much that some take another value, and names of a chip that SystemVerilog reserves. And where a module finds less than
+its report says of the march."""
 from __future__ import annotations
 
+import pathlib
 import re
 from typing import Iterator
 
 from vidlakost_tools.refusals.finding import place
 from vidlakost_tools.refusals.verilog import Events
 from vidlakost_tools.text import read_bytes, read_described, statements
+from vidlakost_tools.texts.faults import read_primitive
+from vidlakost_tools.texts.memory import Memory, read_memory
+from vidlakost_tools.texts.report import Report, read_report
+from vidlakost_tools.texts.running_on import begins_afresh
 from vidlakost_tools.verilog.syntax import COMMENT, Expression, Unread
 from vidlakost_tools.verilog.reserved_words import OF_SYSTEM_VERILOG
 
@@ -132,8 +138,28 @@ def of_chip(name: str, text: str) -> list[str]:
     return []
 
 
+def of_compiled(name: str, memory: Memory, report: Report) -> list[str]:
+    """The warning about a memory in whose test a run goes on into that of the background 0: the dynamic primitives that
+    the march covers, and that the module need not find."""
+    missed = [
+        verdict.primitive
+        for verdict in report.verdicts
+        if verdict.covered
+        and verdict.is_dynamic
+        and not begins_afresh(read_primitive(verdict.primitive), report.elements, memory)
+    ]
+    if not missed:
+        return []
+    return [
+        f"{name}: warning: the background 0 is not the first, and the run before it goes on into it without an idle cycle:"
+        f" the module need not find {' '.join(missed)}, which the march covers"
+    ]
+
+
 def warnings_of(words: list[str]) -> list[str]:
     """The warnings for a call that succeeded."""
+    if words[:1] == ["compile"] and len(words) == 6:
+        return of_compiled(words[2], read_memory(pathlib.Path(words[2])), read_report(pathlib.Path(words[5])))
     if words[:1] in (["check"], ["benchfile"]) and len(words) == 4:
         return of_module(words[1], read_bytes(words[1]))
     if words[:1] == ["chip"] and len(words) == 3:

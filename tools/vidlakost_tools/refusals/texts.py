@@ -9,6 +9,7 @@ from vidlakost_tools.refusals.finding import (
     GROUPS,
     Finding,
     at_of,
+    character_start,
     close_to,
     could_stand,
     line_start,
@@ -98,8 +99,14 @@ def unexpected(kind: str, name: str, text: bytes, at: int, names: list[str], is_
     """A byte that can't follow: the word that has it, or the word before it if that is incomplete."""
     inside = is_word or kind == "list" and b"<" in text[text.rfind(b"\n", 0, at) + 1 : at]
     tokens, notes, whole = could_stand(kind, text, at, is_word)
+    if at < len(text):
+        # what is said is a whole character, also where its first bytes could stand
+        at = character_start(text, at)
     start = at if inside or whole else word_start(text, at)
-    word = text[at : at + 1].decode("utf-8", "replace").strip("\n") if inside else word_at(text, at, whole)
+    end = at + 1
+    while inside and end < len(text) and 0x80 <= text[end] < 0xC0:
+        end += 1
+    word = text[at:end].decode("utf-8", "replace").strip("\n") if inside else word_at(text, at, whole)
     meant = (
         close_to(word, [token for token in tokens or names if re.match(r"[A-Za-z]", token)])
         if word and not inside

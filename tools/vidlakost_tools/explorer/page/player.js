@@ -111,7 +111,7 @@ function wordsOf(step, escape) {
   let done = "Before the march";
   if (step.operation === "del") done = `Element ${step.element}: a pause`;
   else if (step.element !== null) {
-    const place = step.reaches === undefined ? `on cell ${step.cell}` : `at address ${roleOf(escape, step.cell)}, ${step.cell},`;
+    const place = step.reaches === undefined ? `on cell ${step.cell}` : `at address ${step.cell} (${roleOf(escape, step.cell)})`;
     done = `Element ${step.element}, going ${direction}: ${step.operation} ${place}`;
     if (step.answer !== null) done += ` reads ${step.answer}, ${step.differs ? "which differs" : "as expected"}`;
   }

@@ -1,35 +1,36 @@
 -- Words with at most one planted instance are a lawful memory: with one of a detected primitive some reply differs, and without each is right.
-use Rattle.std.proofs.Common.{◌≡◌, ◌<◌, ℕ, Option, Some, None, List, [], ◌∷◌, refl, ap, ◌∙◌}
+use Rattle.std.proofs.Common.{◌≡◌, ◌<◌, ℕ, Option, Some, None, List, [], ◌∷◌, length, refl, ap, sym, subst, ◌∙◌}
 use Rattle.std.specs.Prelude.{slice_get}
-use Rattle.fault_core.specs.Primitive.{IsPrimitive}
+use Rattle.fault_core.specs.Primitive.{Primitive, IsPrimitive}
 use Rattle.march_core.specs.March.{MarchElement, IsMarch}
-use Rattle.array_sim.specs.Detection.{DetectsAt}
+use Rattle.array_sim.specs.Detection.{Detects, DetectsAt}
 use Rattle.memory_desc.specs.Descriptions.{Description, IsMemory}
 use Rattle.word_march.specs.declared.operations.WordOp.{WordOp}
 use Rattle.word_march.specs.Commands.{word_steps}
 use Rattle.word_device.specs.declared.device.Planted.{Planted}
-use Rattle.word_device.specs.Chips.{FitsMemory, words_paused, words_after, reply_to}
+use Rattle.word_device.specs.Chips.{FitsMemory, closed_words, words_paused, words_after, reply_to}
+use Rattle.word_device.proofs.Closed.{closed_twice, length-closed_words}
 use Rattle.word_device.proofs.Core.{replies as plain_replies, stepped, length_stepped, AllRepliesRight}
 use Rattle.word_device.proofs.Catching.{ready_stepped, catches}
 use Rattle.word_device.proofs.Passing.{passes}
 use Rattle.word_device.proofs.Porting.{words_same, reply_same}
 use Rattle.word_device.proofs.Running.{Settles, plain_settles, instance_settles}
-use Rattle.bench.specs.Memories.{words_with}
-use Rattle.word_faults.proofs.Memories.{IsLawful, replies}
-use Rattle.word_faults.proofs.Attaching.{AlwaysDiffers}
-use Rattle.collar_test.specs.CollarTest.{IsWhole}
+use Rattle.word_device.specs.Memories.{words_with}
+use Rattle.word_device.specs.Answers.{IsWhole, PlantedWrong}
+use Rattle.word_device.proofs.Answering.{IsLawful, replies}
+use Rattle.word_device.proofs.Attaching.{AlwaysDiffers, from_any, answers_wrong}
 
 abbrev pub Sound : Description → Option Planted → Type 0
 Sound d None = Unit {0}
 Sound d (Some i) = IsPrimitive i.prim × (i.vic.word < d.words)
 
-whole_stepped : (d : Description) (planted : Option Planted) → Sound d planted → (ws : List ℕ) (s : Option WordOp) → IsWhole d planted ws → IsWhole d planted (stepped planted ws s)
+pub whole_stepped : (d : Description) (planted : Option Planted) → Sound d planted → (ws : List ℕ) (s : Option WordOp) → IsWhole d planted ws → IsWhole d planted (stepped planted ws s)
 whole_stepped d None sound ws s h = record { size = length_stepped None ws s ∙ h.size; closed = refl }
 whole_stepped d (Some i) sound ws s h =
     let ready = ready_stepped i d.words ws s sound.0 sound.1 (record { size = h.size; closed = h.closed }) in
     record { size = ready.size; closed = ready.closed }
 
-settles_of : (d : Description) (planted : Option Planted) → Sound d planted → Settles planted d.words
+pub settles_of : (d : Description) (planted : Option Planted) → Sound d planted → Settles planted d.words
 settles_of d None sound = plain_settles d.words
 settles_of d (Some i) sound = instance_settles i d.words sound.0 sound.1
 
@@ -75,3 +76,21 @@ pub words_right : (march : List MarchElement) (d : Description) → IsMarch marc
     → AllRepliesRight (word_steps march d) (replies (words_with None) (IsWhole d None) (lawful_words d None tt) ws (word_steps march d))
 words_right march d is ws good = λ j o at read.
     ap (λ l. slice_get l j) (replies_same d None tt (word_steps march d) ws) ∙ passes march d ws is good.size j o at read
+
+-- a memory in which an instance of a detected primitive was planted
+pub whole_planted : (d : Description) (i : Planted) (words : List ℕ) → IsPrimitive i.prim → i.vic.word < d.words → length words ≡ d.words → IsWhole d (Some i) (closed_words i words)
+whole_planted d i words is inside size = record {
+  size = length-closed_words i words ∙ size;
+  closed = closed_twice i words is (subst (λ (n : ℕ). i.vic.word < n) (sym size) inside);
+}
+
+pub planted_caught : (march : List MarchElement) (d : Description) → IsMemory d → (p : Primitive) → IsPrimitive p → Detects march p → (i : Planted) → i.prim ≡ p → FitsMemory i d.words d.bits
+    → AlwaysDiffers (words_with (Some i)) (IsWhole d (Some i)) march d
+planted_caught march d m p is detects i same fits =
+    words_caught march d m i (subst IsPrimitive (sym same) is) fits (let all : Detects march i.prim = subst (Detects march) (sym same) detects in all d.words m.words_low)
+
+pub planted_wrong : (march : List MarchElement) (d : Description) → IsMemory d → PlantedWrong march d
+planted_wrong march d m p is detects memory i has same fits =
+    let caught = planted_caught march d m p is detects i same fits in
+    answers_wrong (words_with (Some i)) (IsWhole d (Some i)) (λ s. Unit {0}) march d (from_any (words_with (Some i)) (IsWhole d (Some i)) march d caught) m
+    (record memory { state = closed_words i memory.state }) (whole_planted d i memory.state (subst IsPrimitive (sym same) is) fits.word has.words)

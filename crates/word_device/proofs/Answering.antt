@@ -23,7 +23,8 @@ use Rattle.word_device.specs.Runs.{run_slots, IsCommand, IsSlot, AreSlots, comma
 use Rattle.word_device.proofs.Core.{operations}
 use Rattle.word_device.proofs.Indexes.{index_found}
 use Rattle.word_device.proofs.Porting.{one_index, InMemory, march_in_memory, op_of, twice, command_of}
-use Rattle.bench.specs.Memories.{Behaviour, Memory, acted_at, answer_at, rested, own_answer, memory_after}
+use Rattle.word_device.specs.Memories.{Behaviour, Memory, acted_at, answer_at, rested, own_answer, memory_after}
+use Rattle.word_device.specs.Answers.{own_answers}
 
 -- of a read the word plays no part; idle cycles before or behind a pause, and a pause that is taken again, change nothing; and what is good stays good
 pub record IsLawful {S : Type 0} (b : Behaviour S) (Good : S → Type 0) : Type 0 where
@@ -82,10 +83,6 @@ module _ {S : Type 0} (b : Behaviour S) (Good : S → Type 0) (lawful : IsLawful
 
   -- ---- of a read the data at the port play no part, and of an idle cycle neither does the rest
 
-  unfoldable pub own_answers : Shape → Memory S → List PortCmd → List ℕ
-  own_answers shape m [] = []
-  own_answers shape m (cmd ∷ cmds) = own_answer b shape m cmd ∷ own_answers shape (memory_after b shape m cmd) cmds
-
   abbrev next : Memory S → S → ℕ → ℕ → Memory S
   next m s own idle = record { state = s; pending = drop 1 (queued m.pending own); idle = idle }
 
@@ -128,14 +125,14 @@ module _ {S : Type 0} (b : Behaviour S) (Good : S → Type 0) (lawful : IsLawful
       ∙ ap (λ s. next m s (own_answer b shape m (command_in (Some o))) 0) (acts_same shape m.state o cmd is)
 
   pub answers_of_slots : (shape : Shape) (ss : List (Option PortOp)) (cmds : List PortCmd) → AreSlots ss cmds → (m : Memory S)
-      → own_answers shape m cmds ≡ own_answers shape m (map command_in ss)
+      → own_answers b shape m cmds ≡ own_answers b shape m (map command_in ss)
   unfolding own_answers
   answers_of_slots shape [] [] are m = refl
   answers_of_slots shape [] (cmd ∷ cmds) are m = absurd are
   answers_of_slots shape (x ∷ ss) [] are m = absurd are
   answers_of_slots shape (x ∷ ss) (cmd ∷ cmds) are m =
-      ap (λ own. own ∷ own_answers shape (memory_after b shape m cmd) cmds) (own_same shape m x cmd are.0)
-      ∙ ap (λ c. own_answer b shape m (command_in x) ∷ own_answers shape c cmds) (memory_same shape m x cmd are.0)
+      ap (λ own. own ∷ own_answers b shape (memory_after b shape m cmd) cmds) (own_same shape m x cmd are.0)
+      ∙ ap (λ c. own_answer b shape m (command_in x) ∷ own_answers b shape c cmds) (memory_same shape m x cmd are.0)
       ∙ ap (λ l. own_answer b shape m (command_in x) ∷ l) (answers_of_slots shape ss cmds are.1 (memory_after b shape m (command_in x)))
 
   -- ---- idle cycles
@@ -156,15 +153,15 @@ module _ {S : Type 0} (b : Behaviour S) (Good : S → Type 0) (lawful : IsLawful
   idle_count shape (suc n) a = idle_count shape n (idle_more shape a)
 
   answers_behind : (shape : Shape) (n k : ℕ) (rest : List (Option PortOp)) (s : S) (pending : List ℕ) (a : ℕ)
-      → slice_get (own_answers shape (memory_of s pending a) (map command_in (replicate n None ++ rest))) (n + k)
-      ≡ slice_get (own_answers shape (memory_of (idle_state shape n s a) (idle_pending n pending) (idle_count shape n a)) (map command_in rest)) k
+      → slice_get (own_answers b shape (memory_of s pending a) (map command_in (replicate n None ++ rest))) (n + k)
+      ≡ slice_get (own_answers b shape (memory_of (idle_state shape n s a) (idle_pending n pending) (idle_count shape n a)) (map command_in rest)) k
   unfolding own_answers
   answers_behind shape zero k rest s pending a =
       let same : 0 + k ≡ k = omega arith in
-      ap (slice_get (own_answers shape (memory_of s pending a) (map command_in rest))) same
+      ap (slice_get (own_answers b shape (memory_of s pending a) (map command_in rest))) same
   answers_behind shape (suc n) k rest s pending a =
       let on : suc n + k ≡ suc (n + k) = omega arith in
-      ap (slice_get (own_answers shape (memory_of s pending a) (map command_in (replicate (suc n) None ++ rest)))) on
+      ap (slice_get (own_answers b shape (memory_of s pending a) (map command_in (replicate (suc n) None ++ rest)))) on
       ∙ answers_behind shape n k rest (rested b shape s a) (drop 1 (queued pending 0)) (idle_more shape a)
 
   rested_settled : (shape : Shape) (s : S) (a : ℕ) → b.paused s ≡ s → b.idled s ≡ s → rested b shape s a ≡ s
@@ -213,7 +210,7 @@ module _ {S : Type 0} (b : Behaviour S) (Good : S → Type 0) (lawful : IsLawful
 
   pub answer_in_run : (d : Description) → IsMemory d → (ss : List (Option WordOp)) → InMemory d.words d.bits (operations ss)
       → (s : S) (pending : List ℕ) (a : ℕ) → Good s → (j : ℕ) (o : WordOp) (r : ℕ) → slice_get (operations ss) j ≡ Some o → slice_get (replies s ss) j ≡ Some r
-      → slice_get (own_answers (shape_of d) (memory_of s pending a) (map command_in (cycles d ss))) (place d ss j) ≡ Some (shown o.write d.polarity r)
+      → slice_get (own_answers b (shape_of d) (memory_of s pending a) (map command_in (cycles d ss))) (place d ss j) ≡ Some (shown o.write d.polarity r)
   unfolding own_answers
   answer_in_run d m [] within s pending a good j o r op reply = cc
   answer_in_run d m (None ∷ ss) within s pending a good j o r op reply =
@@ -223,28 +220,28 @@ module _ {S : Type 0} (b : Behaviour S) (Good : S → Type 0) (lawful : IsLawful
       let paused : S = b.paused s in
       let after : List ℕ = idle_pending d.pause pending in
       let count : ℕ = idle_count shape d.pause a in
-      ap (slice_get (own_answers shape (memory_of s pending a) (map command_in (cycles d (None ∷ ss))))) (behind_pause d ss j)
+      ap (slice_get (own_answers b shape (memory_of s pending a) (map command_in (cycles d (None ∷ ss))))) (behind_pause d ss j)
       ∙ answers_behind shape d.pause (place d ss j) rest s pending a
-      ∙ ap (λ x. slice_get (own_answers shape (memory_of x after count) (map command_in rest)) (place d ss j)) (idle_paused shape d.pause s a good low (omega arith))
+      ∙ ap (λ x. slice_get (own_answers b shape (memory_of x after count) (map command_in rest)) (place d ss j)) (idle_paused shape d.pause s a good low (omega arith))
       ∙ answer_in_run d m ss within paused after count (lawful.good_paused s good) j o r op reply
   answer_in_run d m (Some x ∷ ss) within s pending a good zero o r op reply =
       let shape : Shape = shape_of d in
       let same : x ≡ o = cc in
       let is : b.reply s x ≡ r = cc in
-      ap (slice_get (own_answers shape (memory_of s pending a) (map command_in (cycles d (Some x ∷ ss))))) (first_place d x ss)
+      ap (slice_get (own_answers b shape (memory_of s pending a) (map command_in (cycles d (Some x ∷ ss))))) (first_place d x ss)
       ∙ ap Some (operation_answers d x s m within.0 within.1 ∙ ap (λ (y : WordOp). shown y.write d.polarity (b.reply s x)) same ∙ ap (shown o.write d.polarity) is)
   answer_in_run d m (Some x ∷ ss) within s pending a good (suc j) o r op reply =
       let shape : Shape = shape_of d in
       let memory : Memory S = memory_of s pending a in
       let after : List ℕ = drop 1 (queued pending (own_answer b shape memory (command_of d x))) in
       let then_ : S = b.after s x in
-      ap (slice_get (own_answers shape memory (map command_in (cycles d (Some x ∷ ss))))) (next_place d x ss j)
-      ∙ ap (λ y. slice_get (own_answers shape (memory_of y after 0) (map command_in (cycles d ss))) (place d ss j)) (operation_acts d x s m within.0 within.1)
+      ap (slice_get (own_answers b shape memory (map command_in (cycles d (Some x ∷ ss))))) (next_place d x ss j)
+      ∙ ap (λ y. slice_get (own_answers b shape (memory_of y after 0) (map command_in (cycles d ss))) (place d ss j)) (operation_acts d x s m within.0 within.1)
       ∙ answer_in_run d m ss within.2 then_ after 0 (lawful.good_after s x good) j o r op reply
 
   -- what the memory alone answers to the run
   unfoldable pub run_answers : List MarchElement → Description → Memory S → List ℕ
-  run_answers march d m = own_answers (shape_of d) m (map command_in (run_slots march d))
+  run_answers march d m = own_answers b (shape_of d) m (map command_in (run_slots march d))
 
   unfoldable pub begun : Description → Memory S → S
   begun d m = rested b (shape_of d) m.state m.idle
@@ -266,5 +263,5 @@ module _ {S : Type 0} (b : Behaviour S) (Good : S → Type 0) (lawful : IsLawful
       let next_ : ℕ = command_at march d j in
       let on : cycle_of march d j ≡ suc next_ = omega arith in
       let found = answer_in_run d is (word_steps march d) (march_in_memory march d is) (rested b (shape_of d) m.state m.idle) _ _ (good_begun d m good) j o r op reply in
-      ap (slice_index (own_answers (shape_of d) m (map command_in (run_slots march d)))) on ∙ get_or_from_slice_get _ next_ _ 0 found
+      ap (slice_index (own_answers b (shape_of d) m (map command_in (run_slots march d)))) on ∙ get_or_from_slice_get _ next_ _ 0 found
       ∙ ap (λ (w : Bool). shown w d.polarity r) read
