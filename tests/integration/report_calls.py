@@ -14,7 +14,7 @@ CALLS: List[Call] = [
     Call("tools/explain 'both and'", prints="AF3 with AF4"),
     Call("tools/explain LF2av", prints="the first primitive alone has an aggressor"),
     Call("tools/explain LF", prints="LF3\n"),
-    Call("tools/explain CFin", prints="two primitives of CFds, as <0w1;0/1/-> and <0w1;1/0/->"),
+    Call("tools/explain CFin", prints="judges it as LF2aa <0w1;0/1/-> <0w1;1/0/->"),
     Call("tools/explain SAF", prints="both are SF"),
     Call("tools/explain linked", prints="linked MARCH REPORT judges all of them"),
     Call("tools/explain CFdrd", prints="CFdr here\nCFdr\n    DRDF of the victim, while the aggressor is in a state"),
@@ -66,8 +66,9 @@ CALLS: List[Call] = [
     Call("tools/trace linked.report LF1", status=2, says="trace: linked.report has no escape of LF1"),
     Call("tools/trace linkhit.report", status=1, prints="is caught in element 1, so it is no escape"),
     Call(
-        "tools/trace linkcount.report", status=2, says="trace: linkcount.report:607: the count does not fit the lines"
+        "tools/trace linkcount.report", status=2, says="trace: linkcount.report:608: the count does not fit the lines"
     ),
+    Call("tools/trace linkonce.report", status=2, says="trace: linkonce.report:607: the count does not fit the lines"),
     Call("tools/trace linkcell.report", status=2, says="trace: linkcell.report:13: the line is no verdict on a link"),
     Call(
         "tools/trace inside.report",
@@ -76,7 +77,7 @@ CALLS: List[Call] = [
     ),
     Call(
         "tools/trace inside.report --memory t.mem",
-        prints="<0w1;0/1/-> CFds aggressor 0 victim 1 reading before: acts in background 0, element 1, and the same operation",
+        prints="CFds aggressor 0 victim 1 reading before: acts in background 0, element 1, and the same operation",
     ),
     Call("tools/trace inside.report --memory t.mem --steps", prints="  background 2 element 0  w0   01  01\n"),
     Call(

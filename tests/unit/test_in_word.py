@@ -32,11 +32,21 @@ class Reports(unittest.TestCase):
     def test_a_report(self) -> None:
         report = self.read(REPORT)
         self.assertEqual(
-            report.verdicts, [WordVerdict("<0;0/1/->", "CFst"), WordVerdict("<0w1;0/1/->", "CFds", 0, 1, "00", "behind")]
+            report.verdicts,
+            [WordVerdict("<0;0/1/->", "CFst"), WordVerdict("<0w1;0/1/->", "CFds", 0, 1, "00", "behind")],
         )
         self.assertEqual((report.apart, report.total), (3, (2, 1, 1)))
         self.assertEqual(report.classes, {"CFst": (1, 1), "CFds": (1, 0)})
         self.assertEqual(report.memory["bits"], 2)
+
+    def test_both_readings(self) -> None:
+        """What escapes in both passes at its bits in the first; each reading has a count of its own."""
+        report = self.read(REPORT.replace("reading behind", "reading both"))
+        verdict = report.escapes[0]
+        self.assertEqual((verdict.reading, verdict.first), ("both", "before"))
+        self.assertEqual(report.by_reading, [1, 1])
+        self.assertEqual(self.read(REPORT).by_reading, [2, 1])
+        self.assertEqual(self.read(REPORT).as_object()["readings"], {"before": 2, "behind": 1})
 
     def test_one_bit(self) -> None:
         text = f"march {MARCH}\nmemory duo words 2 bits 1 backgrounds 1 commands 8\napart 3\nno two bits 2\n"
@@ -91,7 +101,11 @@ class Couples(unittest.TestCase):
 
     def test_two_readings(self) -> None:
         # both bits go from 0 to 1: behind the write the other bit holds 1
-        for primitive, acts in (("<0;0w1/0/->", (True, False)), ("<1;0w1/0/->", (False, True)), ("<0w1;1/0/->", (False, True))):
+        for primitive, acts in (
+            ("<0;0w1/0/->", (True, False)),
+            ("<1;0w1/0/->", (False, True)),
+            ("<0w1;1/0/->", (False, True)),
+        ):
             for reading, wanted in zip(in_word.READINGS, acts):
                 verdict = WordVerdict(primitive, "CF", 1, 0, "00", reading)
                 steps = list(in_word.steps_of(verdict, elements_of(MARCH), MEMORY))

@@ -25,6 +25,21 @@ class Reports(unittest.TestCase):
         self.assertEqual(report.escapes, [LinkVerdict("LF1", "<0w0/1/->", "<1w1/0/->", None, None, 0, "100", "uu")])
         self.assertEqual(report.covered, 599)
         self.assertEqual(report.kinds["LF1"], (12, 11))
+        self.assertEqual((report.devices, report.inversions), ((600, 599), (2, 1)))
+
+    def test_each_device_once(self) -> None:
+        """Both orders of two primitives are one device; with an aggressor of one alone they are of two kinds."""
+        lines = [
+            LinkVerdict("LF1", "<0w0/1/->", "<1w1/0/->"),
+            LinkVerdict("LF1", "<1w1/0/->", "<0w0/1/->"),
+            LinkVerdict("LF2aa", "<0w1;0/1/->", "<0w1;1/0/->", 0, 0, 1, "000", "u"),
+            LinkVerdict("LF2av", "<0w1;0/1/->", "<1w0/1/->"),
+            LinkVerdict("LF2va", "<1w0/1/->", "<0w1;0/1/->"),
+            LinkVerdict("LF3", "<0w1;0/1/->", "<0w1;1/0/->"),
+        ]
+        report = linked.LinkedReport("", [], lines)
+        self.assertEqual(report.devices, (4, 3))
+        self.assertEqual(report.inversions, (2, 0))
 
     def test_what_is_none(self) -> None:
         for old, new in (
@@ -35,6 +50,7 @@ class Reports(unittest.TestCase):
             ("directions uu", "directions u"),
             ("content 100", "content 10"),
             ("kind LF1 total 12 covered 11 escapes 1", "kind LF1 total 12 covered 12 escapes 0"),
+            ("devices total 600", "devices total 599"),
             ("march {any(w0)", "march {any(w0"),
         ):
             self.assertRaises(ToolError, self.read, LINKED.replace(old, new, 1))

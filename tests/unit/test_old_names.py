@@ -31,6 +31,7 @@ class Names(unittest.TestCase):
         for name in ("CFin", "cfid", "SAF", "AF", "LF", "LF2aa", "linked", "SOF"):
             self.assertIsNotNone(meaning_of(name), name)
         self.assertIn("`decoder MARCH REPORT`", meaning_of("AF") or "")
+        self.assertIn("LF2aa <0w1;0/1/-> <0w1;1/0/->", meaning_of("CFin") or "")
         self.assertIn("`linked MARCH REPORT`", meaning_of("lf3") or "")
 
     def test_a_slip_means_the_closest(self) -> None:

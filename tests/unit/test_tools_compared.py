@@ -7,7 +7,11 @@ from unittest import mock
 
 from tests.unit.stand_in import Tools
 from vidlakost_tools.commands import compare
+from vidlakost_tools.commands.compare import Judged
 from vidlakost_tools.refusals import finding
+from vidlakost_tools.texts.in_word import InWordReport, WordVerdict
+from vidlakost_tools.texts.linked import INVERSIONS, LinkedReport, LinkVerdict
+from vidlakost_tools.texts.report import Report
 from vidlakost_tools.tool import ToolError
 
 
@@ -48,6 +52,31 @@ class Compared(Tools):
         lines = self.tool("compare", "@/l.list", "@/short.m", "@/other/short.m")[1]
         self.assertEqual(len(lines), 3)
         self.assertTrue(lines[2].startswith("@/other/short.m"), lines)
+
+
+class Columns(unittest.TestCase):
+    def test_inversion_couplings(self) -> None:
+        """March X covers CFin, and none of the primitives that it is made of."""
+        links = [LinkVerdict(kind, first, second) for kind, first, second in map(str.split, INVERSIONS)]
+        report = mock.Mock(spec=Report, classes={}, total=(12, 0, 12), elements=[])
+        decoder = mock.Mock(covered=6, verdicts=[None] * 6)
+        lines = [*compare.table(["x"], [Judged(report, decoder, LinkedReport("", [], links))])]
+        self.assertEqual(
+            [line.split()[2:] for line in lines], [["total", "AF", "LF", "CFin"], ["0/12", "6/6", "2/2", "2/2"]]
+        )
+
+    def test_readings_inside_a_word(self) -> None:
+        """Of three couplings one is covered in both readings, one in `before` alone, one in neither."""
+        verdicts = [
+            WordVerdict("<0;0/1/->", "CFst"),
+            WordVerdict("<0;0w1/0/->", "CFtr", 1, 0, "00", "behind"),
+            WordVerdict("<0w1;0/1/->", "CFds", 1, 0, "00", "both"),
+        ]
+        lines = [*compare.table(["x"], [Judged(InWordReport("", [], {}, verdicts, 0))])]
+        self.assertEqual(
+            [line.split()[2:] for line in lines],
+            [["CFst", "CFtr", "CFds", "total", "before", "behind"], ["1/1", "0/1", "0/1", "1/3", "2/3", "1/3"]],
+        )
 
 
 class Launcher(Tools):

@@ -5,8 +5,9 @@ usage: vidlakost compare LIST MARCH MARCH ..          a table, then a line for e
        vidlakost compare LIST MARCH MARCH .. --memory MEMORY [--json]    also what they cover inside a word of it
        vidlakost compare --help
 
-The column AF counts the faults of the address decoder, and LF the linked faults; no list has these. The object has
-these keys:
+The column AF counts the faults of the address decoder, LF the linked faults, and CFin, among these, the inversion
+couplings; no list has these. Inside a word the columns `before` and `behind` have what one reading alone would call
+covered. The object has these keys:
     schema      vidlakost-compare-1
     reports     by the word of each march: its report, in the schema of `vidlakost report`
     decoder     by the word of each march: its verdicts on the faults of the address decoder
@@ -22,8 +23,8 @@ import pathlib
 from typing import Iterator, Optional, Sequence, Union
 
 from vidlakost_tools.texts.decoder import CLASS, DecoderReport, DecoderVerdict, decoded
-from vidlakost_tools.texts.in_word import InWordReport, WordVerdict, judged_in_word
-from vidlakost_tools.texts.linked import LinkedReport, linked
+from vidlakost_tools.texts.in_word import READINGS, InWordReport, WordVerdict, judged_in_word
+from vidlakost_tools.texts.linked import CFIN, LinkedReport, linked
 from vidlakost_tools.texts.march import length_of
 from vidlakost_tools.texts.report import Report, Verdict, judged
 from vidlakost_tools.tool import words_of
@@ -50,16 +51,25 @@ def names_of(words: list[str]) -> list[str]:
 
 
 def table(names: list[str], marches: list[Judged]) -> Iterator[str]:
-    rows = [["march", "length", *marches[0].report.classes, "total", *([CLASS, "LF"] if marches[0].decoder else [])]]
+    inside = isinstance(marches[0].report, InWordReport)
+    more = READINGS if inside else [CLASS, "LF", CFIN] if marches[0].decoder else ()
+    rows = [["march", "length", *marches[0].report.classes, "total", *more]]
     for name, march in zip(names, marches):
         report = march.report
         shares = [f"{covered}/{count}" for count, covered in report.classes.values()]
         shares.append(f"{report.total[1]}/{report.total[0]}")
         shares += [f"{it.covered}/{len(it.verdicts)}" for it in (march.decoder, march.linked) if it]
+        shares += ["{1}/{0}".format(*march.linked.inversions)] if march.linked else []
+        shares += [f"{covered}/{report.total[0]}" for covered in by_reading(report)]
         rows.append([name, length_of(report.elements), *shares])
     widths = [max(map(len, column)) for column in zip(*rows)]
     for row in rows:
         yield "  ".join([row[0].ljust(widths[0]), *(cell.rjust(width) for cell, width in zip(row[1:], widths[1:]))])
+
+
+def by_reading(report: Union[Report, InWordReport]) -> list[int]:
+    """Inside a word: how many couplings each reading alone would call covered."""
+    return report.by_reading if isinstance(report, InWordReport) else []
 
 
 def differing(names: list[str], marches: list[Judged]) -> Iterator[tuple[str, str, list[str]]]:

@@ -39,7 +39,7 @@ from vidlakost_tools.pages import signoff
 from vidlakost_tools.text import beside, shown
 from vidlakost_tools.texts import reasons
 from vidlakost_tools.texts.chip import read_chip
-from vidlakost_tools.texts.in_word import InWordReport, is_in_word, read_in_word
+from vidlakost_tools.texts.in_word import BOTH, InWordReport, WordVerdict, is_in_word, read_in_word
 from vidlakost_tools.texts.march import length_of
 from vidlakost_tools.texts.report import Report, read_report
 from vidlakost_tools.tool import ToolError, refuse_inputs, usage_of, words_of
@@ -102,12 +102,17 @@ def escape_rows(report: Report) -> Iterator[str]:
         yield "<tr>" + marked(code(verdict.primitive)) + cell(verdict.kind) + cell(array) + cell(why) + "</tr>"
 
 
+def in_readings(verdict: WordVerdict) -> str:
+    """In which readings an escape inside a word escapes."""
+    return "in both readings" if verdict.reading == BOTH else f"in the reading {verdict.reading} alone"
+
+
 def in_word_rows(report: InWordReport) -> Iterator[str]:
     """A row for each escape inside a word: its two bits, and what they hold."""
     for verdict in report.escapes:
         bits = (
             f"aggressor at bit {verdict.aggressor}, victim at bit {verdict.victim}, which hold {verdict.content[0]} and"
-            f" {verdict.content[1]}, in the reading {verdict.reading}"
+            f" {verdict.content[1]}, {in_readings(verdict)}"
         )
         yield "<tr>" + marked(code(verdict.primitive)) + cell(verdict.kind) + cell(bits) + "</tr>"
 

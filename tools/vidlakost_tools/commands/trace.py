@@ -13,7 +13,7 @@ does. In a table of steps `*` marks where it acts, and after the cells comes wha
 `decoder` a PRIM is the name of a fault, as 'both and', and the steps say which of its two addresses is visited. In a
 report of `linked` it is a link, as 'LF1 <0w1/0/-> <0w0/1/->', and the number of the primitive that acts replaces the
 `*`. Inside a word the cells are two bits, the aggressor's first. An operation is the march's; the two digits after it
-are what it writes or expects in the background.
+are what it writes or expects in the background. Of an escape in both readings the steps show the reading `before`.
 The calls name a file with the march, REPORT.m, which trace writes beside the report. A dynamic escape has no call, and
 --run replays it in a plain model of the definition. trace ends with 1 if a read differs at an escape, which happens in
 no report of the program. `vidlakost replay REPORT` is --calls."""

@@ -17,7 +17,7 @@ from vidlakost_tools.tool import ToolError
 
 ESCAPE = re.compile(
     rf"escape {ITEM} aggressor (?P<aggressor>[0-9]{{1,2}}) victim (?P<victim>[0-9]{{1,2}}) content"
-    r" (?P<content>[01]{2}) reading (?P<reading>before|behind)"
+    r" (?P<content>[01]{2}) reading (?P<reading>before|behind|both)"
 )
 APART = re.compile(f"apart (?P<apart>{COUNT})")
 # the line of a memory with one bit a word
@@ -26,12 +26,13 @@ UNPAIRED = re.compile(f"no two bits (?P<unpaired>{COUNT})")
 CONTENTS = ("00", "01", "10", "11")
 # where a write of the word finds the state of a bit beside the act: as it was before the write, or as it leaves it
 READINGS = ("before", "behind")
+BOTH = "both"
 
 
 @dataclasses.dataclass
 class WordVerdict:
-    """A line on a coupling. For an escape it has the numbers of two bits, what they hold, the aggressor's digit first,
-    and the reading in which it escapes."""
+    """A line on a coupling. For an escape it has the reading in which it escapes, or `both`. It also has the numbers of
+    two bits, and what they hold, the aggressor's digit first. In the first of its readings it escapes there."""
 
     primitive: str
     kind: str
@@ -43,6 +44,14 @@ class WordVerdict:
     @property
     def covered(self) -> bool:
         return not self.content
+
+    @property
+    def first(self) -> str:
+        """The reading in which the two bits of an escape pass."""
+        return READINGS[0] if self.reading == BOTH else self.reading
+
+    def escapes_in(self, reading: str) -> bool:
+        return not self.covered and self.reading in (reading, BOTH)
 
     def as_object(self) -> dict[str, object]:
         made: dict[str, object] = {"primitive": self.primitive, "class": self.kind, "covered": self.covered}
@@ -85,6 +94,11 @@ class InWordReport:
         escapes = len(self.escapes)
         return len(self.verdicts), len(self.verdicts) - escapes, escapes
 
+    @property
+    def by_reading(self) -> list[int]:
+        """How many couplings each reading alone would call covered."""
+        return [sum(not verdict.escapes_in(reading) for verdict in self.verdicts) for reading in READINGS]
+
     def as_object(self) -> dict[str, object]:
         """The report in the schema of `vidlakost report --json`."""
         classes = {kind: {"primitives": count, "covered": covered} for kind, (count, covered) in self.classes.items()}
@@ -98,6 +112,7 @@ class InWordReport:
             "apart": self.apart,
             "no_two_bits": self.unpaired,
             "total": dict(zip(("primitives", "covered", "escapes"), self.total)),
+            "readings": dict(zip(READINGS, self.by_reading)),
         }
 
 
@@ -248,7 +263,7 @@ def digits(word: int, aggressor: int, victim: int) -> str:
 
 def steps_of(verdict: WordVerdict, elements: list[Element], memory: Memory) -> Iterator[WordStep]:
     """The steps of the test at the two bits of an escape, up to the first read that shows another pair."""
-    couple = Couple(read_primitive(verdict.primitive), verdict.content, verdict.reading)
+    couple = Couple(read_primitive(verdict.primitive), verdict.content, verdict.first)
     due = verdict.content
     acts = couple.close()
     yield WordStep(None, None, "", couple.shown(), due, None, acts)
@@ -312,7 +327,7 @@ def why_never(verdict: WordVerdict, steps: list[WordStep]) -> str:
         own, other, names = other, own, ("the victim", "the aggressor")
     if not meets_alone(couple, steps):
         return f"no {operation} comes at {names[0]} while it holds {own.state}"
-    if verdict.reading == READINGS[1] and operation[0] == "w":
+    if verdict.first == READINGS[1] and operation[0] == "w":
         return f"{operation} never comes at {names[0]} where {names[1]} is written {other.state}"
     return f"{operation} never comes at {names[0]} while {names[1]} holds {other.state}"
 

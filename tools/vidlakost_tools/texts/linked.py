@@ -22,6 +22,11 @@ MEANS = {
     "LF2va": "linked faults of two cells: the second primitive alone has an aggressor",
     "LF3": "linked faults of three cells: each primitive has an aggressor of its own",
 }
+# the inversion couplings: by one write of the aggressor, from either state of the victim to the other
+CFIN = "CFin"
+INVERSIONS = ("LF2aa <0w1;0/1/-> <0w1;1/0/->", "LF2aa <1w0;0/1/-> <1w0;1/0/->")
+# of the kinds whose two primitives differ in their cells: the kind with the two exchanged
+EXCHANGED = {"LF2av": "LF2va", "LF2va": "LF2av"}
 LINK = f"(?P<kind>{'|'.join(KINDS)}) (?P<first><[^ ]+>) (?P<second><[^ ]+>)"
 VERDICT = re.compile(
     f"(?P<verdict>covered|escape) {LINK}(?: a (?P<a>[012]|none) b (?P<b>[012]|none) v (?P<v>[012]) content"
@@ -57,6 +62,11 @@ class LinkVerdict:
     def primitive(self) -> str:
         """The key by which lists of verdicts name this one."""
         return f"{self.kind} {self.first} {self.second}"
+
+    @property
+    def exchanged(self) -> str:
+        """The key of the link with its two primitives exchanged, which is the same device."""
+        return f"{EXCHANGED.get(self.kind, self.kind)} {self.second} {self.first}"
 
     def role(self, cell: int) -> str:
         """The roles of a cell in the two primitives."""
@@ -153,6 +163,18 @@ class LinkedReport:
     def covered(self) -> int:
         return len(self.verdicts) - len(self.escapes)
 
+    @property
+    def devices(self) -> tuple[int, int]:
+        """How many different devices there are, and how many of them are covered."""
+        place = {verdict.primitive: count for count, verdict in enumerate(self.verdicts)}
+        once = [it for count, it in enumerate(self.verdicts) if place.get(it.exchanged, count) >= count]
+        return len(once), sum(verdict.covered for verdict in once)
+
+    @property
+    def inversions(self) -> tuple[int, int]:
+        """How many inversion couplings there are, and how many of them are covered."""
+        return len(INVERSIONS), len({it.primitive for it in self.verdicts if it.covered} & {*INVERSIONS})
+
 
 def verdict_of(line: str, elements: list[Element]) -> LinkVerdict:
     """The verdict of a line."""
@@ -181,7 +203,7 @@ def read_report(path: Path) -> LinkedReport:
     """The report of a file, line by line. Any other text is refused, with the first wrong line."""
     lines = lines_of(read_text(path))
     count = sum(KINDS.values())
-    if len(lines) != count + len(KINDS) + 2 or not re.fullmatch(r"march [{}();,a-z0-9]+", lines[0]):
+    if len(lines) != count + len(KINDS) + 3 or not re.fullmatch(r"march [{}();,a-z0-9]+", lines[0]):
         raise ToolError(f"{path}: this is no report of `linked`")
     elements = elements_of(lines[0][len("march ") :])
     report = LinkedReport(lines[0][len("march ") :], elements, [])
@@ -194,6 +216,8 @@ def read_report(path: Path) -> LinkedReport:
         f"kind {kind} total {of} covered {covered} escapes {of - covered}"
         for kind, (of, covered) in report.kinds.items()
     ]
+    devices, covered_devices = report.devices
+    told.append(f"devices total {devices} covered {covered_devices} escapes {devices - covered_devices}")
     told.append(f"total {count} covered {report.covered} escapes {len(report.escapes)}")
     for number, (line, right) in enumerate(zip(lines[count + 1 :], told), count + 2):
         if line != right:

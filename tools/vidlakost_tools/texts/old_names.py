@@ -11,6 +11,10 @@ from vidlakost_tools.texts import linked
 
 DECODER = "faults of the address decoder are no primitives: `decoder MARCH REPORT` judges them"
 LINKED = "linked faults are two primitives with one victim: `linked MARCH REPORT` judges all of them"
+INVERSION = (
+    "an inversion coupling fault is both primitives of CFds by one write in one device, as <0w1;0/1/-> and"
+    " <0w1;1/0/->, so a link: no list has it, `linked MARCH REPORT` judges it as LF2aa <0w1;0/1/-> <0w1;1/0/->"
+)
 # what to say about a name; its case does not count
 MEANINGS: Dict[str, str] = {
     "saf": "a cell that is stuck at 1 is <0/1/->, at 0 <1/0/->: both are SF",
@@ -18,7 +22,7 @@ MEANINGS: Dict[str, str] = {
     "sa1": "a cell that is stuck at 1 is <0/1/->, of the class SF",
     "cf": "a coupling fault is a primitive of two cells: 'two' has all 36 static ones",
     "cfid": "an idempotent coupling fault is a primitive of CFds, as <0w1;0/1/->",
-    "cfin": "an inversion coupling fault is two primitives of CFds, as <0w1;0/1/-> and <0w1;1/0/->",
+    "cfin": INVERSION,
     "af": DECODER,
     "adf": DECODER,
     "lf": LINKED,

@@ -189,7 +189,8 @@ function showInside(into, told) {
     return;
   }
   const [aggressor, victim] = escape.content;
-  into.append(make("p", { class: "small" }, `The least two bits with which the test passes: the aggressor's is bit ${escape.aggressor} `
+  const readings = escape.reading === "both" ? "in both readings of a write" : `in the reading ${escape.reading} alone`;
+  into.append(make("p", { class: "small" }, `It escapes ${readings}. The least two bits with which the test passes: the aggressor's is bit ${escape.aggressor} `
     + `and holds ${aggressor} at first, the victim's is bit ${escape.victim} and holds ${victim}.`));
   if (steps.length > 0) {
     into.append(make("details", {}, make("summary", {}, "All steps, the aggressor's bit first"),
