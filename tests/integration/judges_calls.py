@@ -120,7 +120,7 @@ CALLS: List[Call] = [
         "writes.v",
         status=1,
         prints="audit: refused",
-        says="audit: 'writes.v':21: $fdisplay would reach out of the simulation",
+        says="audit: yosys refuses it: writes.v:0: ERROR: Can't resolve task name",
     ),
     audited("pipelined.v", status=1, prints="audit: wrong: done 1 cycle late, fail is exact\n"),
     audited("pipelined.v", prints="ever after, 1 cycle later than the rule of the ports\n", options="--fail-late 1"),

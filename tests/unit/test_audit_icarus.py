@@ -204,7 +204,7 @@ class Calls(Sources):
         beside_icarus.refuse_sources([comment])
         for call in ("$fopen", "$system", "$dumpfile", "$fwrite", "$writememh"):
             file = self.file(f"module a;\n  initial {call}(1);\nendmodule\n")
-            with self.assertRaises(ToolError) as caught:
+            with self.assertRaises(Unclocked) as caught:
                 beside_icarus.refuse_sources([file])
             self.assertEqual(str(caught.exception), f"'{file}':2: {call} would reach out of the simulation")
 

@@ -41,10 +41,12 @@ DRAW = """        if (($random(seed) & 31) == 0) odds_{name} = $random(seed) & 7
 class Differs(ToolError):
     """A simulator reads the sources otherwise than Yosys: the port, the cycle, and what it is by either."""
 
-    def __init__(self, simulator: str, port: str, cycle: int, got: str, due: str):
+    def __init__(self, simulator: str, port: str, cycle: int, got: str, due: str, where: str = ""):
         self.simulator, self.port, self.cycle, self.got, self.due = simulator, port, cycle, got, due
-        why = f"{port} is {got} in cycle {cycle} by {simulator}, and {due} by Yosys"
-        super().__init__(f"the sources mean two things, from random registers and with random resets: {why}", 1)
+        self.told = f"{port} is {got} in cycle {cycle} by {simulator}, and {due} by Yosys"
+        self.told = where or self.told
+        histories = "" if where else ", from random registers and with random resets"
+        super().__init__(f"the sources mean two things{histories}: {self.told}", 1)
 
 
 class Unclocked(ToolError):
@@ -217,12 +219,12 @@ class Beside:
 
 
 def refuse_sources(files: list[str]) -> None:
-    """Refuses to clock what would reach out of a simulation."""
+    """Clocks nothing that would reach out of a simulation."""
     for file, source in with_included(files):
         found = next((match for text in blanked(source) for match in WRITES.finditer(text)), None)
         if found:
             line = source.count(chr(10), 0, found.start()) + 1
-            raise ToolError(f"{shown(file)}:{line}: {found[0]} would reach out of the simulation", 1)
+            raise Unclocked(f"{shown(file)}:{line}: {found[0]} would reach out of the simulation", 1)
 
 
 def how_far(out: pathlib.Path) -> str:

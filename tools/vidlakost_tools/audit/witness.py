@@ -114,5 +114,4 @@ def refusal(tool: str, error: ToolError) -> Outcome:
     if not isinstance(error, Differs):
         return Outcome(tool, "refused")
     saw = {error.simulator: str(error).splitlines()[0]}
-    told = f"{error.port} is {error.got} in cycle {error.cycle} by {error.simulator}, and {error.due} by Yosys"
-    return Outcome(tool, "refused", told, False, error.cycle, error.port, error.due, error.got, saw)
+    return Outcome(tool, "refused", error.told, False, error.cycle, error.port, error.due, error.got, saw)
