@@ -98,6 +98,21 @@ class Waits(unittest.TestCase):
             self.assertGreaterEqual(int(1e6 * float(said[1])) * mhz, cycles)
 
 
+class Registers(unittest.TestCase):
+    def test_a_word_of_more_than_64_bits(self) -> None:
+        """Each 32 bits have a register; those after the second are behind the others."""
+        wide = dataclasses.replace(memory(), polarity=0, backgrounds=[0])
+        wide.bits = 70
+        made = apb.registers(Target("m", "m", [Unit(wide, "_0")], True, 41))
+        found = {one.name: (one.at, one.fields[0].width) for one in made if one.name.startswith(("EXP", "RET"))}
+        self.assertEqual(found, {
+            "EXPECTED_LOW": (0x14, 32), "EXPECTED_HIGH": (0x18, 32), "EXPECTED_2": (0x300, 6),
+            "RETURNED_LOW": (0x1C, 32), "RETURNED_HIGH": (0x20, 32), "RETURNED_2": (0x340, 6),
+        })
+        source = next(one for one in made if one.name == "EXPECTED_2").fields[0].source
+        self.assertEqual(source, "(is_seen ? expected[69:64] : 6'd0)")
+
+
 class LogWindow(unittest.TestCase):
     def test_what_a_bus_has_without_a_log_and_with_one(self) -> None:
         target = Target.of_memory(memory(), 41)

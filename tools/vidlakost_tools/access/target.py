@@ -73,6 +73,16 @@ class Target:
     each: bool = False
 
     @property
+    def shows_each(self) -> bool:
+        """Whether each change of ignore behind done shows the first failure of another memory."""
+        return self.each
+
+    @property
+    def turning(self) -> int:
+        """How many cycles it takes at most from such a change until that failure is shown."""
+        return 0
+
+    @property
     def word(self) -> int:
         """The bits of the widest word."""
         return max(unit.memory.bits for unit in self.units)

@@ -207,7 +207,7 @@ class SystemTarget(Target):
             for part in placed.parts:
                 chosen = f"planted && at_unit == 10'd{self.system.parts.index(part)}"
                 at = f"{chosen} ? {width}'d4 << {3 * number} :\n    {at}"
-                bit = f"{chosen} ? 7'd{first} + {{1'b0, at_bit}} :\n    {bit}"
+                bit = f"{chosen} ? 7'd{first} + at_bit :\n    {bit}"
                 first += part.memory.bits
         return (
             f"  assign planted_at = !planted & !is_each ? {width}'d0 :\n    {at};\n  assign planted_bit =\n    {bit};\n"

@@ -24,8 +24,9 @@ With --log, for each memory a comparator beside its self-test, which keeps the f
     MEMORY_log.v, and for one memory NAME_log_tb.sv, which prints the log for `vidlakost bitmap`. With --apb or --jtag
     the buses read the log, too: APB from 0x800 on, JTAG by the instruction LOG, an entry in each scan. NAME_log.tcl
     has OpenOCD read it
-For one memory --march says how long the test takes; the SVF and the PDL have to wait so long. --mhz is the clock of the
-test. With it an SVF waits in seconds, so TCK may be faster than that clock. Put the module of the self-test in FOLDER:
+For one memory --march says how long the test takes; the files for a tester have to wait so long. --mhz is the clock of
+the test, and with --in-place the slowest one of all. With it an SVF waits in seconds, and the others as many cycles of
+TCK as it takes, so TCK may be faster than that clock. Put the module of the self-test in FOLDER:
     cd FOLDER && iverilog -g2012 -o tb NAME_access_tb.sv NAME_access.v NAME_model.v NAME_bist.v && vvp -n tb
     vvp -n tb +planted +address=3 +bit=1 +value=1
 With PINS the files are for the whole chip that `vidlakost top --access` wrote to FOLDER with the same words. There is a
@@ -161,8 +162,8 @@ def of_tap(target: Target, options: dict[str, Any]) -> dict[str, str]:
         f"{name}_socket.cpp": tap.socket(target),
         f"{name}.cfg": tap.config(target),
         f"{name}.svf": standards.svf(target, mhz),
-        f"{name}.stil": stil.stil(target),
-        f"{name}.wgl": wgl.wgl(target),
+        f"{name}.stil": stil.stil(target, mhz),
+        f"{name}.wgl": wgl.wgl(target, mhz),
     }
     if target.has_sib:
         made[f"{name}_sib.v"] = network.block(target)
@@ -171,8 +172,8 @@ def of_tap(target: Target, options: dict[str, Any]) -> dict[str, str]:
     if not standards.has_plain_name(target):
         tell(f"access: {name} is no name in BSDL, ICL and PDL, so these files are left out")
         return made
-    described = {"bsdl": standards.bsdl, "icl": ijtag.icl, "pdl": ijtag.pdl}
-    return {**made, **{f"{name}.{ending}": make(target) for ending, make in described.items()}}
+    described = {"bsdl": standards.bsdl(target), "icl": ijtag.icl(target), "pdl": ijtag.pdl(target, mhz)}
+    return {**made, **{f"{name}.{ending}": text for ending, text in described.items()}}
 
 
 def planned(system: soc.System, path: str, options: dict[str, Any]) -> system_access.SystemTarget:

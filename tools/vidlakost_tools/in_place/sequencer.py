@@ -42,6 +42,14 @@ class PlaceTarget(Target):
     def counts_cycles(self) -> bool:
         return False
 
+    @property
+    def shows_each(self) -> bool:
+        return True
+
+    @property
+    def turning(self) -> int:
+        return reading(self.word) + 2 * STEP
+
     def how_planted(self) -> str:
         return "//   +planted +unit=U +bit=B   each word that memory U answers has bit B wrong"
 
@@ -74,6 +82,17 @@ def length(placed: Placed) -> int:
     return found + 20
 
 
+# of a bit of a first failure the most cycles: twice three of the memory until a step is heard, twice three of the
+# sequencer until that is told, two to begin and to take it, and one more for either clock
+STEP = 2 * 3 + 2 * 3 + 2 + 2
+
+
+def reading(bits: int) -> int:
+    """How many cycles it takes at most until a first failure is read whose words have so many bits, by the slowest
+    clock."""
+    return STEP * (CYCLE + 2 * bits) + STEP
+
+
 def of_places(system: System) -> PlaceTarget:
     """The target of memories in their places."""
     shared = next((part.memory.name for part in system.parts if part.is_shared), None)
@@ -90,6 +109,7 @@ def of_places(system: System) -> PlaceTarget:
         memory.bits = placed.word.bits
         units.append(Unit(memory, f"_{number}"))
     done = sum(max(length(system.collars[number]) for number in group) + 20 for group in groups) + 20
+    done += reading(max(unit.memory.bits for unit in units))
     return PlaceTarget(system.name, "", units, True, done, system=system, groups=groups)
 
 
