@@ -256,6 +256,30 @@ def highest_bit(bench: Bench, chip: Chip) -> None:
         bench.is_so(wanted in said and said.endswith("passed\n"), f"{chip.name}, {kind}, bit 69: {said}")
 
 
+# what is wrong in the module of a memory in its place, whose file, a part of it and what stands there in its place
+WRONG = [
+    ("the first failure is told a cycle late", "w8_in_place.v", "cycle <= 32'd0", "cycle <= 32'd1"),
+    ("the word is told that the next read expects", "w8_in_place.v", "{answer, want_2", "{answer, want_1"),
+    ("the word is told that comes in the next cycle", "w8_in_place.v", "{answer, want_2", "{taken, want_2"),
+    ("a failure is heard in the cycle behind it", "w8_in_place.v", "(fail && !failed)", "(failed && first == 48'd0)"),
+]
+
+
+def wrong_places(bench: Bench, chip: Chip) -> None:
+    """The testbench of a memory in its place tells what is wrong with its first failure."""
+    call = f"cd {chip.name} && iverilog -g2012 -o word_tb -c w8_in_place.f && vvp -n word_tb +planted"
+    done = bench.run(["bash", "-c", call])
+    bench.is_so(done.stdout.endswith("w8_in_place_tb: passed\n"), f"{chip.name}, w8: {done.stdout}{done.stderr}")
+    for what, name, old, new in WRONG:
+        path = chip.folder / name
+        right = path.read_text()
+        bench.is_so(old in right, f"{old!r} does not stand in {name}")
+        path.write_text(right.replace(old, new))
+        done = bench.run(["bash", "-c", call])
+        bench.is_so("FATAL" in done.stdout and done.returncode != 0, f"{what} is not told: {done.stdout}{done.stderr}")
+        path.write_text(right)
+
+
 def is_left_out() -> bool:
     if shutil.which("iverilog"):
         return False
@@ -273,6 +297,7 @@ def in_place(bench: Bench) -> None:
         chip.plays_files(["svf", "stil", "pdl"])
         chip.plays_bus()
     highest_bit(bench, chip)
+    wrong_places(bench, chip)
     Chip(bench, True, False, ["--sib"]).plays_files(["svf", "pdl"])
 
 

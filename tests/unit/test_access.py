@@ -14,7 +14,7 @@ from vidlakost_tools.diagnosis import tester
 from vidlakost_tools.pages import signoff
 from vidlakost_tools.texts.march import elements_of
 from vidlakost_tools.texts.memory import Memory
-from vidlakost_tools.texts.reads import read_of
+from vidlakost_tools.texts.reads import first_read, read_of
 from vidlakost_tools.tool import ToolError
 from vidlakost_tools.verilog import vhdl_text
 from vidlakost_tools.verilog.syntax import Reader
@@ -96,6 +96,15 @@ class Waits(unittest.TestCase):
             said = re.search(r"^RUNTEST IDLE (\S+) SEC;\nRUNTEST IDLE 16 TCK;$", text, re.MULTILINE)
             assert said is not None
             self.assertGreaterEqual(int(1e6 * float(said[1])) * mhz, cycles)
+
+
+class FirstReads(unittest.TestCase):
+    def test_behind_writes_and_a_pause(self) -> None:
+        """Four words are written in the cycles 1 to 4, a pause of 3 follows, and the read in cycle 9 stands behind a
+        write: its answer comes two cycles later, with the bits inverted that are stored inverted."""
+        found = first_read(elements_of("{any(w0);del;down(w1,r1);any(r0)}"), memory())
+        self.assertEqual(found, (11, 0xF ^ 5))
+        self.assertIsNone(first_read(elements_of("{any(w0)}"), memory()))
 
 
 class Registers(unittest.TestCase):

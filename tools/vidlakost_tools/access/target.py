@@ -114,6 +114,16 @@ class Target:
 
     # ---- its logs
 
+    def first_reads(self) -> dict[int, tuple[int, int]]:
+        """The cycle and the expected word of the first read of each memory, where a testbench makes a bit wrong in each
+        word that it answers."""
+        return {}
+
+    @property
+    def is_inside(self) -> bool:
+        """Whether the memories are inside NAME_access."""
+        return False
+
     @property
     def has_inner_log(self) -> bool:
         """Whether the logs are in NAME_access, because the memories are inside it."""

@@ -4,7 +4,9 @@ from __future__ import annotations
 
 from vidlakost_tools.collar.bench import Bench, indented
 from vidlakost_tools.collar.planted import INPUTS, some_of
+from vidlakost_tools.collar.pins import Macro, Word
 from vidlakost_tools.collar.watch import GATES
+from vidlakost_tools.in_place.due import Due
 from vidlakost_tools.in_place.text import CYCLE, InPlace, length_of
 from vidlakost_tools.text import template
 from vidlakost_tools.verilog.bench_end import progress
@@ -18,6 +20,10 @@ class PlaceBench(Bench):
     """The parts of that testbench."""
 
     tool = "top"
+
+    def __init__(self, macro: Macro, word: Word, due: Due):
+        super().__init__(macro, word)
+        self.due = due
 
     @property
     def module(self) -> str:
@@ -47,6 +53,7 @@ class PlaceBench(Bench):
             latency=self.word.first.latency,
             top=length_of(self.word) - 1,
             length=length_of(self.word),
+            due=self.due.function(),
             low=low,
             middle=low + self.bits,
             most=self.most(),
@@ -62,7 +69,7 @@ class PlaceBench(Bench):
 
     def faults(self) -> str:
         places = some_of(self.word.name, self.bits)
-        lines = [f"  first_failure(7'd{places[0]}, 32'h0, 0);"]
+        lines = [f"  first_failure(7'd{one.low}, 32'h0, -1);" for one in self.due.firsts]
         for count in range(5):
             # each two bits differ in one of these words, and in its inverse, which comes a cycle later
             word = sum((bit >> count & 1) << bit for bit in range(CYCLE))

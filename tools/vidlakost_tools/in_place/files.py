@@ -13,6 +13,7 @@ from vidlakost_tools.collar.text import collar
 from vidlakost_tools.collar.vendor import files_beside, files_by_module
 from vidlakost_tools.files import marked
 from vidlakost_tools.in_place.bench import PlaceBench
+from vidlakost_tools.in_place.due import Due
 from vidlakost_tools.in_place.sequencer import PlaceTarget, Sequencer, length
 from vidlakost_tools.in_place.text import InPlace
 from vidlakost_tools.program import ask
@@ -80,7 +81,7 @@ def texts_of(target: PlaceTarget, models: dict[str, str], vendors: dict[str, lis
         own = [f"{name}_in_place.v", f"{name}_collar.v", *(f"{memory.name}_bist.v" for memory in placed.word.memories)]
         made[own[0]] = InPlace(placed.macro, placed.word).text()
         made[own[1]] = collar(placed.macro, placed.word, "told")
-        made[f"{name}_in_place_tb.sv"] = PlaceBench(placed.macro, placed.word).text()
+        made[f"{name}_in_place_tb.sv"] = PlaceBench(placed.macro, placed.word, Due(placed)).text()
         beside = models_beside(system, placed, vendors)
         made[f"{name}_in_place.f"] = "\n".join([f"{MARK} top", f"{name}_in_place_tb.sv", *own, *beside, ""])
         every += [*own, *beside]

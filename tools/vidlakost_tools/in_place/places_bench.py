@@ -9,6 +9,7 @@ from vidlakost_tools.access.target import extended, zero
 from vidlakost_tools.collar.liberty import Found
 from vidlakost_tools.collar.names import MARK
 from vidlakost_tools.collar.text import PLANTED
+from vidlakost_tools.in_place.due import Due
 from vidlakost_tools.in_place.place_list import Places
 from vidlakost_tools.in_place.places_text import BENCH, EACH, FIRST, SIGNALS, TAP, WATCHED
 from vidlakost_tools.in_place.sequencer import PlaceTarget, length
@@ -131,7 +132,19 @@ class ChipBench:
             words = [extended(f"{kept}[{place}]", bits, target.word) for place in places_of]
             asked = f"when_read !== {kept}[{CYCLE - 1}:0] || wanted !== {words[0]} || got !== {words[1]}"
             told = f'"{target.name}: memory {number} has kept %h", {kept}'
-            cases.append(f"        {number}: if ({asked})\n          $fatal(1, {told});")
+            due = Due(placed)
+            wrong = f"when_read !== ({due.cycle('which')})"
+            wrong += f" || ((wanted ^ ({due.expected('which')})) & ({due.mask('which')})) !== 0"
+            read = f'"{target.name}: memory {number} failed first in cycle %0d, where %h was expected; its march reads'
+            read += f" %h in %0d\", when_read, wanted, {due.expected('which')}, {due.cycle('which')}"
+            cases += [
+                f"        {number}: begin",
+                f"          if ({asked})",
+                f"            $fatal(1, {told});",
+                f"          if ({wrong})",
+                f"            $fatal(1, {read});",
+                "        end",
+            ]
         way = TAP if places.has_tap else SIGNALS
         values["whose"] = extended(f"dut.{places.access}.unit", target.unit_bits, 32)
         if places.has_tap:
