@@ -9,7 +9,7 @@ import unittest
 
 from vidlakost_tools.access import apb, log_window, standards, tap
 from vidlakost_tools.access.target import Target, Unit
-from vidlakost_tools.access.log import Entry, read_log
+from vidlakost_tools.access.log import Entry, entry_in, read_log
 from vidlakost_tools.diagnosis import tester
 from vidlakost_tools.pages import signoff
 from vidlakost_tools.texts.march import elements_of
@@ -96,6 +96,26 @@ class Waits(unittest.TestCase):
             said = re.search(r"^RUNTEST IDLE (\S+) SEC;\nRUNTEST IDLE 16 TCK;$", text, re.MULTILINE)
             assert said is not None
             self.assertGreaterEqual(int(1e6 * float(said[1])) * mhz, cycles)
+
+
+class EndsOfLogs(unittest.TestCase):
+    def test_more_behind_an_entry(self) -> None:
+        """What is said behind an entry says that it is the last one that was kept: later reads may have been wrong."""
+        for unit, before in ((None, ""), (1, "unit 1 ")):
+            text = f"{before}cycle 9 expected 0 returned 1\n{before}cycle 13 expected 5 returned 4 more\n"
+            with tempfile.TemporaryDirectory() as name:
+                path = pathlib.Path(name) / "log"
+                path.write_text(text)
+                entries, more = read_log(str(path), memory(), unit)
+                self.assertEqual(([entry.cycle for entry in entries], more), ([9, 13], True))
+                path.write_text(text + f"{before}cycle 17 expected 5 returned 4\n")
+                with self.assertRaisesRegex(ToolError, "comes after 'more'"):
+                    read_log(str(path), memory(), unit)
+
+    def test_a_word_of_seventy_bits(self) -> None:
+        found = entry_in(f"unit 3 cycle 7 expected {0:018x} returned 20{0:016x}")
+        assert found is not None
+        self.assertEqual(int(found[3], 16), 1 << 69)
 
 
 class FirstReads(unittest.TestCase):

@@ -36,6 +36,17 @@ def in_place(placed: Placed, cycle: int, expected: int, returned: int, mux: int)
             yield from in_part(parts[id(memory)], cycle, [f"{word:x}" for word in words], mux)
 
 
+def at_cycle(placed: Placed, cycle: int, words: list[str], mux: int) -> Iterator[str]:
+    """What the cycle of a failure is, by which the words are told or not; without them of each part of a word."""
+    if words:
+        bits = placed.word.bits
+        expected, returned = (tester.word_of(word, bits, what) for word, what in zip(words, ("EXPECTED", "RETURNED")))
+        yield from in_place(placed, cycle, expected, returned, mux)
+        return
+    for part in placed.parts:
+        yield from in_part(part, cycle, [], mux)
+
+
 def register(system: System, text: str, mux: int, has_sib: bool = False) -> list[str]:
     """What the register of the TAP says."""
     target = dataclasses.replace(of_places(system), has_sib=has_sib)
