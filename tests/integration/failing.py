@@ -9,8 +9,9 @@ import re
 import shutil
 from typing import Iterator
 
+from tests.integration.access import CAMERA, PLACED
 from tests.integration.bench import Bench
-from tests.integration.failing_chip import MACROS, MEMORIES, Fault, bits_of, faults, round_memories, written
+from tests.integration.failing_chip import MACROS, MEMORIES, Fault, bits_of, commands, faults, round_memories, written
 from vidlakost_tools.tester_files import bsdl, icl, pdl, stil, svf, wgl
 from vidlakost_tools.tester_files.cycles import Cycle, joined, listing
 from vidlakost_tools.tester_files.retarget import Session
@@ -128,15 +129,16 @@ def cycles_of(folder: pathlib.Path, ending: str) -> list[Cycle]:
 class Chip:
     """One of the chips, in a folder of its own: joined or in place, with clocks faster or slower than TCK."""
 
-    def __init__(self, bench: Bench, is_placed: bool, is_slow: bool, more: list[str]):
+    def __init__(self, bench: Bench, is_placed: bool, is_slow: bool, more: list[str], depth: int = 0):
         self.bench, self.is_placed, self.is_slow, self.has_sib = bench, is_placed, is_slow, "--sib" in more
-        kinds = ["placed" if is_placed else "joined", "slow" if is_slow else "fast", *more]
+        self.depth = depth
+        kinds = ["logged"] * (depth > 0) + ["placed" if is_placed else "joined", "slow" if is_slow else "fast", *more]
         self.name = "_".join(kinds).replace("-", "")
         self.words = written(bench, self.name)
         self.folder = bench.folder / self.name
         self.faults = faults(bench, self.name)
         models = [word for macro in MACROS for word in ("--model", f"{self.name}/{macro}.v")]
-        way = ["--in-place"] if is_placed else ["--access"]
+        way = ["--in-place", *(["--log", str(depth)] if depth else [])] if is_placed else ["--access"]
         self.call("tools/top", *self.words, self.name, *way, *models)
         slow = ["--mhz", str(SLOWEST)] if is_slow else []
         way = ["--in-place"] if is_placed else []
@@ -164,8 +166,8 @@ class Chip:
     def located(self, digits: str) -> str:
         """What `locate` says of a register."""
         way = "--in-place" if self.is_placed else "--whole"
-        sib = ["--sib"] if self.has_sib else []
-        done = self.bench.run(["tools/locate", *self.words, way, "--tdr", digits, *sib])
+        more = ["--sib"] * self.has_sib + ["--log"] * (self.depth > 0)
+        done = self.bench.run(["tools/locate", *self.words, way, "--tdr", digits, *more])
         return done.stdout + done.stderr
 
     def is_found(self, fault: Fault, said: str) -> bool:
@@ -207,6 +209,41 @@ class Chip:
         self.bench.is_so(vectors[0] == vectors[1], f"{self.name}: WGL asks for other vectors than STIL")
         for ending in endings:
             self.plays(ending)
+
+    def plays_log(self, macro: str, bit: int, begins: int) -> None:
+        """The procedure of PDL reads each entry of a log: those of the first wrong reads, by the program's commands."""
+        count, placed = len(MACROS), list(MACROS).index(macro)
+        session = Session(icl.read(self.text("icl")), bsdl.read(self.text("bsdl")))
+        told, others = pdl.read(self.text("pdl")), f"0b{(1 << count) - 1 - (1 << placed):0{count}b}"
+        cycles = [*session.begin(), *session.identify(), *session.run(told, "chip_register", "run_bist")]
+        for number in range(self.depth):
+            cycles += session.run(told, "chip_register", "read_entry", others, f"0b{number:06b}")
+        (self.folder / "cycles.txt").write_text(listing(joined(cycles)))
+        words = f"+period=50 +heard=log.txt +from_{macro}={begins} +bit={bit}"
+        self.bench.run(["bash", "-c", f"cd {self.name} && vvp -n jtag.vvp {words}"])
+        heard = [came for _, came in scans(cycles, (self.folder / "log.txt").read_text()) if len(came) > 32]
+        lines = [self.located(f"{int(came, 2):0{-(-len(came) // 4)}x}") for came in heard[-2 * self.depth:][1::2]]
+        memory = MACROS[macro][0][0]
+        found = commands(self.bench, self.name, memory)
+        reads = [at for at, words in enumerate(found, 1) if words[0] == "r"][begins - 1:]
+        more = ", and more came" if len(reads) > self.depth else ""
+        log = []
+        for said in lines[len(reads):]:
+            refused = f"has kept {len(reads)} wrong reads"
+            self.bench.is_so(refused in said, f"{self.name}, behind the last entry: {said}")
+        for number, said in enumerate(lines[:len(reads)]):
+            at, (_, address, word) = reads[number], found[reads[number] - 1]
+            digits = -(-bits_of(macro) // 4)
+            words = f"expected {int(word, 16):0{digits}x} returned {int(word, 16) ^ 1 << bit:0{digits}x}"
+            cycle = f"cycle {at + MEMORIES[memory][2]} {words}"
+            wanted = [f"wrong read {number} of {min(len(reads), self.depth)} that are kept{more}\n", f"{cycle}\n"]
+            holds = all(line in said for line in [*wanted, f"address {address}\nbits {bit}\n"])
+            self.bench.is_so(holds, f"{self.name}, entry {number}: {said} {wanted}")
+            log.append(f"unit {placed} {cycle}\n")
+        (self.folder / "whole.log").write_text("".join([*log, f"unit {placed} more\n" if more else ""]))
+
+    def text(self, ending: str) -> str:
+        return (self.folder / f"chip.{ending}").read_text()
 
     # ---- the bus
 
@@ -301,6 +338,37 @@ def in_place(bench: Bench) -> None:
     Chip(bench, True, False, ["--sib"]).plays_files(["svf", "pdl"])
 
 
+def diagnosed(bench: Bench) -> None:
+    """What gives a log in place: four words of `low` are written, and each is read, of latency 2, in front of a write.
+    The log was full then, so later reads may have been wrong; without that word bit 0 is no longer stuck."""
+    lines = [f"unit 3 cycle {cycle} expected 00 returned 01" for cycle in (7, 9, 11, 13)]
+    call = ["tools/diagnosis", "placed.log", CAMERA, *PLACED, "--in-place", "--unit"]
+    logs = {"\nunit 3 more\n": True, " more\n": True, "\n": False}
+    for last, is_stuck in logs.items():
+        (bench.folder / "placed.log").write_text("\n".join(lines) + last)
+        told = bench.run([*call, "low"])
+        is_told = "data bit: data bit 0 stuck at 1\n" in told.stdout
+        is_so = told.returncode == int(not is_stuck) and is_told == is_stuck
+        bench.is_so(is_so, f"diagnosis of {last!r}: {told.stdout}{told.stderr}")
+    bench.look([*call, "high"], 2, "", "diagnosis: no wrong read is of the march of high")
+    bench.look([*call, "3"], 2, "", "diagnosis: --unit 3 is two of low, high: give a name")
+    bench.look([*call, "kept"], 2, "", "diagnosis: placed.log: no line has 'unit 5 cycle C expected X returned W'")
+
+
+def logged(bench: Bench) -> None:
+    """Memories in their places that keep several wrong reads: the files find the first one, the bus too, and the
+    procedure reads each of them."""
+    if is_left_out():
+        return
+    chip = Chip(bench, True, False, [], 4)
+    chip.plays_files(["svf"])
+    chip.plays_log("ram32", 5, 3)
+    chip.plays_log("ram8", 0, 22)
+    diagnosed(bench)
+    chip.plays_bus()
+    highest_bit(bench, chip)
+
+
 def together(bench: Bench) -> None:
     """Memories that a module joins, in the same ways."""
     if is_left_out():
@@ -312,4 +380,4 @@ def together(bench: Bench) -> None:
     Chip(bench, False, False, ["--sib"]).plays_files(["svf", "pdl"])
 
 
-PARTS = [in_place, together]
+PARTS = [in_place, logged, together]

@@ -1,5 +1,5 @@
 """A chip with words of 8, 32, 64 and 70 bits, for a tester: its macros, in each of which a call makes one bit of one
-read wrong, and what stands round it, joined and in place."""
+read wrong, or of each read from one on; and what stands round it, joined and in place."""
 from __future__ import annotations
 
 import dataclasses
@@ -20,16 +20,20 @@ MACROS = {
 }
 MACRO = """module NAME(input clk, input ce, input we, input [TOP:0] a, input [BITS:0] d, output reg [BITS:0] q);
   reg [BITS:0] words [0:LAST];
-  integer reads = 0, wrong = 0, place = 0;
-  reg [BITS:0] read;
-  initial if ($value$plusargs("NAME=%d", wrong) == 1 && $value$plusargs("bit=%d", place) == 0) place = 0;
+  integer reads = 0, wrong = 0, begins = 0, place = 0;
+  reg is_wrong;
+  initial begin
+    if ($value$plusargs("bit=%d", place) == 0) place = 0;
+    if ($value$plusargs("NAME=%d", wrong) == 0) wrong = 0;
+    if ($value$plusargs("from_NAME=%d", begins) == 0) begins = 0;
+  end
   always @(posedge clk)
     if (ce) begin
       if (we) words[a] <= d;
       else begin
         reads = reads + 1;
-        read = words[a] ^ (reads == wrong ? {{BITS{1'b0}}, 1'b1} << place : {BITS + 1{1'b0}});
-        q <= read;
+        is_wrong = reads == wrong || begins != 0 && reads >= begins;
+        q <= words[a] ^ (is_wrong ? {{BITS{1'b0}}, 1'b1} << place : {BITS + 1{1'b0}});
       end
       AFTER
     end

@@ -158,7 +158,7 @@ class Waits(unittest.TestCase):
     def test_the_first_failure_is_read_in_the_wait(self) -> None:
         """A bit takes 16 cycles at most, and a failure of 70 bits has 32 + 2 * 70. At 4 MHz 100 cycles and 16 take 29
         microseconds, and one more is waited: 300 cycles of a TCK of 10 MHz."""
-        self.assertEqual(reading(70), 16 * (32 + 140 + 1))
+        self.assertEqual(reading(32 + 2 * 70), 16 * (32 + 140 + 1))
         self.assertEqual(tap_run.waiting(100, 4.0, 10.0), 300 + 16)
         self.assertEqual(tap_run.waiting(100, None, 10.0), 116)
 

@@ -124,7 +124,7 @@ def access_bench(target: Target) -> str:
     """The testbench of NAME_access."""
     state = [Port("", "done"), Port("", "fail", target.count), Port("", "seen"), *target.result()]
     declared = "  reg start = 1'b0;\n" + "".join(f"  wire {ranged(port.width)}{port.name};\n" for port in state)
-    choice = f", .ignore({zero(target.count)})" if target.is_chip else ""
+    choice = "".join(f", .{port.name}({zero(port.width)})" for port in target.choice())
     if target.each:
         choice = ", .ignore(ignored)"
     declared += logs.bench_declared(target)

@@ -204,6 +204,11 @@ class Target:
             " of a number)"
         )
 
+    @property
+    def has_entries(self) -> bool:
+        """Whether behind done any wrong read of a memory is shown that it has kept."""
+        return False
+
     def choice(self) -> list[Port]:
         """Of a chip the units whose failures are not kept."""
         return [Port("input", "ignore", self.count)] if self.is_chip else []

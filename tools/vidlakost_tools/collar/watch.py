@@ -7,6 +7,7 @@ from __future__ import annotations
 from typing import TYPE_CHECKING
 
 from vidlakost_tools.collar import lane_machine as collar_lanes, planted as collar_planted
+from vidlakost_tools.collar.names import TOLD
 from vidlakost_tools.collar.pins import ADDRESSES, Pin, literal
 
 if TYPE_CHECKING:
@@ -107,7 +108,7 @@ class Watch:
             pin = self.macro.answers(second)
             lines = self.compared(f"{pin.name} of the chip", pin.joined(), self.there(pin))
             looks += ["      if (!scan_mode) begin", *lines, "      end"] if self.macro.bypass else lines
-        return looks + (self.handed_out() if self.collar.kind == "told" else [])
+        return looks + (self.handed_out() if self.collar.kind in TOLD else [])
 
     def handed_out(self) -> list[str]:
         """What is handed out of the words of the test is what stands at its own ports."""
@@ -117,6 +118,9 @@ class Watch:
             looks += self.compared(
                 f"{name} of the collar", name, words[0] if len(words) == 1 else "{" + ", ".join(words) + "}"
             )
+        if self.collar.kind == "logged":
+            en, we = (self.source(self.halves()[0], port) for port in ("en", "we"))
+            looks += self.compared("asks of the collar", "asks", f"({en} & ~{we})")
         return looks
 
     def clocks(self) -> list[str]:

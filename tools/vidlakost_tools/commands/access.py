@@ -65,15 +65,17 @@ from vidlakost_tools.access import (
     tap,
     wgl,
 )
+from vidlakost_tools.access.logs import log_depth
 from vidlakost_tools.access.target import IDENTITY, Target, is_chip_file, is_list
 from vidlakost_tools.chip import access as system_access, system as soc
 from vidlakost_tools.files import marked, write_own
+from vidlakost_tools.in_place.files import depth_in
 from vidlakost_tools.in_place.sequencer import PlaceTarget, of_places
 from vidlakost_tools.text import shown
 from vidlakost_tools.texts.chip import read_chip
 from vidlakost_tools.texts.march import march_of
 from vidlakost_tools.texts.memory import read_memory
-from vidlakost_tools.tool import ToolError, number_of, tell, usage_of, words_of
+from vidlakost_tools.tool import ToolError, tell, usage_of, words_of
 
 
 def target_of(path: str, march: str | None) -> Target:
@@ -110,20 +112,10 @@ def inputs_of(path: str, options: dict[str, Any]) -> list[str]:
     return given
 
 
-def depth_of(options: dict[str, Any]) -> int | None:
-    """How many wrong reads a log keeps, if there is one."""
-    if "--log" not in options:
-        return None
-    depth = number_of(options["--log"], "--log", 1)
-    if depth > 64:
-        raise ToolError(f"--log is 1 to 64, and not {depth}")
-    return depth
-
-
 def texts(target: Target, options: dict[str, Any]) -> dict[str, str]:
     """The files by their names."""
     name = target.name
-    depth = depth_of(options)
+    depth = log_depth(options)
     if depth is not None and ("--apb" in options or "--jtag" in options):
         target = dataclasses.replace(target, depth=depth)
     target = dataclasses.replace(target, identity=identity_of(options), has_sib="--sib" in options)
@@ -180,7 +172,7 @@ def planned(system: soc.System, path: str, options: dict[str, Any]) -> system_ac
     """The target of a whole whose memories are joined by a module."""
     soc.planned(system, path)
     target = system_access.of_system(system)
-    return dataclasses.replace(target, each="--each" in options, depth=depth_of(options))
+    return dataclasses.replace(target, each="--each" in options, depth=log_depth(options))
 
 
 def refuse_of_whole(pins: list[str], options: dict[str, Any]) -> None:
@@ -193,7 +185,7 @@ def refuse_of_whole(pins: list[str], options: dict[str, Any]) -> None:
     elif {"--in-place", "--each"} <= set(options):
         why = "--in-place keeps the first failure of each memory without --each"
     elif {"--in-place", "--log"} <= set(options):
-        why = "with --in-place a memory keeps only its first failure: leave out --log, or join all by `vidlakost top`"
+        why = "`vidlakost top --in-place --log N` says how many wrong reads a memory keeps: leave out --log"
     elif "--log" in options and not {"--apb", "--jtag"} & set(options):
         why = "a bus reads the log of a whole chip: write --apb or --jtag, too"
     if why:
@@ -205,6 +197,7 @@ def of_whole(path: str, pins: list[str], out: pathlib.Path, options: dict[str, A
     refuse_of_whole(pins, options)
     system = soc.read_system(path)
     soc.give_collars(system, pins)
+    system.keep(depth_in(out, system) if "--in-place" in options else None)
     target: Target = of_places(system) if "--in-place" in options else planned(system, path, options)
     made = {name: text for name, text in texts(target, options).items() if name not in system_access.left_out(target)}
     beside = []

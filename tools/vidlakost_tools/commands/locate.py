@@ -9,7 +9,8 @@ usage: vidlakost locate MARCH MEMORY CYCLE [EXPECTED RETURNED]
        vidlakost locate LIST|CHIPFILE PINS.. --whole CYCLE FAILBITS [EXPECTED RETURNED]
        vidlakost locate LIST|CHIPFILE PINS.. --whole --line LINE     from the line of a log, or of a testbench
        vidlakost locate LIST|CHIPFILE PINS.. --whole --tdr HEX [--sib]
-       vidlakost locate LIST|CHIPFILE PINS.. --in-place ..           the same three of memories in their places
+       vidlakost locate LIST|CHIPFILE PINS.. --in-place ..           the same three of memories in their places,
+                                               of which --tdr HEX --log is the register where they keep logs
        vidlakost locate --help
 
 CYCLE is the cycle in which the answer is on `rdata`. The cycle of the reset is 0, and `fail` is 1 from the cycle after
@@ -138,9 +139,9 @@ def of_places(words: list[str], options: dict[str, Any], mux: int) -> list[str]:
     system = soc.read_system(path)
     soc.give_collars(system, pins)
     if "--tdr" in options:
-        if rest or set(options) - {"--in-place", "--tdr", "--sib"}:
+        if rest or set(options) - {"--in-place", "--tdr", "--sib", "--log"}:
             raise ToolError(f"--in-place --tdr takes a chip file or a list, and the pins\n{usage_of(__doc__)}")
-        return place_locate.register(system, options["--tdr"], mux, "--sib" in options)
+        return place_locate.register(system, options["--tdr"], mux, "--sib" in options, "--log" in options)
     if "--line" in options:
         number, given = of_unit(options["--line"], rest, len(system.collars))
         return list(place_locate.at_cycle(system.collars[number], int(given[0]), given[1:], mux))
@@ -214,7 +215,9 @@ def of_memory(words: list[str], options: dict[str, Any], mux: int, has_rows: boo
 
 def main(arguments: list[str]) -> int:
     allowed = {"--line": 1, "--elements": 0, "--chip": 0, "--tdr": 1, "--at": 1, "--mux": 1, "--sib": 0}
-    words, options = words_of(__doc__, arguments, {**allowed, "--whole": 0, "--in-place": 0}, 1, None)
+    words, options = words_of(__doc__, arguments, {**allowed, "--whole": 0, "--in-place": 0, "--log": 0}, 1, None)
+    if "--log" in options and not {"--in-place", "--tdr"} <= set(options):
+        raise ToolError(f"--log needs --in-place and --tdr\n{usage_of(__doc__)}")
     if "--sib" in options and "--tdr" not in options:
         raise ToolError(f"--sib needs --tdr\n{usage_of(__doc__)}")
     has_rows, mux = "--mux" in options, number_of(options.pop("--mux", "1"), "--mux", 1)

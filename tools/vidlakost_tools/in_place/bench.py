@@ -7,13 +7,15 @@ from vidlakost_tools.collar.planted import INPUTS, some_of
 from vidlakost_tools.collar.pins import Macro, Word
 from vidlakost_tools.collar.watch import GATES
 from vidlakost_tools.in_place.due import Due
-from vidlakost_tools.in_place.text import CYCLE, InPlace, length_of
+from vidlakost_tools.in_place.text import CYCLE, HEAD_BITS, InPlace, length_of, ring_of
 from vidlakost_tools.text import template
 from vidlakost_tools.verilog.bench_end import progress
 from vidlakost_tools.verilog.syntax import ranged
 
 DUT = template(__file__, "bench_dut.sv")
 FIRST = template(__file__, "bench_first.sv")
+LOG = template(__file__, "bench_log.sv")
+LOG_WRONG = template(__file__, "bench_log_wrong.sv")
 
 
 class PlaceBench(Bench):
@@ -52,7 +54,9 @@ class PlaceBench(Bench):
             bits=self.bits,
             latency=self.word.first.latency,
             top=length_of(self.word) - 1,
-            length=length_of(self.word),
+            length=ring_of(self.word),
+            ring=ring_of(self.word) - 1,
+            **self.logged(),
             due=self.due.function(),
             low=low,
             middle=low + self.bits,
@@ -60,6 +64,23 @@ class PlaceBench(Bench):
             disturbed=self.disturbed("~"),
             settled=self.disturbed(""),
         )
+
+    def logged(self) -> dict[str, str]:
+        """What looks at each wrong read where several are kept; the first one stands behind their number."""
+        depth, total = self.word.depth, length_of(self.word)
+        first = f"all[{HEAD_BITS + total - 1}:{HEAD_BITS}]"
+        if not depth:
+            return {"first": "all", "log": "", "log_wrong": "", "log_begins": ""}
+        values = {
+            "name": self.word.name, "latency": self.word.first.latency, "depth": depth, "top": total - 1,
+            "total": total, "low": HEAD_BITS,
+        }
+        return {
+            "first": first,
+            "log": LOG.substitute(**values),
+            "log_begins": "      reads <= 0;\n      wrong_reads <= 0;\n",
+            "log_wrong": LOG_WRONG.substitute(**values),
+        }
 
     def counter(self) -> str:
         """The name that the number of the cycle has in the module."""

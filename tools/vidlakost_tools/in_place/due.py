@@ -17,6 +17,8 @@ class First:
     bits: int
     cycle: int
     expected: int
+    # how many reads its march has
+    reads: int
 
 
 class Due:
@@ -27,9 +29,12 @@ class Due:
         self.firsts: list[First] = []
         parts = {id(part.memory): part for part in placed.parts}
         for low, memory in lows(placed.word):
-            found = first_read(parts[id(memory)].unit.elements, memory)
+            elements = parts[id(memory)].unit.elements
+            found = first_read(elements, memory)
+            ways = [operation[0] for element in elements for operation in element.operations]
+            reads = ways.count("r") * memory.words * len(memory.backgrounds)
             # a march that never reads finds nothing, and its testbench fails for that
-            self.firsts.append(First(low, memory.bits, *(found or (0, 0))))
+            self.firsts.append(First(low, memory.bits, *(found or (0, 0)), reads))
 
     def chosen(self, which: str, value: dict[First, str]) -> str:
         """The value of the part in which a bit is."""
@@ -45,6 +50,10 @@ class Due:
     def mask(self, which: str) -> str:
         ones = {one: (1 << one.bits) - 1 << one.low for one in self.firsts}
         return self.chosen(which, {one: f"{self.bits}'h{mask:x}" for one, mask in ones.items()})
+
+    def reads(self, which: str) -> str:
+        """How many reads are wrong where one bit is."""
+        return self.chosen(which, {one: f"{one.reads}" for one in self.firsts})
 
     def function(self) -> str:
         """The three of them as functions."""
