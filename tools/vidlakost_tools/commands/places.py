@@ -45,6 +45,7 @@ from vidlakost_tools.chip import system as soc
 from vidlakost_tools.collar.names import MARK
 from vidlakost_tools.files import write_own
 from vidlakost_tools.in_place import places_beside, places_proof
+from vidlakost_tools.in_place.files import depth_in
 from vidlakost_tools.in_place.place_list import Places, inputs_of, read_places
 from vidlakost_tools.in_place.places_bench import ChipBench
 from vidlakost_tools.in_place.sequencer import PlaceTarget, of_places
@@ -78,6 +79,7 @@ def main(arguments: list[str]) -> int:
     (path, system_file, *pins, name), options = words_of(__doc__, arguments, allowed, 4)
     folder, system = pathlib.Path(name), soc.read_system(system_file)
     soc.give_collars(system, pins)
+    system.keep(depth_in(folder, system))
     target, places = of_places(system), read_places(path, system)
     read = [path, system_file, *pins, *inputs_of(places)]
     refuse_inputs(options.get("--json"), [("what is read", file) for file in read])
