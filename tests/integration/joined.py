@@ -42,7 +42,7 @@ CALLS: List[Call] = [
     Call(
         f"tools/access {CAMERA} {PLACED_PINS} acc5 --in-place --apb --log 4",
         status=2,
-        says="access: with --in-place a memory keeps only its first failure: leave out --log",
+        says="access: `vidlakost top --in-place --log N` says how many",
     ),
     Call(f"{IN_WHOLE} --unit 1", prints="cell: 1 cell in 1 read\n"),
     Call(f"{IN_WHOLE} --unit 1 --second", prints="pair: 2 cells in 2 reads, and more followed\n"),

@@ -11,7 +11,9 @@ from vidlakost_tools.text import read_text
 STYLES = "examples/foreign/styles/"
 RIGHT = read_text(ROOT / STYLES / "two_processes.v")
 TEST = "examples/mats_plus.m examples/foreign/four.mem"
-EXACT = "audit: conforms, fail is exact\n"
+# the last line of a yes that no simulator saw by the user's choice, and of one that Icarus saw
+EXACT = "audit: right as Yosys reads it, not simulated\n"
+SEEN = "audit: right: conforms, fail is exact, simulated by Icarus\n"
 FAIL = "  assign fail = wrong & ~reset;\n"
 
 
@@ -99,7 +101,7 @@ def in_shell(command: str) -> str:
 def netlist(source: str, out: str) -> str:
     """The command that makes gates of a source, whose registers keep their asynchronous reset, and audits them."""
     passes = f"read_verilog {source}; synth -flatten; abc -g NAND,NOR,XOR; opt_clean; write_verilog -noattr {out}"
-    return f"yosys -q -p '{passes}' && tools/audit {out} {TEST}"
+    return f"yosys -q -p '{passes}' && tools/audit {out} {TEST} --no-simulate"
 
 
 def for_ice40(source: str, out: str, *options: str) -> str:

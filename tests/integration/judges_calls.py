@@ -8,6 +8,7 @@ from tests.integration.judges import (
     COMPILE,
     EXACT,
     IDLE,
+    SEEN,
     STYLES,
     TEST,
     WRONG_WORD,
@@ -16,14 +17,16 @@ from tests.integration.judges import (
     netlist,
 )
 
+FORMAL = "formal: right as Yosys reads it, not simulated\n"
+
 
 def audited(name: str, status: int = 0, prints: str = "", says: str = "", options: str = "") -> Call:
-    return Call(f"tools/audit {name} {TEST} {options}", status, prints, says, "yosys")
+    return Call(f"tools/audit {name} {TEST} --no-simulate {options}", status, prints, says, "yosys")
 
 
 def clocked(name: str, status: int = 0, prints: str = "", says: str = "") -> Call:
     """Beside Icarus too."""
-    return Call(f"tools/audit {name} {TEST} --simulate", status, prints, says, "yosys iverilog")
+    return Call(f"tools/audit {name} {TEST}", status, prints, says, "yosys iverilog")
 
 
 CALLS: List[Call] = [
@@ -43,16 +46,18 @@ CALLS: List[Call] = [
     ),
     audited("priority_rows.v", prints=EXACT),
     audited("full.v", prints=EXACT, says="audit: Warning: Encountered `"),
-    audited("full_not.v", status=1, prints="audit: unknown cycle 14 port wdata", says="audit: Warning: Encountered `"),
-    audited("full_priority.v", status=1, prints="audit: unknown cycle 14 port wdata"),
+    audited("full_not.v", status=1, prints="audit: unknown: cycle 14 port wdata", says="audit: Warning: Encountered `"),
+    audited("full_priority.v", status=1, prints="audit: unknown: cycle 14 port wdata"),
     audited(
         "priority_if.v",
         status=1,
         prints="audit: refused",
         says="audit: 'priority_if.v':50: Yosys doesn't read `priority if`",
     ),
-    Call(f"tools/formal rows_apart.v {TEST}", prints="each port is right in each cycle\n", needs="yosys"),
-    Call(f"tools/formal rows_meet.v {TEST}", status=1, prints="differs in cycle 6\n", needs="yosys"),
+    Call(f"tools/formal rows_apart.v {TEST} --no-simulate", prints=FORMAL, needs="yosys"),
+    Call(f"tools/formal rows_meet.v {TEST}", status=1, prints="formal: wrong: differs in cycle 6\n", needs="yosys"),
+    Call(f"tools/formal list_short.v {TEST}", 1, "formal: refused: ", "formal: 'list_short.v':38", "yosys iverilog"),
+    Call("tools/plain out.v list_short.v", 1, "", "plain: 'list_short.v':38: the block reads reset", "yosys iverilog"),
     audited("cells.v", prints=EXACT, options="--liberty three_state.lib"),
     audited(
         "cells_off.v",
@@ -65,7 +70,7 @@ CALLS: List[Call] = [
     audited(
         "net_off.v",
         status=1,
-        prints="audit: conforms, fail is unknown in cycle 0",
+        prints="audit: unknown: fail is unknown in cycle 0",
         says="audit: Warning: Yosys has only limited",
     ),
     audited("net_on.v", prints=EXACT),
@@ -98,37 +103,37 @@ CALLS: List[Call] = [
     audited("list_whole.v", prints=EXACT, options="--strict"),
     audited("read_early.v", prints=EXACT, says="audit: 'read_early.v':22: the block reads now before it sets it"),
     audited("read_late.v", prints=EXACT),
-    Call("tools/plain out.v read_early.v", says="plain: 'read_early.v':22: the block reads now", needs="yosys"),
+    Call("tools/plain out.v read_early.v --no-simulate", 0, "", "plain: 'read_early.v':22: the block reads", "yosys"),
     Call(
-        f"tools/formal read_early.v {TEST}",
-        prints="each port",
+        f"tools/formal read_early.v {TEST} --no-simulate",
+        prints=FORMAL,
         says="formal: 'read_early.v':22: the block reads now",
         needs="yosys",
     ),
     audited("delayed.v", prints=EXACT, says="audit: 'delayed.v':20: a delay is skipped"),
     clocked("list_short.v", status=1, prints="audit: refused", says="audit: 'list_short.v':38"),
-    clocked("list_whole.v", prints=EXACT),
+    clocked("list_whole.v", prints=SEEN),
     clocked("read_early.v", status=1, prints="audit: refused", says="audit: 'read_early.v'"),
-    clocked("read_late.v", prints=EXACT),
+    clocked("read_late.v", prints=SEEN),
     clocked("delayed.v", status=1, prints="audit: refused", says="audit: 'delayed.v'"),
     clocked(
         "writes.v",
         status=1,
         prints="audit: refused",
-        says="audit: 'writes.v':21: $fdisplay would reach out of the simulation",
+        says="audit: yosys refuses it: writes.v:0: ERROR: Can't resolve task name",
     ),
-    audited("pipelined.v", status=1, prints="audit: conforms, done 1 cycle late, fail is exact\n"),
+    audited("pipelined.v", status=1, prints="audit: wrong: done 1 cycle late, fail is exact\n"),
     audited("pipelined.v", prints="ever after, 1 cycle later than the rule of the ports\n", options="--fail-late 1"),
     audited(
         "pipelined_twice.v",
         status=1,
-        prints="audit: conforms, done 1 cycle late, fail is ",
+        prints="audit: wrong: done 1 cycle late, fail is ",
         options="--fail-late 1",
     ),
     audited(
         "pipelined_forgets.v",
         status=1,
-        prints="audit: conforms, done 1 cycle late, fail is ",
+        prints="audit: wrong: done 1 cycle late, fail is ",
         options="--fail-late 1",
     ),
     audited(
@@ -141,7 +146,7 @@ CALLS: List[Call] = [
         says="audit: 'returns.v':21: Yosys doesn't read `return`; a function's own name",
     ),
     audited("says.v", prints=EXACT),
-    audited("says_not.v", status=1, prints="audit: conforms, fail is 1 in cycle 1 though all answers are right"),
+    audited("says_not.v", status=1, prints="audit: wrong: fail is 1 in cycle 1 though all answers are right"),
     audited(
         "keeps.v",
         status=1,
@@ -162,49 +167,49 @@ CALLS: List[Call] = [
     audited(
         "counts_on.v",
         status=1,
-        prints="audit: conforms, fail is 0 in cycle 21 though bit 0 of the answer of cycle 6 is wrong\n",
+        prints="audit: wrong: fail is 0 in cycle 21 though bit 0 of the answer of cycle 6 is wrong\n",
     ),
-    clocked("minus.v", prints=EXACT),
+    clocked("minus.v", prints=SEEN),
     audited(
         "minus_short.v",
         status=1,
-        prints="audit: conforms, fail is 0 in cycle 15 though bit 0 of the answer of cycle 14",
+        prints="audit: wrong: fail is 0 in cycle 15 though bit 0 of the answer of cycle 14",
     ),
-    clocked("signed.v", prints=EXACT),
-    audited("signed_half.v", status=1, prints="audit: conforms, fail is 0 in cycle 15 though"),
+    clocked("signed.v", prints=SEEN),
+    audited("signed_half.v", status=1, prints="audit: wrong: fail is 0 in cycle 15 though"),
     Call(in_shell(netlist("counts.v", "counts_gates.v")), prints=EXACT, needs="yosys"),
     Call(
         in_shell(netlist("counts_on.v", "counts_on_gates.v")),
         status=1,
-        prints="audit: conforms, fail is 0 in cycle ",
+        prints="audit: wrong: fail is 0 in cycle ",
         needs="yosys",
     ),
-    Call(in_shell(for_ice40(f"{STYLES}two_processes.v", "ice.v", "--simulate")), prints=EXACT, needs="yosys iverilog"),
+    Call(in_shell(for_ice40(f"{STYLES}two_processes.v", "ice.v")), prints=SEEN, needs="yosys iverilog"),
     Call(
         in_shell(for_ice40(f"{STYLES}two_processes_forgets.v", "ice_forgets.v")),
         status=1,
-        prints="audit: conforms, fail is 0 in cycle 9",
+        prints="audit: wrong: fail is 0 in cycle 9",
         needs="yosys",
     ),
     Call(
         in_shell(for_ice40("counts_on.v", "ice_counts_on.v")),
         status=1,
-        prints="audit: conforms, fail is 0 in cycle ",
+        prints="audit: wrong: fail is 0 in cycle ",
         needs="yosys",
     ),
     Call(
-        in_shell(f"{COMPILE} && {for_ice40('own.v', 'ice_own.v')}"),
+        in_shell(f"{COMPILE} && {for_ice40('own.v', 'ice_own.v', '--no-simulate')}"),
         prints=EXACT,
         says="nothing.list: warning: the list holds no primitive",
         needs="yosys",
     ),
     clocked(
-        "member.v", prints=EXACT, says="audit: 'member.v':37: kept.expected[i] is read as a part of its own word"
+        "member.v", prints=SEEN, says="audit: 'member.v':37: kept.expected[i] is read as a part of its own word"
     ),
     audited(
         "member_beyond.v",
         status=1,
-        prints="audit: conforms, fail is ",
+        prints="audit: wrong: fail is ",
         says="audit: 'member_beyond.v':37: kept.expected[i + 1]",
     ),
     audited(
@@ -219,17 +224,25 @@ CALLS: List[Call] = [
         needs="yosys",
     ),
     Call("tools/plain out.v ram_cell.v --cells ice", status=2, says="plain: --cells knows ice40", needs="yosys"),
-    Call(f"tools/formal counts.v {TEST}", prints="each port is right in each cycle\n", needs="yosys"),
+    Call(
+        f"tools/formal counts.v {TEST}",
+        prints="formal: right: each port is right in each cycle, simulated by Icarus\n",
+        needs="yosys iverilog",
+    ),
     # of the second word another one is expected, whose first answer comes in cycle 7; some registers become constants
     Call(
         in_shell(WRONG_WORD),
         status=1,
-        prints="differs in cycle 8\n",
+        prints="formal: wrong: differs in cycle 8\n",
         says="nothing.list: warning: the list holds no primitive",
         needs="yosys",
     ),
-    Call(f"tools/formal {IDLE}", status=1, prints="differs in cycle 1\n", needs="yosys"),
-    Call(f"tools/formal pinned.v {TEST} --pins pinned.pins", prints="each port is right in each cycle", needs="yosys"),
+    Call(f"tools/formal {IDLE}", status=1, prints="formal: wrong: differs in cycle 1\n", needs="yosys"),
+    Call(
+        f"tools/formal pinned.v {TEST} --pins pinned.pins",
+        prints="formal: right: each port is",
+        needs="yosys iverilog",
+    ),
     Call(
         "tools/plain out.v nothing.v",
         status=1,

@@ -7,7 +7,6 @@ import io
 import itertools
 import pathlib
 import re
-import subprocess
 import tempfile
 import unittest
 from typing import Any, Sequence
@@ -99,18 +98,16 @@ def report_of(march: str, listed: str) -> list[str]:
 
 
 class Calls:
-    """Stands for `subprocess` where the program is called; the modules that it writes are told by a test."""
-
-    PIPE, DEVNULL, TimeoutExpired = subprocess.PIPE, subprocess.DEVNULL, subprocess.TimeoutExpired
+    """Stands for `bounded` where the program is called; the modules that it writes are told by a test."""
 
     def __init__(self) -> None:
         # of a memory the module of its self-test, and of all chips theirs
         self.modules: dict[str, str] = {}
         self.chip = ""
 
-    def run(self, words: Sequence[Any], **_: Any) -> subprocess.CompletedProcess[bytes]:
+    def heard(self, words: Sequence[Any], *_: Any) -> tuple[int, bytes]:
         status, said = self.answer(*map(str, words[1:]))
-        return subprocess.CompletedProcess(words, status, f"{said}\n".encode())
+        return status, f"{said}\n".encode()
 
     def answer(self, command: str, *words: str) -> tuple[int, str]:
         """The status and the line of a call."""
@@ -151,7 +148,7 @@ class Tools(unittest.TestCase):
         self.addCleanup(folder.cleanup)
         self.folder = pathlib.Path(folder.name)
         self.calls = Calls()
-        patch = mock.patch.object(program, "subprocess", self.calls)
+        patch = mock.patch.object(program, "bounded", self.calls)
         patch.start()
         self.addCleanup(patch.stop)
 

@@ -9,12 +9,12 @@ import unittest
 
 from vidlakost_tools.access import apb, log_window, standards, tap
 from vidlakost_tools.access.target import Target, Unit
-from vidlakost_tools.access.log import Entry, read_log
+from vidlakost_tools.access.log import Entry, entry_in, read_log
 from vidlakost_tools.diagnosis import tester
 from vidlakost_tools.pages import signoff
 from vidlakost_tools.texts.march import elements_of
 from vidlakost_tools.texts.memory import Memory
-from vidlakost_tools.texts.reads import read_of
+from vidlakost_tools.texts.reads import first_read, read_of
 from vidlakost_tools.tool import ToolError
 from vidlakost_tools.verilog import vhdl_text
 from vidlakost_tools.verilog.syntax import Reader
@@ -96,6 +96,50 @@ class Waits(unittest.TestCase):
             said = re.search(r"^RUNTEST IDLE (\S+) SEC;\nRUNTEST IDLE 16 TCK;$", text, re.MULTILINE)
             assert said is not None
             self.assertGreaterEqual(int(1e6 * float(said[1])) * mhz, cycles)
+
+
+class EndsOfLogs(unittest.TestCase):
+    def test_more_behind_an_entry(self) -> None:
+        """What is said behind an entry says that it is the last one that was kept: later reads may have been wrong."""
+        for unit, before in ((None, ""), (1, "unit 1 ")):
+            text = f"{before}cycle 9 expected 0 returned 1\n{before}cycle 13 expected 5 returned 4 more\n"
+            with tempfile.TemporaryDirectory() as name:
+                path = pathlib.Path(name) / "log"
+                path.write_text(text)
+                entries, more = read_log(str(path), memory(), unit)
+                self.assertEqual(([entry.cycle for entry in entries], more), ([9, 13], True))
+                path.write_text(text + f"{before}cycle 17 expected 5 returned 4\n")
+                with self.assertRaisesRegex(ToolError, "comes after 'more'"):
+                    read_log(str(path), memory(), unit)
+
+    def test_a_word_of_seventy_bits(self) -> None:
+        found = entry_in(f"unit 3 cycle 7 expected {0:018x} returned 20{0:016x}")
+        assert found is not None
+        self.assertEqual(int(found[3], 16), 1 << 69)
+
+
+class FirstReads(unittest.TestCase):
+    def test_behind_writes_and_a_pause(self) -> None:
+        """Four words are written in the cycles 1 to 4, a pause of 3 follows, and the read in cycle 9 stands behind a
+        write: its answer comes two cycles later, with the bits inverted that are stored inverted."""
+        found = first_read(elements_of("{any(w0);del;down(w1,r1);any(r0)}"), memory())
+        self.assertEqual(found, (11, 0xF ^ 5))
+        self.assertIsNone(first_read(elements_of("{any(w0)}"), memory()))
+
+
+class Registers(unittest.TestCase):
+    def test_a_word_of_more_than_64_bits(self) -> None:
+        """Each 32 bits have a register; those after the second are behind the others."""
+        wide = dataclasses.replace(memory(), polarity=0, backgrounds=[0])
+        wide.bits = 70
+        made = apb.registers(Target("m", "m", [Unit(wide, "_0")], True, 41))
+        found = {one.name: (one.at, one.fields[0].width) for one in made if one.name.startswith(("EXP", "RET"))}
+        self.assertEqual(found, {
+            "EXPECTED_LOW": (0x14, 32), "EXPECTED_HIGH": (0x18, 32), "EXPECTED_2": (0x300, 6),
+            "RETURNED_LOW": (0x1C, 32), "RETURNED_HIGH": (0x20, 32), "RETURNED_2": (0x340, 6),
+        })
+        source = next(one for one in made if one.name == "EXPECTED_2").fields[0].source
+        self.assertEqual(source, "(is_seen ? expected[69:64] : 6'd0)")
 
 
 class LogWindow(unittest.TestCase):

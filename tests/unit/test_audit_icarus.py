@@ -8,8 +8,10 @@ from unittest import mock
 
 from tests.unit.controllers import DONE, MEMORY, SMALL, changed, needs, plain_of
 from vidlakost_tools.audit import beside_icarus, beside_rule
-from vidlakost_tools.audit.beside_icarus import Beside
+from vidlakost_tools.audit.beside_icarus import Beside, Differs, Seen, Unclocked
 from vidlakost_tools.audit.pins import Pin, Pins
+from vidlakost_tools.audit.stretches import Whole, of_test
+from vidlakost_tools.texts.march import elements_of
 from vidlakost_tools.tool import ToolError
 from vidlakost_tools.verilog import front_end
 from vidlakost_tools.verilog.port_judge import BEHIND, Cycle
@@ -34,6 +36,12 @@ endmodule
 SLEEPS = changed(
     ("  assign addr = !step[0];\n", "  reg a;\n  assign addr = a;\n  always @(reset) a = !step[0];\n"),
 )
+# ports with the names that a bench has for its own
+COUNTER = """module counter(input clk, input seed, input [3:0] cycle, output reg [3:0] made, output reg [3:0] sum);
+  always @* sum = seed ? made + cycle : made;
+  always @(posedge clk or posedge seed) if (seed) made <= 0; else made <= made + 1;
+endmodule
+"""
 
 
 class Sources(unittest.TestCase):
@@ -59,16 +67,65 @@ class Sources(unittest.TestCase):
 class BesideYosys(Sources):
     """The sources beside the module made of them."""
 
-    def beside(self, text: str, pins: Pins | None = None, cycles: int = 200) -> str:
+    def seen(self, text: str, pins: Pins | None = None, test: Whole | None = None, is_any: bool = False) -> Seen:
         file = self.file(text)
         plain = front_end.plain_of([file], {}, pins)
-        return beside_icarus.beside(Beside([file], plain, pins, MEMORY, cycles=cycles))
+        memory = None if is_any else MEMORY
+        return beside_icarus.beside(Beside([file], plain, pins, memory, cycles=200, test=test))
+
+    def beside(self, text: str, pins: Pins | None = None) -> str:
+        return self.seen(text, pins).line()
 
     def test_both_are_equal(self) -> None:
-        self.assertEqual(self.beside(SMALL), "beside Icarus: equal in 200 cycles")
+        self.assertEqual(self.beside(SMALL), "beside Icarus: equal in 400 cycles")
 
     def test_pins_of_other_names(self) -> None:
-        self.assertEqual(self.beside(PINNED + SMALL, self.pins()), "beside Icarus: equal in 200 cycles")
+        self.assertEqual(self.beside(PINNED + SMALL, self.pins()), "beside Icarus: equal in 400 cycles")
+
+    def test_module_of_any_ports(self) -> None:
+        self.assertEqual(self.seen(SMALL, is_any=True).line(), "beside Icarus: equal in 400 cycles")
+        self.assertEqual(self.seen(COUNTER, is_any=True).line(), "beside Icarus: equal in 400 cycles")
+        with self.assertRaisesRegex(Differs, "sum is . in cycle .* by Icarus, and . by Yosys$"):
+            self.seen(COUNTER.replace("@*", "@(seed)"), is_any=True)
+
+    def test_whole_test_is_clocked(self) -> None:
+        """A test of 77 cycles with those behind it, 40 times, and in each some cycles aside."""
+        whole = of_test(elements_of("{any(w0);up(r0)}"), MEMORY)
+        self.assertEqual((whole.length, whole.histories, whole.starts), (76, 40, []))
+        for text, pins in ((SMALL, None), (PINNED + SMALL, self.pins())):
+            seen = self.seen(text, pins, whole)
+            self.assertGreater(seen.cycles, 400 + 40 * 77)
+            self.assertEqual((seen.unknown, seen.doubt), (-1, None))
+
+    def test_late_difference_in_a_test(self) -> None:
+        """A block that sleeps from cycle 70 on alone: only the whole test shows it."""
+        late = changed(
+            ("  reg bad;", "  reg bad;\n  reg [7:0] since;\n  reg told;\n  wire quiet = since > 8'd70;"),
+            ("fail = !reset && bad", "fail = !reset && told"),
+            ("      bad <= 1'b0;", "      {bad, since} <= 9'd0;"),
+            ("      step <= step", "      since <= since == 8'd250 ? since : since + 8'd1;\n      step <= step"),
+            ("endmodule", "  always @(bad or reset or since) told = quiet ? bad && since[0] : bad;\nendmodule"),
+        )
+        whole = of_test(elements_of("{any(w0);up(r0)}"), MEMORY)
+        self.assertEqual(self.seen(late, test=whole).doubt, None)
+        with self.assertRaisesRegex(Differs, "^the sources mean two things.*: fail is . in cycle .* by Icarus"):
+            self.seen(late.replace("reset or since", "reset or quiet"), test=whole)
+
+    def test_long_test_is_clocked_in_stretches(self) -> None:
+        """Between the stretches the sources rest, and go on with the registers of the made module."""
+        whole = Whole(300, -1, 2, [0, 100, 120, 280], 20)
+        seen = self.seen(SMALL, test=whole)
+        self.assertLess(seen.cycles, 400 + 2 * 301)
+        self.assertEqual((seen.unknown, seen.doubt), (-1, None))
+
+    def test_port_that_counts_is_unknown(self) -> None:
+        """An x that the test shows is told with its port and cycle; where the port doesn't count it is none."""
+        whole = of_test(elements_of("{any(w0);up(r0)}"), MEMORY)
+        lost = ("  reg bad;", "  reg bad;\n  wire lost;")
+        unknown = changed(lost, ("fail = !reset && bad", "fail = !reset && (bad || lost * 1'b0)"))
+        self.assertEqual(self.seen(unknown, test=whole).doubt, ("fail", 1))
+        written = changed(lost, ("wdata = 2'd0", "wdata = we ? 2'd0 : {lost * 1'b0, 1'b0}"))
+        self.assertEqual(self.seen(written, test=whole).doubt, None)
 
     def test_source_that_means_two_things(self) -> None:
         histories = "from random registers and with random resets"
@@ -82,7 +139,7 @@ class BesideYosys(Sources):
         unknown = changed(("  reg bad;", "  reg bad;\n  wire lost;"), lost)
         self.assertEqual(
             self.beside(unknown),
-            "beside Icarus: equal in 200 cycles; from cycle 0 on a port is unknown to Icarus in some of them",
+            "beside Icarus: equal in 400 cycles; from cycle 0 on a port is unknown to Icarus in some of them",
         )
 
     def test_source_that_icarus_refuses(self) -> None:
@@ -100,14 +157,14 @@ class BesideYosys(Sources):
         awake = "  reg v, w;\n  always @(w) v = ~w;\n  always @(v) w = v;\n  initial #1 w = 0;\nendmodule"
         self.file(SMALL.replace("endmodule", awake))
         with mock.patch.object(beside_icarus, "SECONDS", 1), self.assertRaisesRegex(
-            ToolError, "^Icarus took longer than 1 s"
+            Unclocked, "^Icarus took longer than 1 s"
         ):
             beside_icarus.beside(Beside([file], plain, None, MEMORY))
 
     def test_register_with_a_name_behind_a_backslash(self) -> None:
         """Icarus knows `\\bad.x ` as no signal of a hierarchy, so it is named once more with a backslash."""
         text = SMALL.replace("bad", "\\bad.x ")
-        self.assertEqual(self.beside(text), "beside Icarus: equal in 200 cycles")
+        self.assertEqual(self.beside(text), "beside Icarus: equal in 400 cycles")
 
 
 @needs("yosys", "iverilog", "vvp")
@@ -142,45 +199,45 @@ class Rule(Sources):
 
 
 class Calls(Sources):
-    @needs("iverilog", "vvp")
     def test_what_reaches_beyond_a_simulation_is_refused(self) -> None:
         comment = self.file("// $fopen\nmodule a; endmodule\n")
-        beside_icarus.refuse_sources([comment], [])
+        beside_icarus.refuse_sources([comment])
         for call in ("$fopen", "$system", "$dumpfile", "$fwrite", "$writememh"):
             file = self.file(f"module a;\n  initial {call}(1);\nendmodule\n")
-            with self.assertRaises(ToolError) as caught:
-                beside_icarus.refuse_sources([file], [])
+            with self.assertRaises(Unclocked) as caught:
+                beside_icarus.refuse_sources([file])
             self.assertEqual(str(caught.exception), f"'{file}':2: {call} would reach out of the simulation")
 
-    @needs("iverilog", "vvp")
-    def test_verilog_alone_is_clocked(self) -> None:
-        calls: list[tuple[list[str], list[str]]] = [(["a.vhd"], []), ([self.file(SMALL)], ["cells.lib"])]
-        for files, libraries in calls:
-            with self.assertRaisesRegex(ToolError, "^--simulate clocks sources in Verilog"):
-                beside_icarus.refuse_sources(files, libraries)
+    def asked(self) -> Beside:
+        ports = [("input", "clk", 1), ("output", "en", 1), ("output", "addr", 6)]
+        return Beside([], front_end.Plain("m", ports, [], [], [], [], {}, None), None, MEMORY, nonce="s1")
 
     def test_icarus_is_needed(self) -> None:
         with mock.patch("shutil.which", return_value=None):
-            with self.assertRaisesRegex(ToolError, "needs Icarus"):
-                beside_icarus.refuse_sources([self.file(SMALL)], [])
+            with self.assertRaisesRegex(Unclocked, r"^Icarus \(iverilog and vvp\) is not on the PATH$"):
+                beside_icarus.beside(self.asked())
 
     def test_last_lines_of_a_run(self) -> None:
-        self.assertEqual(beside_icarus.found_in("at 100\nequal -1\n", 100), "beside Icarus: equal in 100 cycles")
-        late = "beside Icarus: equal in 9 cycles; from cycle 7 on a port is unknown to Icarus in some of them"
-        self.assertEqual(beside_icarus.found_in("equal 7\n", 9), late)
-        two = "^the sources mean two things, .*: addr is 1 in cycle 12 by Icarus, and 0 by Yosys$"
-        with self.assertRaisesRegex(ToolError, two):
-            beside_icarus.found_in("differs addr 12 1 0\nequal -1\n", 100)
-        for said in ("", "at 100\n", "equal -1\nand more\n"):
-            with self.assertRaisesRegex(ToolError, "^the run in Icarus did not end: "):
-                beside_icarus.found_in(said, 100)
+        found = beside_icarus.found_in("at 100\ns1 equal -1 -1 0 100\n", self.asked(), "Icarus")
+        self.assertEqual((found.line(), found.doubt), ("beside Icarus: equal in 100 cycles", None))
+        found = beside_icarus.found_in("s1 equal 7 9 1 1234\n", self.asked(), "Icarus")
+        late = "beside Icarus: equal in 1,234 cycles; from cycle 7 on a port is unknown to Icarus in some of them"
+        self.assertEqual((found.line(), found.doubt), (late, ("addr", 9)))
+        two = "^the sources mean two things, .*: addr is 2a in cycle 12 by Icarus, and 0x by Yosys$"
+        with self.assertRaisesRegex(Differs, two):
+            said = "s1 differs 1 12 000000000000002a 000000000000000x\ns1 equal -1 -1 0 9\n"
+            beside_icarus.found_in(said, self.asked(), "Icarus")
+        # what a source prints says nothing
+        for said in ("", "at 100\n", "equal -1 -1 0 9\n", "s2 equal -1 -1 0 9\n"):
+            with self.assertRaisesRegex(Unclocked, "^the run in Icarus did not end: "):
+                beside_icarus.found_in(said, self.asked(), "Icarus")
 
     def test_cycle_of_a_run(self) -> None:
         out = self.folder / "out"
         out.write_text("")
         self.assertEqual(beside_icarus.how_far(out), "")
-        out.write_text("at 100\nat 200\nat 3")
-        self.assertEqual(beside_icarus.how_far(out), "cycle 3 of 2000")
+        out.write_text("at 100\nat 200\nat 3000\n")
+        self.assertEqual(beside_icarus.how_far(out), "cycle 3,000")
 
     def test_lines_that_set_registers(self) -> None:
         word = "    dut.kept[1] = {made.kept};"

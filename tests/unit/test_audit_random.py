@@ -107,20 +107,20 @@ class Comparisons(unittest.TestCase):
         return status, said.getvalue()
 
     def test_same_answers(self) -> None:
-        status, said = self.compare((0, "audit: conforms, fail is exact"), (0, "each port is as it has to be"))
+        status, said = self.compare((0, "audit: right: conforms"), (0, "formal: right: each port is as it has to be"))
         self.assertEqual((status, said), (0, "2 modules, 0 differences; 2 right, 0 unknown and right\n"))
-        status, said = self.compare((1, "audit: fail is 0 in cycle 3"), (1, "differs in cycle 3"))
+        status, said = self.compare((1, "audit: wrong: fail is 0"), (1, "formal: wrong: differs in cycle 3"))
         self.assertEqual((status, said), (0, "2 modules, 0 differences; 0 unknown and right, 2 wrong\n"))
 
     def test_unknown_may_be_right(self) -> None:
-        status, said = self.compare((1, "audit: fail is unknown in cycle 3"), (0, "each port is as it has to be"))
+        status, said = self.compare((1, "audit: unknown: fail is unknown"), (0, "formal: right as it has to be"))
         self.assertEqual((status, said), (0, "2 modules, 0 differences; 2 unknown, 2 unknown and right\n"))
 
     def test_difference_is_told_with_its_module(self) -> None:
-        status, said = self.compare((0, "audit: conforms, fail is exact"), (1, "differs in cycle 3"), 1)
+        status, said = self.compare((0, "audit: right: conforms"), (1, "formal: wrong: differs in cycle 3"), 1)
         first, *_, last = said.splitlines()
         self.assertEqual((status, last), (1, "1 modules, 1 differences; 1 right, 0 unknown and right"))
-        self.assertEqual(first, "audit says 'audit: conforms, fail is exact', and formal 'differs in cycle 3'")
+        self.assertEqual(first, "audit says 'audit: right: conforms', and formal 'formal: wrong: differs in cycle 3'")
         self.assertIn("module walker(", said)
 
 
@@ -156,4 +156,4 @@ class Damages(unittest.TestCase):
             )
             with mock.patch.object(random_comparison, "ROOT", root):
                 told = random_comparison.told("audit", [pathlib.Path("a.v"), pathlib.Path("c.m")])
-        self.assertEqual(told, (1, "audit: a.v c.m"))
+        self.assertEqual(told, (1, "audit: a.v c.m --no-simulate"))

@@ -12,6 +12,7 @@ from unittest import mock
 
 from tests.unit.controllers import SMALL, changed, needs
 from vidlakost_tools.audit import findings, random_comparison
+from vidlakost_tools.audit.outcome import READ_ALONE
 from vidlakost_tools.commands import audit
 from vidlakost_tools.text import read_text
 from vidlakost_tools.texts.march import elements_of
@@ -52,7 +53,8 @@ class Tool(unittest.TestCase):
         words = [str(self.folder / name) for name in ("a.v", "a.m", "a.mem")]
         out, told = io.StringIO(), io.StringIO()
         with contextlib.redirect_stdout(out), contextlib.redirect_stderr(told):
-            status = audit.main([*words, *(option.replace("@", str(self.folder)) for option in options)])
+            alone = () if "--simulate" in options else ("--no-simulate",)
+            status = audit.main([*words, *alone, *(option.replace("@", str(self.folder)) for option in options)])
         return status, out.getvalue().splitlines(), told.getvalue().splitlines()
 
 
@@ -60,23 +62,22 @@ class Tool(unittest.TestCase):
 class Verdicts(Tool):
     def test_right_controller(self) -> None:
         status, lines, _ = self.audit(SMALL)
-        self.assertEqual((status, lines[0], lines[-1]), (0, "check: conforms 7", "audit: conforms, fail is exact"))
+        self.assertEqual((status, lines[0], lines[-1]), (0, "check: conforms 7", f"audit: {READ_ALONE}"))
 
     def test_last_lines(self) -> None:
         idle = ("step <= 3'd1", "step <= 3'd7")
-        conforms = "audit: conforms"
         missed = "fail is 0 in cycle 6 though bit 0 of the answer of cycle 5 is wrong"
         again = "done is 0 in cycle 7, after the end, fail is 1 in cycle 13 though all answers are right"
         last = {
-            "audit: differs cycle 2 port addr expected 1 got 0": [("!step[0]", "1'b0")],
-            f"{conforms}, {missed}": [(" || step == 3'd5", "")],
+            "audit: wrong: differs cycle 2 port addr expected 1 got 0": [("!step[0]", "1'b0")],
+            f"audit: wrong: {missed}": [(" || step == 3'd5", "")],
             # the test begins anew, and looks in cycle 12 at a word that nothing has read
-            f"{conforms}, {again}": [("3'd6 ? 3'd6", "3'd6 ? 3'd7")],
-            "audit: starts 2 cycles late: differs cycle 1 port wdata expected 0 got 3": [
+            f"audit: wrong: {again}": [("3'd6 ? 3'd6", "3'd6 ? 3'd7")],
+            "audit: wrong: starts 2 cycles late: differs cycle 1 port wdata expected 0 got 3": [
                 idle,
                 ("wdata = 2'd0", "wdata = 2'd3"),
             ],
-            f"{conforms}, en not 0 in the reset, fail is exact": [("en = !reset && step", "en = step")],
+            "audit: wrong: en not 0 in the reset, fail is exact": [("en = !reset && step", "en = step")],
         }
         for line, changes in last.items():
             with self.subTest(changes=changes):
@@ -90,14 +91,15 @@ class Verdicts(Tool):
             self.audit(open_reset)[1][-2],
         )
         status, lines, _ = self.audit(open_reset, "--reset-open")
-        self.assertEqual((status, lines[-1]), (0, "audit: conforms, en not 0 in the reset, fail is exact"))
+        open_there = "conforms, en not 0 in the reset, fail is exact"
+        self.assertEqual((status, lines[-1]), (0, f"audit: {READ_ALONE}: {open_there}"))
 
     def test_late_start(self) -> None:
         status, lines, _ = self.audit(changed(("step <= 3'd1", "step <= 3'd7")))
         # each answer comes two cycles later too, and is compared by its own step
         self.assertEqual(lines[1], "late start: the test begins 2 cycles late; counted from there: conforms 7")
         self.assertEqual(lines[2], "  before it, en and done are 0")
-        self.assertEqual((status, lines[-1]), (0, "audit: conforms 2 cycles late, fail is exact"))
+        self.assertEqual((status, lines[-1]), (0, f"audit: {READ_ALONE}: conforms 2 cycles late, fail is exact"))
         never = changed(("&& step <= 3'd4", "&& step <= 3'd0"))
         self.assertTrue(any(line.startswith("no late start: ") for line in self.audit(never)[1]))
 
@@ -107,16 +109,16 @@ class Verdicts(Tool):
             ("reset && step == 3'd6", "reset && step == 3'd7"), ("step == 3'd6 ? 3'd6", "step == 3'd7 ? 3'd7")
         )
         status, lines, _ = self.audit(late)
-        verdict = "audit: conforms, done 1 cycle late, fail is exact"
-        self.assertEqual((status, lines[-1]), (1, verdict))
+        self.assertEqual((status, lines[-1]), (1, "audit: wrong: done 1 cycle late, fail is exact"))
         self.assertIn("late end: the commands are right, and done comes 1 cycle late", lines[1])
         status, lines, _ = self.audit(late, "--fail-late", "1")
-        self.assertEqual((status, lines[-1]), (0, verdict))
+        verdict = "conforms, done 1 cycle late, fail is exact"
+        self.assertEqual((status, lines[-1]), (0, f"audit: {READ_ALONE}: {verdict}"))
 
     def test_port_that_is_unknown_has_a_reason(self) -> None:
         unknown = changed(("  reg bad;", "  reg bad;\n  reg lost;"), ("wdata = 2'd0", "wdata = {lost ^ bad, 1'b0}"))
         status, lines, _ = self.audit(unknown)
-        self.assertEqual((status, lines[-1]), (1, "audit: unknown cycle 1 port wdata"))
+        self.assertEqual((status, lines[-1]), (1, "audit: unknown: cycle 1 port wdata"))
         self.assertIn("  wdata hangs on lost (a.v:7), which nothing drives", lines)
 
     def test_fail_that_is_unknown_has_a_reason(self) -> None:
@@ -124,7 +126,7 @@ class Verdicts(Tool):
         status, lines, _ = self.audit(lost)
         self.assertEqual(status, 1)
         self.assertIn("  fail hangs on lost (a.v:7), which nothing drives", lines)
-        self.assertRegex(lines[-1], "^audit: conforms, fail is unknown in cycle 1 where all answers are right")
+        self.assertRegex(lines[-1], "^audit: unknown: fail is unknown in cycle 1 where all answers are right")
 
     def test_what_still_changes_at_the_end_of_the_look(self) -> None:
         """A counter that goes on does no harm, but with --strict that is a finding."""
@@ -133,9 +135,11 @@ class Verdicts(Tool):
         )
         counts = changed(("      step <= step", "      count <= count + 8'd1;\n      step <= step"), text=counts)
         counts = changed(("reset && step == 3'd6", "reset && (step == 3'd6 || &count)"), text=counts)
+        changes = "done and en are right to cycle 70, fail is exact"
         status, lines, _ = self.audit(counts)
-        self.assertEqual((status, lines[-1]), (0, "audit: conforms, done and en are right to cycle 70, fail is exact"))
-        self.assertEqual(self.audit(counts, "--strict")[0], 1)
+        self.assertEqual((status, lines[-1]), (0, f"audit: {READ_ALONE}: conforms, {changes}"))
+        status, lines, _ = self.audit(counts, "--strict")
+        self.assertEqual((status, lines[-1]), (1, f"audit: unknown: {changes}"))
 
     def test_waveform_beside_the_verdict(self) -> None:
         status, _, told = self.audit(SMALL, "--vcd", "@/run.vcd")
@@ -148,7 +152,8 @@ class Verdicts(Tool):
     @needs("iverilog", "vvp")
     def test_sources_beside_icarus(self) -> None:
         status, lines, _ = self.audit(SMALL, "--simulate")
-        self.assertEqual((status, lines[0]), (0, "beside Icarus: equal in 2000 cycles"))
+        self.assertRegex(lines[-2], "^beside Icarus: equal in [0-9,]+ cycles$")
+        self.assertEqual((status, lines[-1]), (0, "audit: right: conforms, fail is exact, simulated by Icarus"))
 
 
 @needs("yosys")

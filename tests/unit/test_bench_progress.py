@@ -10,6 +10,7 @@ from vidlakost_tools.chip import system as soc
 from vidlakost_tools.chip.bench import bench
 from vidlakost_tools.collar.bench import Bench
 from vidlakost_tools.in_place.bench import PlaceBench
+from vidlakost_tools.in_place.due import Due
 from vidlakost_tools.in_place.place_list import read_places
 from vidlakost_tools.in_place.places_bench import ChipBench
 from vidlakost_tools.in_place.sequencer import of_places
@@ -31,7 +32,8 @@ class Progress(unittest.TestCase):
         placed = whole(None).system.collars[0]
         told = self.lines(Bench(placed.macro, placed.word).text())
         self.assertIn("left: a wrong bit is found", told)
-        self.assertIn("left: the first failure is read", self.lines(PlaceBench(placed.macro, placed.word).text()))
+        text = PlaceBench(placed.macro, placed.word, Due(placed)).text()
+        self.assertIn("left: the first failure is read", self.lines(text))
 
     def test_a_chip(self) -> None:
         text = bench(whole(None).system)

@@ -376,6 +376,7 @@ class BesideIcarus(unittest.TestCase):
         same = {"    $deposit(dut.q, {made.held[1], made.held[0]});": {"made.held[0]", "made.held[1]"}}
         self.assertEqual((whole.same(), whole.is_whole(same)), (same, True))
         self.assertIn("cycle < 1000 && cycle % 20 == 0", whole.bench(same))
+        self.assertIn("made.held = then_held;", whole.bench(same))
 
     def test_registers_that_are_not_known_begin_once(self) -> None:
         part = two_bits(held=[[("low", 0)], []])

@@ -1,4 +1,4 @@
-"""Where a run of another background goes on into that of the background 0, by hand: acts, words, pauses, the warning."""
+"""Where a run of another background goes on into that of the background 0, by hand: acts, words, pauses, a warning."""
 from __future__ import annotations
 
 import unittest

@@ -6,7 +6,8 @@ import unittest
 
 from vidlakost_tools.access import ijtag, network, standards, stil, tap_run, wgl
 from vidlakost_tools.access.target import Target, Unit
-from vidlakost_tools.tester_files import bsdl, icl, pdl, scan_path, stil as stil_reader, wgl as wgl_reader
+from vidlakost_tools.in_place.sequencer import reading
+from vidlakost_tools.tester_files import bsdl, icl, pdl, scan_path, stil as stil_reader, svf, wgl as wgl_reader
 from vidlakost_tools.tester_files.cycles import Cycle, joined, listing
 from vidlakost_tools.tester_files.retarget import Session
 from vidlakost_tools.texts.memory import Memory
@@ -105,6 +106,21 @@ class Retargeting(unittest.TestCase):
         with self.assertRaisesRegex(ToolError, "has 1 bits by ICL"):
             Session(icl.read(SMALL), bsdl.read(ENTITY.replace("NETREG[1]", "NETREG[3]")))
 
+    def test_a_run_in_svf(self) -> None:
+        """A reset, an instruction of two bits, a scan of three of which the middle one is compared, and both kinds of
+        waits: two microseconds are 14 cycles at 7 MHz, and half of one is 3.5."""
+        text = "! one\nTRST OFF;\nSTATE RESET;\nSTATE IDLE;\nSIR 2 TDI (2);\nSDR 3 TDI (5) TDO (2) MASK (2);\n"
+        found = svf.read(text + "RUNTEST IDLE 3 TCK;\nRUNTEST IDLE 2.0E-06 SEC;\nRUNTEST IDLE 5E-7 SEC;\n", 7.0)
+        wanted = [Cycle(1, 0, 0, "X"), Cycle(1, 0, 1, "X", 5), Cycle(0, 0, 1, "X"), Cycle(1, 0, 1, "X", 2)]
+        wanted += [Cycle(0, 0, 1, "X", 2), Cycle(0, 0, 1, "X"), Cycle(1, 1, 1, "X"), Cycle(1, 0, 1, "X")]
+        wanted += [Cycle(0, 0, 1, "X"), *shifted("101", "X1X"), Cycle(0, 0, 1, "X", 3 + 14 + 4)]
+        self.assertEqual(list(joined(found)), list(joined(wanted)))
+        for old, new in (("SIR 2", "SIR 1"), ("MASK (2)", "MASK (8)"), ("STATE IDLE;\n", ""), ("SDR", "SDQ")):
+            with self.assertRaises(ToolError, msg=new):
+                svf.read(text.replace(old, new), 7.0)
+        with self.assertRaisesRegex(ToolError, "semicolon"):
+            svf.read(text.rstrip(";\n"), 7.0)
+
     def test_what_is_no_icl(self) -> None:
         for old, new in (
             ("Source r[0]", "Source r[1]"), ("Source way", "Source ways"), ("r[1:0] {", "r[2:0] {"),
@@ -136,6 +152,15 @@ class Retargeting(unittest.TestCase):
             self.assertIn(old, ENTITY)
             with self.assertRaises(ToolError, msg=new):
                 bsdl.read(ENTITY.replace(old, new))
+
+
+class Waits(unittest.TestCase):
+    def test_the_first_failure_is_read_in_the_wait(self) -> None:
+        """A bit takes 16 cycles at most, and a failure of 70 bits has 32 + 2 * 70. At 4 MHz 100 cycles and 16 take 29
+        microseconds, and one more is waited: 300 cycles of a TCK of 10 MHz."""
+        self.assertEqual(reading(32 + 2 * 70), 16 * (32 + 140 + 1))
+        self.assertEqual(tap_run.waiting(100, 4.0, 10.0), 300 + 16)
+        self.assertEqual(tap_run.waiting(100, None, 10.0), 116)
 
 
 class Runs(unittest.TestCase):

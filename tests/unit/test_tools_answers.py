@@ -88,13 +88,13 @@ class Judged(Tools):
 
     def formal(self, text: str, *options: str) -> tuple[int, list[str]]:
         (self.folder / "a.v").write_text(text)
-        return self.tool("formal", "@/a.v", "@/c.m", "@/a.mem", *options)
+        return self.tool("formal", "@/a.v", "@/c.m", "@/a.mem", "--no-simulate", *options)
 
     def test_right_controller(self) -> None:
         calls: list[list[str]] = [[], ["--resets"]]
         for options in calls:
             status, lines = self.formal(SMALL, *options)
-            self.assertEqual(status, 0, lines)
+            self.assertEqual((status, lines), (0, ["formal: right as Yosys reads it, not simulated"]))
 
     def test_first_cycle_that_differs(self) -> None:
         wrong = {
@@ -106,16 +106,16 @@ class Judged(Tools):
         for line, change in wrong.items():
             with self.subTest(line=line):
                 status, lines = self.formal(changed(change))
-                self.assertEqual((status, lines[-1]), (1, line))
+                self.assertEqual((status, lines[-1]), (1, f"formal: wrong: {line}"))
 
     def test_ports_of_another_width(self) -> None:
-        with self.assertRaisesRegex(ToolError, "^a self-test of tiny has the ports output wdata of 2 bits$"):
-            self.formal(changed(("output [1:0] wdata", "output [2:0] wdata")))
+        status, lines = self.formal(changed(("output [1:0] wdata", "output [2:0] wdata")))
+        self.assertEqual((status, lines), (1, ["formal: refused"]))
 
     def test_module_of_the_subset(self) -> None:
         """What `plain` writes conforms as the sources do."""
         (self.folder / "a.v").write_text(SMALL)
-        self.assertEqual(self.tool("plain", "@/b.v", "@/a.v")[0], 0)
+        self.assertEqual(self.tool("plain", "@/b.v", "@/a.v", "--no-simulate")[0], 0)
         self.assertEqual(
             self.calls.answer("check", *(str(self.folder / name) for name in ("b.v", "c.m", "a.mem"))),
             (0, "conforms 7"),

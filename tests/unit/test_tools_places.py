@@ -1,11 +1,16 @@
 """A board whose two memories stay in their places: the testbench of its bundles in Icarus, and the proof of its use."""
 from __future__ import annotations
 
+import json
+import shutil
 import subprocess
 import unittest
+from unittest import mock
 
 from tests.unit.controllers import needs
 from tests.unit.test_tools_chips import NAMES, Chips
+from vidlakost_tools.audit.beside_icarus import Differs
+from vidlakost_tools.in_place import places_beside
 from vidlakost_tools.tool import ToolError
 
 USE = "input [1:0] a, input [1:0] d, input ce, input [1:0] wen"
@@ -68,11 +73,16 @@ class Placed(Chips):
         (self.folder / "after.v").write_text(AFTER)
 
     def places(self, text: str = PLACES, after: str = AFTER) -> tuple[int, list[str]]:
-        """What the tool says of a text of places, and its status."""
+        """What the tool says of a text of places but for its verdict, and its status."""
+        status, lines = self.verdict(text, after, "--no-simulate")
+        return status, [line for line in lines if not line.startswith("places: ")]
+
+    def verdict(self, text: str, after: str, *options: str) -> tuple[int, list[str]]:
         (self.folder / "after.v").write_text(after)
         (self.folder / "board.places").write_text(text.replace("@", str(self.folder)))
         self.write("top", "--in-place")
-        return self.tool("places", "@/board.places", "@/soc.chip", *(f"@/{name}.pins" for name in NAMES), "@/out")
+        pins = [f"@/{name}.pins" for name in NAMES]
+        return self.tool("places", "@/board.places", "@/soc.chip", *pins, "@/out", *options)
 
 
 @needs("iverilog", "vvp")
@@ -144,6 +154,13 @@ class Proofs(Placed):
         self.assertEqual((status, len(lines) > 0), (1, True))
         self.assertTrue(all("sum" in line for line in lines), lines)
 
+
+    def test_verdict_comes_first(self) -> None:
+        status, lines = self.verdict(self.PROVED, AFTER, "--no-simulate")
+        self.assertEqual((status, lines[-1]), (0, "places: right as Yosys reads it, not simulated"))
+        status, lines = self.verdict(self.PROVED, AFTER.replace("sum ^ p", "sum ^ ~p"))
+        self.assertEqual(status, 1)
+        self.assertRegex(lines[-1], "^places: wrong: in use sum.* is not what it was")
 
     def compared(self, old: str, new: str) -> list[str]:
         """What the proof tells of a board with more flip-flops, a text of which is another than before."""
@@ -301,3 +318,52 @@ class Texts(Placed):
 
 if __name__ == "__main__":
     unittest.main()
+
+
+@needs("yosys", "iverilog", "vvp")
+class Simulated(Placed):
+    """Both boards in random use, in Icarus."""
+
+    PROVED = PLACES + "before @/before.v\n"
+
+    def test_both_are_alike(self) -> None:
+        status, lines = self.verdict(self.PROVED, AFTER, "--json", "@/out.json")
+        self.assertIn("beside Icarus: equal in 20,000 cycles of use", lines)
+        said = "in use each memory, each flip-flop and each output has what it had, simulated by Icarus"
+        self.assertEqual((status, lines[-1]), (0, f"places: right: {said}"))
+        told = json.loads((self.folder / "out.json").read_text())
+        self.assertEqual((told["verdict"], told["simulated"], told["told"]), ("right", True, said))
+        self.assertEqual([one["name"] for one in told["witnesses"]], ["Yosys", "Icarus"])
+        self.assertTrue(all(len(one["sha256"]) == 64 for one in told["inputs"]))
+
+    def test_what_yosys_reads_otherwise(self) -> None:
+        """A block that sleeps is to Yosys the wire that it was."""
+        wire = LINKS.replace(".d(d)", ".d(word)")
+        sleeps = AFTER.replace(f"two(.ck(clk), {LINKS}", f"two(.ck(clk), {wire}").replace(
+            SUM, SUM + "  reg [1:0] word;\n  always @(d[0]) word = d;\n"
+        )
+        status, lines = self.verdict(self.PROVED, sleeps)
+        self.assertEqual((status, lines[0]), (1, lines[0]))
+        self.assertRegex(lines[-1], "^places: refused: d of other is .* in cycle .* by Icarus, and was .* before$")
+        sleeps = AFTER.replace(SUM, SUM.replace("sum ^ p", "#300 sum ^ p"))
+        self.assertEqual(self.verdict(self.PROVED, sleeps)[0], 1)
+
+    def test_port_without_a_number(self) -> None:
+        """What is unknown in one chip alone, or never has a number, is no yes."""
+        proof = mock.Mock(named=lambda name: name)
+        end = ["end"]
+        runs = [["01", "1"], ["x1", "1"], end], [["01", "1"], ["x1", "1"], end]
+        self.assertEqual(places_beside.difference(proof, ["sum", "q"], *runs), "")
+        runs = [["01", "1"], ["11", "1"], end], [["01", "1"], ["x1", "1"], end]
+        told = places_beside.difference(proof, ["sum", "q"], *runs)
+        self.assertEqual(told, "sum is x1 in cycle 0, and was 11 before")
+        runs = [["01", "x"], ["11", "x"], end], [["01", "x"], ["11", "x"], end]
+        self.assertEqual(places_beside.difference(proof, ["sum", "q"], *runs), "q never had a number")
+        with self.assertRaisesRegex(Differs, "sum is 00 in cycle 1 of random use by Icarus, and was x1 before$"):
+            places_beside.difference(proof, ["sum"], [["0"], ["1"], ["x1"], end], [["0"], ["1"], ["00"], end])
+
+    def test_icarus_is_missing(self) -> None:
+        found = shutil.which
+        with mock.patch("shutil.which", lambda name: None if name == "iverilog" else found(name)):
+            status, lines = self.verdict(self.PROVED, AFTER)
+        self.assertEqual((status, lines[-1]), (1, "places: unknown: right as Yosys reads it, not simulated"))

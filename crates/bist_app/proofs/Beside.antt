@@ -36,8 +36,8 @@ module _ (mo : ModuleTree) (march : List MarchElement) (d : Description) (test :
       ends_failing (dynamic p at) mo march d test forms m has.under_way (dynamic_wrong march d is p dyn fresh detects m at has fits)
 
   pub links_fail : IsMarch march → IsMemory d → OfDetectedLinks (FailsBeside mo march d) march d
-  links_fail marches is link pair first_stays second_stays detects m at has fits =
-      ends_failing (linked link at) mo march d test forms m has.under_way (linked_wrong march d marches is link pair first_stays second_stays detects m at has fits)
+  links_fail marches is link pair alone detects m at has fits =
+      ends_failing (linked link at) mo march d test forms m has.under_way (linked_wrong march d marches is link pair alone detects m at has fits)
 
   pub decoders_fail : IsMarch march → IsMemory d → OfDetectedDecoders (FailsBeside mo march d) march d
   decoders_fail marches is fault detects m at decoder read has fits wrong reads =

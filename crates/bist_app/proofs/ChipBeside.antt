@@ -169,9 +169,9 @@ module _ (c : ChipTree) (us : List TestUnit) (budget : ℕ) (groups : List ℕ) 
     fails_dynamic = λ p dyn fresh detects m at has fits.
         fails_unit (dynamic p at) (λ h. length h.words ≡ u.memory.words) (λ (h : HeldWords). h.armed ≡ false)
         (dynamic_caught u.march u.memory mem p dyn fresh detects at fits) m has.words has.under_way;
-    fails_linked = λ link pair first_stays second_stays detects m at has fits.
+    fails_linked = λ link pair alone detects m at has fits.
         fails_unit (linked link at) HasSize Any
-        (from_any (linked link at) HasSize u.march u.memory (linked_caught u.march u.memory is mem link pair first_stays second_stays detects at fits)) m has.words has.under_way;
+        (from_any (linked link at) HasSize u.march u.memory (linked_caught u.march u.memory is mem link pair alone detects at fits)) m has.words has.under_way;
     fails_decoder = λ fault detects m at decoder read has fits wrong reads.
         fails_unit (decoded decoder read) HasSize Any
         (from_any (decoded decoder read) HasSize u.march u.memory (decoder_caught u.march u.memory is mem fault detects at decoder read fits wrong reads)) m has.words has.under_way;

@@ -64,7 +64,7 @@ pub record UnitTests (c : ChipTree) (i : ℕ) (u : TestUnit) (s : ℕ) : Type 0 
   pub fails : (p : Primitive) → IsPrimitive p → Detects u.march p → EachPlanted (FailsUnit c i u s) u.memory p
   -- of a detected dynamic primitive, in one cell or in two of different words, where the background before can't begin it
   pub fails_dynamic : OfDetectedDynamic (FailsUnit c i u s) u.march u.memory
-  -- with a detected linked fault, at bits of different words, that no pause sets off
+  -- with a detected linked fault at bits of different words, of which a pause sets off one primitive at most
   pub fails_linked : OfDetectedLinks (FailsUnit c i u s) u.march u.memory
   -- whose address decoder has a detected fault, whatever else is wrong with it
   pub fails_decoder : OfDetectedDecoders (FailsUnit c i u s) u.march u.memory

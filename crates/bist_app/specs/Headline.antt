@@ -82,7 +82,7 @@ pub record IsCompilation (words : Words) (files files' : Files) (said said' : Op
   pub passes : PassesBeside tree march memory
   -- It ends with `fail` beside each memory with an instance of an item that the march detects, in one cell or in two of different words;
   pub fails : AllByRecursion (FailsWhereDetected tree march memory) items
-  -- beside each with a linked fault that it detects, at bits of different words, and that no pause sets off;
+  -- beside each with a linked fault that it detects, at bits of different words, of which a pause sets off one primitive at most;
   pub fails_linked : OfDetectedLinks (FailsBeside tree march memory) march memory
   -- beside each whose address decoder has a fault that it detects, whatever else is wrong with that;
   pub fails_decoder : OfDetectedDecoders (FailsBeside tree march memory) march memory

@@ -74,8 +74,8 @@ collar_tests mo march d p tests is m short = record {
   fails = λ prim primitive detects i same fits.
       ends_caught (words_with (Some i)) (IsWhole d (Some i)) mo march d p tests m short
       (words_caught march d m i (subst IsPrimitive (sym same) primitive) fits (let all : Detects march i.prim = subst (Detects march) (sym same) detects in all d.words m.words_low));
-  fails_linked = λ link pair first_stays second_stays detected at places.
-      ends_caught (linked link at) (HasSize d) mo march d p tests m short (linked_caught march d is m link pair first_stays second_stays detected at places);
+  fails_linked = λ link pair alone detected at places.
+      ends_caught (linked link at) (HasSize d) mo march d p tests m short (linked_caught march d is m link pair alone detected at places);
   fails_decoder = λ fault detected at decoder read places has reads.
       ends_caught (decoded decoder read) (HasSize d) mo march d p tests m short (decoder_caught march d is m fault detected at decoder read places has reads);
   fails_dynamic = λ prim dyn fresh detected at places. ends_unarmed mo march d p tests m short prim at (dynamic_caught march d m prim dyn fresh detected at places);

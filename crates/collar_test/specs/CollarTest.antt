@@ -274,8 +274,8 @@ pub record IsShort (p : Pins) : Type 0 where
 pub record TestsBehind (mo : ModuleTree) (march : List MarchElement) (d : Description) (p : Pins) : Type 0 where
   pub passes : PassesBehind mo march d p
   pub fails : (prim : Primitive) → IsPrimitive prim → Detects march prim → FailsBehind mo march d p prim
-  -- that no pause sets off
-  pub fails_linked : (link : Link) → IsLinked link → is_retention link.first ≡ false → is_retention link.second ≡ false → DetectsLink march link
+  -- of which a pause sets off one primitive at most
+  pub fails_linked : (link : Link) → IsLinked link → (is_retention link.first ≡ false) ⊎ (is_retention link.second ≡ false) → DetectsLink march link
       → FailsLinkedBehind mo march d p link
   pub fails_decoder : (fault : DecoderFault) → DetectsDecoder march fault → FailsDecoderBehind mo march d p fault
   -- where a run of the background 0 begins afresh

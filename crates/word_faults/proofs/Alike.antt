@@ -1,32 +1,20 @@
 -- Memories of words with a fault do what planted instances, cells and plain words do.
-use Rattle.std.proofs.Common.{◌≡◌, not, ◌&&◌, ℕ, Bool, true, false, Option, Some, None, List, refl, ap, sym, ◌∙◌}
+use Rattle.std.proofs.Common.{◌≡◌, ℕ, Bool, true, false, Option, Some, None, List, refl, ap, sym, ◌∙◌}
 use Rattle.std.specs.Prelude.{if◌then◌else◌, slice_set, slice_index, bit_xor, ◌^◌}
 use Rattle.std.proofs.lemmas.List.{set-get_or}
-use Rattle.fault_core.specs.Primitive.{same_bit, is_retention}
-use Rattle.fault_core.specs.Cells.{has_act}
+use Rattle.fault_core.specs.Primitive.{same_bit}
 use Rattle.word_march.specs.declared.operations.WordOp.{WordOp}
 use Rattle.word_device.specs.declared.device.BitPlace.{BitPlace}
-use Rattle.word_device.specs.declared.device.Planted.{Planted}
-use Rattle.word_device.specs.Chips.{has_bit, with_bit, with_bit_in, bit_in, bits_hold, closed_words, matches, plain_words, plain_reply, acted_words, answered, paused_words, words_after, reply_to}
+use Rattle.word_device.specs.Chips.{has_bit, with_bit, with_bit_in, bit_in, matches, plain_words, plain_reply, acted_words, answered, words_after, reply_to}
 use Rattle.linked_faults.specs.declared.link.Link.{Link}
 use Rattle.linked_faults.specs.Linking.{IsLinked}
 use Rattle.word_faults.specs.Linked.{Bits, first_of, second_of, linked}
 use Rattle.word_faults.specs.Dynamic.{is_second}
 use Rattle.word_faults.specs.Alike.{DoesAs, LinkedAsOne, DecodedByBits, DecodedPlainly, ChangesVictim, DynamicInPlace, DynamicRests}
 use Rattle.word_faults.proofs.Decoders.{acts_as, read_as}
+use Rattle.word_faults.proofs.Linked.{never_closes, first_pauses, second_pauses}
 
 -- ---- linked primitives
-
--- an instance with an act closes nothing
-never_closes : (i : Planted) (words : List ℕ) → has_act i.prim ≡ true → closed_words i words ≡ words
-unfolding closed_words
-never_closes i words h = ap (λ (b : Bool). if not b && bits_hold i words then with_bit_in words i.vic i.prim.after else words) h
-
-pauses_plainly : (i : Planted) (words : List ℕ) → has_act i.prim ≡ true → is_retention i.prim ≡ false → paused_words i words ≡ words
-unfolding paused_words
-pauses_plainly i words acts stays =
-    never_closes i (if is_retention i.prim && bits_hold i words then with_bit_in words i.vic i.prim.after else words) acts
-    ∙ ap (λ (b : Bool). if b && bits_hold i words then with_bit_in words i.vic i.prim.after else words) stays
 
 module _ (link : Link) (at : Bits) (is : IsLinked link) where
   does_first : (words : List ℕ) (o : WordOp) → matches (first_of link at) words o ≡ true → DoesAs (Some (first_of link at)) (linked link at) words o
@@ -59,8 +47,8 @@ pub as_one : LinkedAsOne
 as_one link at is = record {
   first = does_first link at is;
   second = does_second link at is;
-  first_pause = λ stays words. sym (pauses_plainly (first_of link at) words is.first_acts stays);
-  second_pause = λ stays words. sym (pauses_plainly (second_of link at) words is.second_acts stays);
+  first_pause = λ stays words. first_pauses link at words stays is.first_acts;
+  second_pause = λ stays words. second_pauses link at words stays is.second_acts;
 }
 
 -- ---- the decoder

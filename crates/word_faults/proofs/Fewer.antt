@@ -21,7 +21,7 @@ use Rattle.linked_faults.specs.declared.link.Link.{Link}
 use Rattle.linked_faults.specs.declared.link.Spots.{Spots}
 use Rattle.linked_faults.specs.Linking.{first_places, second_places, linked_cells, linked_answer, linked_pause}
 use Rattle.linked_faults.specs.Detection.{cells_behind, is_wrong_there}
-use Rattle.linked_faults.proofs.Seen.{length-linked, length-linked_pause, linked_leaves}
+use Rattle.linked_faults.proofs.Seen.{length-linked, length-linked_pause, linked_leaves, pause_leaves}
 
 -- ---- the first two cells
 
@@ -137,22 +137,26 @@ module _ (p : Primitive) (at : Places) (fits : FitsPlace p at 2) where
 
 -- ---- the two
 
-module _ (link : Link) (s : Spots) (one : FitsPlace link.first (first_places link s) 2) (other : FitsPlace link.second (second_places link s) 2)
-    (first_stays : is_retention link.first ≡ false) (second_stays : is_retention link.second ≡ false) where
+module _ (link : Link) (s : Spots) (one : FitsPlace link.first (first_places link s) 2) (other : FitsPlace link.second (second_places link s) 2) where
   abbrev machine : Machine (List Bool) ℕ
   machine = record {
     step = λ q i act. linked_cells link s q i act;
     answer = λ q i act. linked_answer link s q i act;
     other = λ q. q;
-    pause = λ q. q;
+    pause = λ q. linked_pause link s q;
   }
 
-  pauses : (c : List Bool) → linked_pause link s c ≡ c
+  pause_front : (c : List Bool) → front (linked_pause link s c) ≡ linked_pause link s (front c)
   unfolding linked_pause
-  pauses c =
-      ap (λ (b : Bool). if b && states_hold link.first (first_places link s) c then slice_set c s.v link.first.after
-      else if is_retention link.second && states_hold link.second (second_places link s) c then slice_set c s.v link.second.after else c) first_stays
-      ∙ ap (λ (b : Bool). if b && states_hold link.second (second_places link s) c then slice_set c s.v link.second.after else c) second_stays
+  pause_front c =
+      front_if (is_retention link.first && states_hold link.first (first_places link s) c) (is_retention link.first && states_hold link.first (first_places link s) (front c))
+      (slice_set c s.v link.first.after) (if is_retention link.second && states_hold link.second (second_places link s) c then slice_set c s.v link.second.after else c)
+      (slice_set (front c) s.v link.first.after)
+      (if is_retention link.second && states_hold link.second (second_places link s) (front c) then slice_set (front c) s.v link.second.after else front c)
+      (ap (λ b. is_retention link.first && b) (sym (holds_front link.first (first_places link s) one c))) (front_set c s.v link.first.after one.victim)
+      (front_if (is_retention link.second && states_hold link.second (second_places link s) c) (is_retention link.second && states_hold link.second (second_places link s) (front c))
+      (slice_set c s.v link.second.after) c (slice_set (front c) s.v link.second.after) (front c)
+      (ap (λ b. is_retention link.second && b) (sym (holds_front link.second (second_places link s) other c))) (front_set c s.v link.second.after one.victim) refl)
 
   plain_front : (c : List Bool) (x : ℕ) (act : Act) → x < 2 → front (plain_cells c x act) ≡ plain_cells (front c) x act
   plain_front c x (Write bit) low = front_set c x bit low
@@ -236,8 +240,11 @@ module _ (link : Link) (s : Spots) (one : FitsPlace link.first (first_places lin
         let high = no_tag v.address out in ap front (cells_out c v.address (act_of v.op) high) ∙ plain_out c v.address (act_of v.op) high;
     other_cells = λ strict c v out within h. cells_out c v.address (act_of v.op) (no_tag v.address out);
     other_twice = λ q. refl;
-    pause_seen = λ c e h. ap front (pauses c);
-    pause_leaves = λ strict c e y out h. ap (λ l. cell l y) (pauses c);
+    pause_seen = λ c e h. pause_front c;
+    pause_leaves = λ strict c e y out h.
+        let high = no_tag y out in
+        let victim = one.victim in
+        pause_leaves link s c y (omega (arith, victim, high));
   }
 
   -- an array of the two
@@ -252,7 +259,7 @@ module _ (link : Link) (s : Spots) (one : FitsPlace link.first (first_places lin
     other_seen = λ c v out within h. let high = no_tag v.address out in absurd (omega (arith, within, high));
     other_cells = λ no. absurd no;
     other_twice = λ q. refl;
-    pause_seen = λ c e h. pauses c;
+    pause_seen = λ c e h. refl;
     pause_leaves = λ no. absurd no;
   }
 

@@ -1,5 +1,5 @@
 -- A linked fault at bits of different words is, in a lane through these bits, that fault at cells.
-use Rattle.std.proofs.Common.{◌≡◌, ◌≢◌, ◌<◌, ◌≤◌, ◌^◌, ◌%◌, ℕ, Bool, true, false, cond, eqb, ◌&&◌, Option, Some, None, IsSome, List, [], ◌∷◌, ◌++◌, length, length-append, refl, ap, sym, subst, ◌∙◌, ◌↔◌, ⊎_elim, arith}
+use Rattle.std.proofs.Common.{◌≡◌, ◌≢◌, ◌<◌, ◌≤◌, ◌^◌, ◌%◌, ℕ, Bool, true, false, cond, eqb, not, ◌&&◌, ◌⊎◌, inl, inr, Option, Some, None, IsSome, List, [], ◌∷◌, ◌++◌, length, length-append, refl, ap, sym, subst, ◌∙◌, ◌↔◌, ⊎_elim, arith}
 use Rattle.std.specs.Prelude.{if◌then◌else◌, slice_set, slice_index}
 use Rattle.std.proofs.lemmas.Bool.{ne_eqb, cases_lt}
 use Rattle.std.proofs.lemmas.Bool.Decides.{eqb_tells}
@@ -8,7 +8,7 @@ use Rattle.fault_core.specs.declared.primitive.Act.TheVariants.{Write, Read}
 use Rattle.fault_core.specs.declared.primitive.Sense.{Sense}
 use Rattle.fault_core.specs.declared.cells.Places.{Places}
 use Rattle.fault_core.specs.Primitive.{IsPrimitive, is_retention}
-use Rattle.fault_core.specs.Cells.{acts, plain_cells, plain_answer, answer_or, step_answer, states_hold, FitsAgg, FitsPlace}
+use Rattle.fault_core.specs.Cells.{has_act, acts, plain_cells, plain_answer, answer_or, step_answer, states_hold, FitsAgg, FitsPlace}
 use Rattle.march_core.specs.March.{MarchElement, IsMarch}
 use Rattle.march_core.specs.Runs.{up, is_write, data_value}
 use Rattle.march_core.specs.Visits.{Visit, visiting, pausing, visits}
@@ -19,10 +19,12 @@ use Rattle.memory_desc.specs.Descriptions.{Description, IsMemory}
 use Rattle.word_march.specs.declared.operations.WordOp.{WordOp}
 use Rattle.word_march.specs.Commands.{word_op}
 use Rattle.word_device.specs.declared.device.BitPlace.{BitPlace}
-use Rattle.word_device.specs.Chips.{FitsAggPlace, has_bit, with_bit, with_bit_in, act_on, matches, plain_words, plain_reply, answered, reply_to}
+use Rattle.word_device.specs.declared.device.Planted.{Planted}
+use Rattle.word_device.specs.Chips.{FitsAggPlace, has_bit, with_bit, with_bit_in, bits_hold, closed_words, paused_words, act_on, matches, plain_words, plain_reply, answered, reply_to}
+use Rattle.word_device.proofs.Closed.{paused_twice}
 use Rattle.word_device.proofs.Lanes.{lane, lane_set, length-lane}
 use Rattle.word_device.proofs.Porting.{op_of, matches_read}
-use Rattle.word_device.proofs.Steps.{word_at, spots, Through, ThroughAgg, lane_with_bit, lane_if, matches_same, lane_reply}
+use Rattle.word_device.proofs.Steps.{word_at, spots, Through, ThroughAgg, lane_with_bit, lane_if, states_same, matches_same, lane_reply}
 use Rattle.word_device.proofs.Answering.{IsLawful}
 use Rattle.word_device.proofs.Attaching.{AlwaysDiffers, from_any, answers_wrong}
 use Rattle.linked_faults.specs.declared.link.Link.{Link}
@@ -31,7 +33,7 @@ use Rattle.linked_faults.specs.Linking.{IsLinked, FitsLink, first_places, second
 use Rattle.linked_faults.specs.Detection.{cells_behind, is_wrong_there, Detects}
 use Rattle.linked_faults.proofs.Places.{have_spots}
 use Rattle.word_faults.specs.Laws.{LinkedWrong}
-use Rattle.word_faults.specs.Linked.{Bits, FitsBits, bit_beside, first_of, second_of, linked_words, linked_reply, linked}
+use Rattle.word_faults.specs.Linked.{Bits, FitsBits, bit_beside, first_of, second_of, linked_words, linked_reply, linked_paused, linked}
 use Rattle.word_faults.proofs.Catching.{catches}
 use Rattle.word_faults.proofs.Fewer.{fewer}
 use Rattle.word_faults.proofs.Solid.{act_solid, wrong_read, word_differs, up_fits}
@@ -155,10 +157,35 @@ lane_plain t ws o = go o.write
     go true = lane_set t ws o.index o.word
     go false = refl
 
+-- ---- pauses
+
+-- an instance with an act closes nothing
+pub never_closes : (i : Planted) (words : List ℕ) → has_act i.prim ≡ true → closed_words i words ≡ words
+unfolding closed_words
+never_closes i words h = ap (λ (b : Bool). if not b && bits_hold i words then with_bit_in words i.vic i.prim.after else words) h
+
+-- of two of which one has no pause, the other's is the whole
+pub first_pauses : (link : Link) (at : Bits) (words : List ℕ) → is_retention link.second ≡ false → has_act link.first ≡ true
+    → linked_paused link at words ≡ paused_words (first_of link at) words
+unfolding paused_words
+first_pauses link at words stays acts =
+    let hit : Bool = is_retention link.first && bits_hold (first_of link at) words in
+    ap (λ (b : Bool). if hit then with_bit_in words at.v link.first.after
+    else if b && bits_hold (second_of link at) words then with_bit_in words at.v link.second.after else words) stays
+    ∙ sym (never_closes (first_of link at) (if hit then with_bit_in words at.v link.first.after else words) acts)
+
+pub second_pauses : (link : Link) (at : Bits) (words : List ℕ) → is_retention link.first ≡ false → has_act link.second ≡ true
+    → linked_paused link at words ≡ paused_words (second_of link at) words
+unfolding paused_words
+second_pauses link at words stays acts =
+    let rest : List ℕ = if is_retention link.second && bits_hold (second_of link at) words then with_bit_in words at.v link.second.after else words in
+    ap (λ (b : Bool). if b && bits_hold (first_of link at) words then with_bit_in words at.v link.first.after else rest) stays
+    ∙ sym (never_closes (second_of link at) rest acts)
+
 -- ---- the fault
 
 module _ (link : Link) (at : Bits) (words bits : ℕ) (fits : FitsBits link at words bits) (first : IsPrimitive link.first) (second : IsPrimitive link.second)
-    (first_stays : is_retention link.first ≡ false) (second_stays : is_retention link.second ≡ false) (s : Spots) (first_is : first_places link s ≡ spots (first_of link at))
+    (alone : (is_retention link.first ≡ false) ⊎ (is_retention link.second ≡ false)) (pair : IsLinked link) (s : Spots) (first_is : first_places link s ≡ spots (first_of link at))
     (second_is : second_places link s ≡ spots (second_of link at)) where
   abbrev Good : List ℕ → Type 0
   Good ws = length ws ≡ words
@@ -166,12 +193,26 @@ module _ (link : Link) (at : Bits) (words bits : ℕ) (fits : FitsBits link at w
   abbrev t : ℕ → ℕ
   t = lane_of link at
 
-  cells_rest : (cs : List Bool) → linked_pause link s cs ≡ cs
-  unfolding linked_pause
-  cells_rest cs =
-      ap (λ (b : Bool). if b && states_hold link.first (first_places link s) cs then slice_set cs s.v link.first.after
-      else if is_retention link.second && states_hold link.second (second_places link s) cs then slice_set cs s.v link.second.after else cs) first_stays
-      ∙ ap (λ (b : Bool). if b && states_hold link.second (second_places link s) cs then slice_set cs s.v link.second.after else cs) second_stays
+  inside : (ws : List ℕ) → Good ws → at.v.word < length ws
+  inside ws good = subst (λ (n : ℕ). at.v.word < n) (sym good) fits.first.word
+
+  -- a pause that is taken again changes nothing, since one of the two alone has one
+  twice : (ws : List ℕ) → Good ws → linked_paused link at (linked_paused link at ws) ≡ linked_paused link at ws
+  twice ws good = go alone
+    where
+      as_first : (xs : List ℕ) → is_retention link.second ≡ false → linked_paused link at xs ≡ paused_words (first_of link at) xs
+      as_first xs stays = first_pauses link at xs stays pair.first_acts
+
+      as_second : (xs : List ℕ) → is_retention link.first ≡ false → linked_paused link at xs ≡ paused_words (second_of link at) xs
+      as_second xs stays = second_pauses link at xs stays pair.second_acts
+
+      go : (is_retention link.first ≡ false) ⊎ (is_retention link.second ≡ false) → linked_paused link at (linked_paused link at ws) ≡ linked_paused link at ws
+      go (inl stays) =
+          ap (linked_paused link at) (as_second ws stays) ∙ as_second (paused_words (second_of link at) ws) stays
+          ∙ paused_twice (second_of link at) ws second (inside ws good) ∙ sym (as_second ws stays)
+      go (inr stays) =
+          ap (linked_paused link at) (as_first ws stays) ∙ as_first (paused_words (first_of link at) ws) stays
+          ∙ paused_twice (first_of link at) ws first (inside ws good) ∙ sym (as_first ws stays)
 
   lawful : IsLawful (linked link at) Good
   lawful = record {
@@ -195,10 +236,15 @@ module _ (link : Link) (at : Bits) (words bits : ℕ) (fits : FitsBits link at w
         (length_if (matches (second_of link at) s o) (with_bit_in plain at.v link.second.after) plain words
         (length_bit plain at.v link.second.after ∙ length_plain s o ∙ good) (length_plain s o ∙ good));
     good_idled = λ s good. good;
-    good_paused = λ s good. good;
+    good_paused = λ s good.
+        length_if (is_retention link.first && bits_hold (first_of link at) s) (with_bit_in s at.v link.first.after)
+        (if is_retention link.second && bits_hold (second_of link at) s then with_bit_in s at.v link.second.after else s) words
+        (length_bit s at.v link.first.after ∙ good)
+        (length_if (is_retention link.second && bits_hold (second_of link at) s) (with_bit_in s at.v link.second.after) s words
+        (length_bit s at.v link.second.after ∙ good) good);
     idled_paused = λ s good. refl;
     paused_idled = λ s good. refl;
-    settled = λ s good. refl;
+    settled = λ s good. twice s good;
   }
 
   -- ---- as cells
@@ -294,8 +340,28 @@ module _ (link : Link) (at : Bits) (words bits : ℕ) (fits : FitsBits link at w
         word_differs bits (t v.address) v (linked_reply link at ws (word_op bits 0 v)) (lane_below link at words bits fits v.address) (λ e. bad.2 (shown ∙ e)),
       )
 
-  rests_as : (ws : List ℕ) (e : ℕ) → lane t ws ≡ cells_behind link s (lane t ws) (pausing e)
-  rests_as ws e = sym (cells_rest (lane t ws))
+  rests_as : (ws : List ℕ) (e : ℕ) → lane t (linked_paused link at ws) ≡ cells_behind link s (lane t ws) (pausing e)
+  unfolding linked_pause
+  rests_as ws e =
+      let cs = lane t ws in
+      let set : (b : Bool) → lane t (with_bit_in ws at.v b) ≡ slice_set cs s.v b =
+      λ b. lane_with_bit t ws at.v b (at_v link at) ∙ ap (λ x. slice_set cs x b) (sym victim_is) in
+      ap (λ b. lane t (if is_retention link.first && b then with_bit_in ws at.v link.first.after
+      else if is_retention link.second && bits_hold (second_of link at) ws then with_bit_in ws at.v link.second.after else ws)) (first_hold ws)
+      ∙ lane_if t (is_retention link.first && states_hold link.first (first_places link s) cs) (with_bit_in ws at.v link.first.after)
+      (if is_retention link.second && bits_hold (second_of link at) ws then with_bit_in ws at.v link.second.after else ws)
+      (slice_set cs s.v link.first.after)
+      (if is_retention link.second && states_hold link.second (second_places link s) cs then slice_set cs s.v link.second.after else cs)
+      (set link.first.after)
+      (ap (λ b. lane t (if is_retention link.second && b then with_bit_in ws at.v link.second.after else ws)) (second_hold ws)
+      ∙ lane_if t (is_retention link.second && states_hold link.second (second_places link s) cs) (with_bit_in ws at.v link.second.after) ws
+      (slice_set cs s.v link.second.after) cs (set link.second.after) refl)
+    where
+      first_hold : (ws : List ℕ) → bits_hold (first_of link at) ws ≡ states_hold link.first (first_places link s) (lane t ws)
+      first_hold ws = states_same (first_of link at) t ws through_first ∙ ap (λ p. states_hold link.first p (lane t ws)) first_spots
+
+      second_hold : (ws : List ℕ) → bits_hold (second_of link at) ws ≡ states_hold link.second (second_places link s) (lane t ws)
+      second_hold ws = states_same (second_of link at) t ws through_second ∙ ap (λ p. states_hold link.second p (lane t ws)) second_spots
 
 -- ---- the test
 
@@ -323,9 +389,8 @@ longer link p q n k more fits =
       aggressors = fits.aggressors;
     }
 
-chosen : (march : List MarchElement) (link : Link) (at : Bits) (words : ℕ) → IsMarch march → Detects march link → is_retention link.first ≡ false → is_retention link.second ≡ false
-    → 2 ≤ words → FitsLink link (spots (first_of link at)) (spots (second_of link at)) words → Chosen march link at words
-chosen march link at words is detected first_stays second_stays two fits =
+chosen : (march : List MarchElement) (link : Link) (at : Bits) (words : ℕ) → IsMarch march → Detects march link → 2 ≤ words → FitsLink link (spots (first_of link at)) (spots (second_of link at)) words → Chosen march link at words
+chosen march link at words is detected two fits =
     ⊎_elim
     (λ (few : words < 3).
     let exact : words ≡ 2 = omega (arith, two, few) in
@@ -340,7 +405,7 @@ chosen march link at words is detected first_stays second_stays two fits =
           let size_two : length cells ≡ 2 = size ∙ exact in
           subst (λ (n : ℕ). SomeDiffersBy (cells_behind link found.0) (is_wrong_there link found.0) cells (visits march (up march) n)) (sym exact)
           (fewer link found.0 (subst (λ (x : Places). FitsPlace link.first x 2) (sym are.first_is) small.first_fits)
-          (subst (λ (x : Places). FitsPlace link.second x 2) (sym are.second_is) small.second_fits) first_stays second_stays march is (up march) cells size_two
+          (subst (λ (x : Places). FitsPlace link.second x 2) (sym are.second_is) small.second_fits) march is (up march) cells size_two
           (subst (λ (n : ℕ). SomeDiffersBy (cells_behind link found.0) (is_wrong_there link found.0) (cells ++ false ∷ []) (visits march (up march) n)) (longer_by cells size_two)
           (detected 3 (omega arith) (up march) found.0 (cells ++ false ∷ []) (up_fits march) are.fits (longer_by cells size_two))));
     })
@@ -366,24 +431,24 @@ chosen march link at words is detected first_stays second_stays two fits =
     longer_by : (cells : List Bool) → length cells ≡ 2 → length (cells ++ false ∷ []) ≡ 3
     longer_by cells two = let all = length-append cells (false ∷ []) in omega (arith, all, two)
 
-pub linked_caught : (march : List MarchElement) (d : Description) → IsMarch march → IsMemory d → (link : Link) → IsLinked link → is_retention link.first ≡ false → is_retention link.second ≡ false
+pub linked_caught : (march : List MarchElement) (d : Description) → IsMarch march → IsMemory d → (link : Link) → IsLinked link → (is_retention link.first ≡ false) ⊎ (is_retention link.second ≡ false)
     → Detects march link → (at : Bits) → FitsBits link at d.words d.bits → AlwaysDiffers (linked link at) (λ s. length s ≡ d.words) march d
-linked_caught march d marches is link pair first_stays second_stays detected at places =
-    let found = chosen march link at d.words marches detected first_stays second_stays is.words_low (fits_link link at d.words d.bits places) in
-    let law = lawful link at d.words d.bits places pair.first pair.second first_stays second_stays found.s found.first_is found.second_is in
-    let G : List ℕ → Type 0 = Good link at d.words d.bits places pair.first pair.second first_stays second_stays found.s found.first_is found.second_is in
+linked_caught march d marches is link pair alone detected at places =
+    let found = chosen march link at d.words marches detected is.words_low (fits_link link at d.words d.bits places) in
+    let law = lawful link at d.words d.bits places pair.first pair.second alone pair found.s found.first_is found.second_is in
+    let G : List ℕ → Type 0 = Good link at d.words d.bits places pair.first pair.second alone pair found.s found.first_is found.second_is in
     record {
       lawful = law;
       differs =
           catches (linked link at) G law d.bits (cells_behind link found.s) (is_wrong_there link found.s) (lane (lane_of link at))
-          (λ s v g. visits_as link at d.words d.bits places pair.first pair.second first_stays second_stays found.s found.first_is found.second_is s v)
-          (λ s e g. rests_as link at d.words d.bits places pair.first pair.second first_stays second_stays found.s found.first_is found.second_is s e)
-          (λ s v g wrong. wrong_as link at d.words d.bits places pair.first pair.second first_stays second_stays found.s found.first_is found.second_is s v wrong) march d refl
+          (λ s v g. visits_as link at d.words d.bits places pair.first pair.second alone pair found.s found.first_is found.second_is s v)
+          (λ s e g. rests_as link at d.words d.bits places pair.first pair.second alone pair found.s found.first_is found.second_is s e)
+          (λ s v g wrong. wrong_as link at d.words d.bits places pair.first pair.second alone pair found.s found.first_is found.second_is s v wrong) march d refl
           (λ s g. found.caught (lane (lane_of link at) s) (length-lane (lane_of link at) s ∙ g)) is;
     }
 
 pub linked_wrong : (march : List MarchElement) (d : Description) → IsMarch march → IsMemory d → LinkedWrong march d
-linked_wrong march d marches is link pair first_stays second_stays detected m at has places =
+linked_wrong march d marches is link pair alone detected m at has places =
     let G : List ℕ → Type 0 = λ s. length s ≡ d.words in
     answers_wrong (linked link at) G (λ s. Unit {0}) march d
-    (from_any (linked link at) G march d (linked_caught march d marches is link pair first_stays second_stays detected at places)) is m has.words
+    (from_any (linked link at) G march d (linked_caught march d marches is link pair alone detected at places)) is m has.words

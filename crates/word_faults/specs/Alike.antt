@@ -25,13 +25,13 @@ DoesAs planted b words o = (b.after words o ≡ (words_with planted).after words
 abbrev pub PausesAs : Option Planted → Behaviour (List ℕ) → List ℕ → Type 0
 PausesAs planted b words = b.paused words ≡ (words_with planted).paused words
 
--- linked primitives do as an instance of the first where the operation is its act, and else as one of the second; in a pause as either
--- that isn't a retention primitive
+-- linked primitives do as an instance of the first where the operation is its act, and else as one of the second; in a pause as the one, where the
+-- other isn't a retention primitive
 pub record AreAsOne (link : Link) (at : Bits) : Type 0 where
   pub first : (words : List ℕ) (o : WordOp) → matches (first_of link at) words o ≡ true → DoesAs (Some (first_of link at)) (linked link at) words o
   pub second : (words : List ℕ) (o : WordOp) → matches (first_of link at) words o ≡ false → DoesAs (Some (second_of link at)) (linked link at) words o
-  pub first_pause : is_retention link.first ≡ false → (words : List ℕ) → PausesAs (Some (first_of link at)) (linked link at) words
-  pub second_pause : is_retention link.second ≡ false → (words : List ℕ) → PausesAs (Some (second_of link at)) (linked link at) words
+  pub first_pause : is_retention link.second ≡ false → (words : List ℕ) → PausesAs (Some (first_of link at)) (linked link at) words
+  pub second_pause : is_retention link.first ≡ false → (words : List ℕ) → PausesAs (Some (second_of link at)) (linked link at) words
 
 abbrev pub LinkedAsOne : Type 0
 LinkedAsOne = (link : Link) (at : Bits) → IsLinked link → AreAsOne link at

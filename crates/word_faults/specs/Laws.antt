@@ -1,5 +1,5 @@
 -- Trusted. What is said of memories with the linked faults, the faults of the address decoder and the dynamic primitives that a march detects.
-use Rattle.std.specs.Prelude.{◌≡◌, ◌<◌, ℕ, zero, suc, false, Option, Some, List, [], ◌∷◌, ◌++◌, is_some, if◌then◌else◌, slice_get}
+use Rattle.std.specs.Prelude.{◌≡◌, ◌<◌, ◌⊎◌, ℕ, zero, suc, false, Option, Some, List, [], ◌∷◌, ◌++◌, is_some, if◌then◌else◌, slice_get}
 use Rattle.fault_core.specs.Primitive.{is_retention}
 use Rattle.march_core.specs.March.{MarchElement}
 use Rattle.march_core.specs.Runs.{up}
@@ -19,10 +19,10 @@ use Rattle.word_faults.specs.Linked.{EachLinked}
 use Rattle.word_faults.specs.Decoders.{EachDecoder}
 use Rattle.word_faults.specs.Dynamic.{EachDynamic}
 
--- of each linked fault that the march detects, and that no pause sets off
+-- of each linked fault that the march detects, but of two primitives that a pause sets off: what a row of idle cycles does to these hangs on their number
 abbrev pub OfDetectedLinks : Claim → List MarchElement → Description → Type 0
 OfDetectedLinks Says march d =
-    (link : Link) → IsLinked link → is_retention link.first ≡ false → is_retention link.second ≡ false → Detects march link → EachLinked Says d link
+    (link : Link) → IsLinked link → (is_retention link.first ≡ false) ⊎ (is_retention link.second ≡ false) → Detects march link → EachLinked Says d link
 
 -- of each fault of the decoder that it detects
 abbrev pub OfDetectedDecoders : Claim → List MarchElement → Description → Type 0

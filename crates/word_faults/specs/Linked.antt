@@ -1,10 +1,11 @@
 -- Trusted. A memory of words with a linked fault at bits of different words.
-use Rattle.std.specs.Prelude.{◌≡◌, ◌≢◌, ℕ, false, IsSome, if◌then◌else◌, Option, Some, None, List}
+use Rattle.std.specs.Prelude.{◌≡◌, ◌≢◌, ℕ, false, IsSome, ◌&&◌, if◌then◌else◌, Option, Some, None, List}
+use Rattle.fault_core.specs.Primitive.{is_retention}
 use Rattle.memory_desc.specs.Descriptions.{Description}
 use Rattle.word_march.specs.declared.operations.WordOp.{WordOp}
 use Rattle.word_device.specs.declared.device.BitPlace.{BitPlace}
 use Rattle.word_device.specs.declared.device.Planted.{Planted}
-use Rattle.word_device.specs.Chips.{FitsMemory, with_bit_in, matches, plain_words, plain_reply, answered}
+use Rattle.word_device.specs.Chips.{FitsMemory, with_bit_in, bits_hold, matches, plain_words, plain_reply, answered}
 use Rattle.word_device.specs.Memories.{Behaviour, Memory}
 use Rattle.word_device.specs.Answers.{HasWords, Claim}
 use Rattle.linked_faults.specs.declared.link.Link.{Link}
@@ -46,9 +47,21 @@ linked_reply link at words o =
     else if matches (second_of link at) words o then answered link.second.answer at.v (plain_reply words o)
     else plain_reply words o
 
--- an idle cycle changes nothing; nor does a pause, where neither is a retention primitive
+-- a pause: the effect of the primitive that loses its state over it
+abbrev pub linked_paused : Link → Bits → List ℕ → List ℕ
+linked_paused link at words =
+    if is_retention link.first && bits_hold (first_of link at) words then with_bit_in words at.v link.first.after
+    else if is_retention link.second && bits_hold (second_of link at) words then with_bit_in words at.v link.second.after
+    else words
+
+-- an idle cycle that ends no pause changes nothing
 abbrev pub linked : Link → Bits → Behaviour (List ℕ)
-linked link at = record { after = linked_words link at; reply = linked_reply link at; idled = λ words. words; paused = λ words. words }
+linked link at = record {
+  after = linked_words link at;
+  reply = linked_reply link at;
+  idled = λ words. words;
+  paused = linked_paused link at;
+}
 
 -- said of each memory with this fault, at any bits that fit
 abbrev pub EachLinked : Claim → Description → Link → Type 0

@@ -63,7 +63,7 @@ def access_lines(target: Target, period: float, share: float) -> list[str]:
     is read."""
     state = ["done", "seen", *(bracketed(port.name, port.width) for port in target.result())]
     state.append(bracketed("fail", target.count))
-    loose = ["start", *([bracketed("ignore", target.count)] if target.is_chip else [])]
+    loose = ["start", *(bracketed(port.name, port.width) for port in target.choice())]
     lines = [
         "# start is of any clock and goes through two registers; it has no hold to keep, and less than a period to go",
         f"set_input_delay 0 -clock clk {port_list(loose)}",

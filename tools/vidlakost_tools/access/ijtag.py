@@ -6,11 +6,16 @@ import dataclasses
 from typing import Iterator, Sequence
 
 from vidlakost_tools.access import log_window, network
+from vidlakost_tools.access.tap_run import time_told, waiting
 from vidlakost_tools.access.target import Target
 from vidlakost_tools.access.tap import parts
 from vidlakost_tools.text import beside, template
 
 CLIENT = ("si", "so", "sel", "capture", "shift", "update", "reset_n", "tck")
+# the parts that hold what was written, of which nothing else is captured
+HELD = ("ignore", "entry")
+# how many megahertz TCK has at most, as BSDL tells
+MOST_TCK = 20.0
 IGNORED = "a bit for each memory whose failures are not kept; it stays as it is while start is 1"
 IGNORED_OF_EACH = "a bit for each memory of whose first failure nothing is told; behind done it may change"
 PORTS = beside(__file__, "ijtag_ports.sv")
@@ -40,9 +45,9 @@ class Field:
 
 def of_test(target: Target) -> list[Field]:
     """The register of the self-test; of `start` it is captured whether it has arrived."""
-    about = {"ignore": IGNORED_OF_EACH if target.each else IGNORED}
+    about = {"ignore": IGNORED_OF_EACH if target.shows_each else IGNORED}
     return [
-        Field(one.name, one.low, one.width, one.writable, one.name != "ignore", about.get(one.name, ""))
+        Field(one.name, one.low, one.width, one.writable, one.name not in HELD, about.get(one.name, ""))
         for one in parts(target)
     ]
 
@@ -136,13 +141,18 @@ def icl(target: Target) -> str:
 
 
 PDL = template(__file__, "ijtag_pdl.pdl")
-PDL_EACH = beside(__file__, "ijtag_pdl_each.pdl")
+PDL_EACH = template(__file__, "ijtag_pdl_each.pdl")
+PDL_ENTRY = template(__file__, "ijtag_pdl_entry.pdl")
 PDL_LOG = template(__file__, "ijtag_pdl_log.sv")
 
 
-def pdl(target: Target) -> str:
+def pdl(target: Target, mhz: float | None = None) -> str:
     """The procedures of both registers."""
     unit = "  iRead unit;\n" if target.is_chip else ""
     log = PDL_LOG.substitute(name=target.name, unit=unit) if target.depth is not None else ""
-    each = PDL_EACH if target.each else ""
-    return PDL.substitute(name=target.name, cycles=target.length, turns=target.length + 16) + each + log
+    turns = waiting(target.turning, mhz, MOST_TCK) if target.turning else 0
+    wait = f"  iRunLoop {turns} -tck;\n" if turns else ""
+    each = PDL_EACH.substitute(wait=wait) if target.shows_each else ""
+    each += PDL_ENTRY.substitute(wait=wait) if target.has_entries else ""
+    turns, time = waiting(target.length, mhz, MOST_TCK), time_told(target, mhz)
+    return PDL.substitute(name=target.name, time=time, turns=turns) + each + log

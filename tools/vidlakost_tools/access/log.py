@@ -122,7 +122,9 @@ MOST = 1 << 20
 LOG_BYTES = 1 << 26
 # the start of an entry is short, so that a long line is looked at once
 OF_UNIT = re.compile(r"\bunit ([0-9]{1,9}) (?:cycle |more\s*$)")
-ENTRY = re.compile(r"\bcycle ([0-9]{1,10}) expected ([0-9a-fA-F]{1,16}) returned ([0-9a-fA-F]{1,16})\b")
+ENTRY = re.compile(r"\bcycle ([0-9]{1,10}) expected ([0-9a-fA-F]{1,128}) returned ([0-9a-fA-F]{1,128})\b")
+# behind an entry this says that it is the last one that was kept
+MORE = re.compile(r"\bmore\b")
 
 
 @dataclasses.dataclass
@@ -177,11 +179,12 @@ class Heard:
             raise ToolError(f"this is the log of a chip: give its chip file, with --unit {whose[1]}")
         if whose and int(whose[1]) != self.unit:
             return
+        is_last = match is not None and MORE.search(line, match.end()) is not None
         if match:
             self.take_entry(entry_of(match, line, self.memory), line.startswith("fail "))
         own = "more" if self.unit is None else f"unit {self.unit} more"
-        self.is_over = self.is_over or line.strip() == own
-        self.more = self.more or line.strip() in ("more", own)
+        self.is_over = self.is_over or is_last or line.strip() == own
+        self.more = self.more or is_last or line.strip() in ("more", own)
 
     def take_entry(self, entry: Entry, is_first_failure: bool) -> None:
         entries = self.entries
@@ -200,8 +203,9 @@ class Heard:
 
 def read_log(path: str, memory: Memory, unit: int | None = None) -> tuple[list[Entry], bool]:
     """The entries of a log (for a chip, those of a unit), and whether more came: a line `more` says so for all units
-    and `unit U more` for one. A line has `cycle C expected X returned W`; other lines are skipped. Entries come in the
-    order of their cycles, and the last one may be cut off if a run was ended."""
+    and `unit U more` for one, and so does an entry with `more` behind it. A line has `cycle C expected X returned W`;
+    other lines are skipped. Entries come in the order of their cycles, and the last one may be cut off if a run was
+    ended."""
     heard = Heard(memory, unit)
     for count, line in enumerate(stream(path, LOG_BYTES), 1):
         try:

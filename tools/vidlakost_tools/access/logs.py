@@ -2,13 +2,26 @@
 module of a bus if that has the ports of the memories, and in NAME_access if the memories are inside it."""
 from __future__ import annotations
 
+from typing import Any
+
 from vidlakost_tools.access.target import Port, Target, extended, zero
 from vidlakost_tools.text import template
+from vidlakost_tools.tool import ToolError, number_of
 from vidlakost_tools.verilog.syntax import ranged
 
 # the bits of the number of an entry in a bus
 PICK_BITS = 6
 PICK = f"  wire [{PICK_BITS - 1}:0] log_pick;"
+
+
+def log_depth(options: dict[str, Any]) -> int | None:
+    """How many wrong reads a call has a log keep, if there is one."""
+    if "--log" not in options:
+        return None
+    depth = number_of(options["--log"], "--log", 1)
+    if depth > 64:
+        raise ToolError(f"--log is 1 to 64, and not {depth}")
+    return depth
 
 
 def depth_of(target: Target) -> int:

@@ -1,13 +1,12 @@
 """What describes the TAP to a tester, in the forms of the standards: a run in SVF, the TAP in BSDL."""
 from __future__ import annotations
 
-import math
 import re
 
 from vidlakost_tools.access import log_window, network
 from vidlakost_tools.access.target import Target
 from vidlakost_tools.access.tap import length
-from vidlakost_tools.access.tap_run import TURNS, Step, Wait, steps
+from vidlakost_tools.access.tap_run import TURNS, Step, Wait, microseconds, steps, time_told
 from vidlakost_tools.text import template
 
 SVF = template(__file__, "standards_svf.svf")
@@ -18,9 +17,8 @@ def lines_of(step: Step, cycles: int, mhz: float | None) -> list[str]:
     if isinstance(step, Wait):
         if mhz is None or not step.is_test:
             return [f"RUNTEST IDLE {step.turns} TCK;"]
-        # whole microseconds, since a player may count no others, and one more; then the state has to come over to TCK
-        seconds = (math.ceil((cycles + TURNS) / mhz) + 1) / 1e6
-        return [f"RUNTEST IDLE {seconds:.9E} SEC;", f"RUNTEST IDLE {TURNS} TCK;"]
+        # then the state has to come over to TCK
+        return [f"RUNTEST IDLE {microseconds(cycles, mhz) / 1e6:.9E} SEC;", f"RUNTEST IDLE {TURNS} TCK;"]
     digits = (step.count + 3) // 4
     compared = f" TDO ({step.wanted:0{digits}X}) MASK ({step.mask:0{digits}X})" if step.mask else ""
     return [f"S{'I' if step.is_instruction else 'D'}R {step.count} TDI ({step.word:0{digits}X}){compared};"]
@@ -28,9 +26,8 @@ def lines_of(step: Step, cycles: int, mhz: float | None) -> list[str]:
 
 def svf(target: Target, mhz: float | None) -> str:
     """A run that compares the state and the bits of `fail`."""
-    clock = "at least as fast as TCK" if mhz is None else f"of at least {mhz:g} MHz"
     sib = ", with --sib" if target.has_sib else ""
-    made = SVF.substitute(name=target.name, sib=sib, cycles=target.length, clock=clock)
+    made = SVF.substitute(name=target.name, sib=sib, time=time_told(target, mhz))
     return made + "".join(f"{line}\n" for step in steps(target) for line in lines_of(step, target.length, mhz))
 
 

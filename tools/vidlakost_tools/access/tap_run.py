@@ -3,6 +3,7 @@ and WGL have it in their forms."""
 from __future__ import annotations
 
 import dataclasses
+import math
 from typing import Iterator, Union
 
 from vidlakost_tools.access import network
@@ -12,6 +13,8 @@ from vidlakost_tools.access.tap import IR_BITS, length, parts
 IDCODE, BIST = 2, 8
 # how long a start or a stop takes to arrive
 TURNS = 16
+# how many megahertz TCK has in STIL and WGL
+TCK = 10.0
 COMPARED = ("start", "done", "fail", "seen", "failing")
 
 
@@ -42,7 +45,30 @@ def instruct(code: int) -> Scan:
     return Scan(IR_BITS, code, is_instruction=True)
 
 
-def steps(target: Target) -> Iterator[Step]:
+def microseconds(cycles: int, mhz: float) -> int:
+    """How long so many cycles take, and a start: whole microseconds, since a player may count no others, and one
+    more."""
+    return math.ceil((cycles + TURNS) / mhz) + 1
+
+
+def waiting(cycles: int, mhz: float | None, tck: float) -> int:
+    """The cycles of TCK, of so many megahertz, in which so many cycles pass. Without `mhz` no clock is slower than
+    TCK."""
+    if mhz is None:
+        return cycles + TURNS
+    return math.ceil(microseconds(cycles, mhz) * tck) + TURNS
+
+
+def time_told(target: Target, mhz: float | None) -> str:
+    """What a file says of its wait."""
+    slowest = "TCK" if mhz is None else f"{mhz:g} MHz"
+    if target.turning:
+        told = f"The test and the reading of a first failure take at most {target.length} cycles"
+        return f"{told}; no clock is slower than {slowest}"
+    return f"The test takes {target.length} cycles of clk, which is no slower than {slowest}"
+
+
+def steps(target: Target, mhz: float | None = None) -> Iterator[Step]:
     """The run, from Run-Test/Idle after a reset."""
     size = length(target)
     count, bits = network.whole(target, size), len(network.segments(target))
@@ -56,7 +82,7 @@ def steps(target: Target) -> Iterator[Step]:
     yield Scan(count, stop)
     yield Wait(TURNS)
     yield Scan(count, start)
-    yield Wait(target.length + TURNS, is_test=True)
+    yield Wait(waiting(target.length, mhz, TCK), is_test=True)
     yield Scan(count, start, network.opened(target, size, 3), mask | (1 << count) - (1 << size))
     yield Scan(count, stop)
     yield Wait(TURNS)
@@ -85,9 +111,9 @@ def of_scan(scan: Scan) -> Iterator[Vector]:
     yield from (Vector(int(tms), 0) for tms in "10")
 
 
-def vectors(target: Target) -> Iterator[Vector]:
+def vectors(target: Target, mhz: float | None = None) -> Iterator[Vector]:
     """The run after a reset."""
-    yield from of_steps(steps(target))
+    yield from of_steps(steps(target, mhz))
 
 
 def of_steps(given: Iterator[Step]) -> Iterator[Vector]:

@@ -73,6 +73,16 @@ class Target:
     each: bool = False
 
     @property
+    def shows_each(self) -> bool:
+        """Whether each change of ignore behind done shows the first failure of another memory."""
+        return self.each
+
+    @property
+    def turning(self) -> int:
+        """How many cycles it takes at most from such a change until that failure is shown."""
+        return 0
+
+    @property
     def word(self) -> int:
         """The bits of the widest word."""
         return max(unit.memory.bits for unit in self.units)
@@ -103,6 +113,16 @@ class Target:
         return [Port("output", "cycle", 32), *words, *unit]
 
     # ---- its logs
+
+    def first_reads(self) -> dict[int, tuple[int, int]]:
+        """The cycle and the expected word of the first read of each memory, where a testbench makes a bit wrong in each
+        word that it answers."""
+        return {}
+
+    @property
+    def is_inside(self) -> bool:
+        """Whether the memories are inside NAME_access."""
+        return False
 
     @property
     def has_inner_log(self) -> bool:
@@ -183,6 +203,11 @@ class Target:
             f"//   +planted +address=A +bit=B +value=V{which}   a bit of a word is stuck at V (0 where nothing is said"
             " of a number)"
         )
+
+    @property
+    def has_entries(self) -> bool:
+        """Whether behind done any wrong read of a memory is shown that it has kept."""
+        return False
 
     def choice(self) -> list[Port]:
         """Of a chip the units whose failures are not kept."""

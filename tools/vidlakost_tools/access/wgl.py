@@ -2,7 +2,7 @@
 from __future__ import annotations
 
 from vidlakost_tools.access.target import Target
-from vidlakost_tools.access.tap_run import Vector, vectors
+from vidlakost_tools.access.tap_run import Vector, time_told, vectors
 from vidlakost_tools.text import template
 
 HEAD = template(__file__, "wgl_head.sv")
@@ -14,7 +14,7 @@ def text_of(vector: Vector) -> str:
     return f"    {one}" if vector.times == 1 else f"    repeat {vector.times} {one}"
 
 
-def wgl(target: Target) -> str:
+def wgl(target: Target, mhz: float | None = None) -> str:
     """The run as a text."""
-    head = HEAD.substitute(name=target.name, cycles=target.length)
-    return "\n".join([head.rstrip("\n"), *map(text_of, vectors(target)), "  end", "end", ""])
+    head = HEAD.substitute(name=target.name, time=time_told(target, mhz))
+    return "\n".join([head.rstrip("\n"), *map(text_of, vectors(target, mhz)), "  end", "end", ""])

@@ -6,42 +6,82 @@ import dataclasses
 import os
 import pathlib
 import re
+import secrets
 import shutil
-import tempfile
 from typing import Callable
 
 from vidlakost_tools import bounded
-from vidlakost_tools.audit.pins import INPUTS, Pins
+from vidlakost_tools.audit.pins import Pins
+from vidlakost_tools.audit.stretches import Whole
 from vidlakost_tools.text import shown, template
 from vidlakost_tools.texts.memory import Memory
 from vidlakost_tools.tool import ToolError
 from vidlakost_tools.verilog.front_end import Plain
 from vidlakost_tools.verilog.source_texts import blanked, with_included, with_members
 from vidlakost_tools.verilog.syntax import ranged
-from vidlakost_tools.verilog.vhdl import is_vhdl
 
 CYCLES = 2000
 # in the first half of them the registers have other numbers after so many
 LENGTH = 20
-SECONDS = 120
+SECONDS = 600
+# from so many seeds it is clocked
+SEEDS = 2
 # a signal in a hierarchy, as a simulator names it too
 SIGNAL = re.compile(r"[A-Za-z_][\w$]*(\[\d+\])?(\.[A-Za-z_][\w$]*(\[\d+\])?)*")
 # calls by which a source that is clocked would write files, or run a program
 WRITES = re.compile(r"\$(?:f?open|fwrite|fdisplay|fstrobe|fmonitor|fflush|dump\w+|writemem\w*|system|swrite)\b")
-BENCH = template(__file__, "beside_icarus_bench.sv")
+BENCH, ANY_BENCH = template(__file__, "beside_icarus_bench.sv"), template(__file__, "beside_any_bench.sv")
+COUNTS = {"we": "made_en === 1", "addr": "made_en === 1", "wdata": "made_en === 1 && made_we === 1"}
+# what each input of a module is in a cycle, where nothing is known of it: it rests, it is all 0 or all 1, or random
+DRAW = """        if (($random(seed) & 31) == 0) odds_{name} = $random(seed) & 7;
+        if (odds_{name} > 3) in_{name} = {{$random(seed), $random(seed)}};
+        else if (odds_{name} > 1) in_{name} = odds_{name} == 2 ? 0 : -1;"""
+
+
+class Differs(ToolError):
+    """A simulator reads the sources otherwise than Yosys: the port, the cycle, and what it is by either."""
+
+    def __init__(self, simulator: str, port: str, cycle: int, got: str, due: str, where: str = ""):
+        self.simulator, self.port, self.cycle, self.got, self.due = simulator, port, cycle, got, due
+        self.told = f"{port} is {got} in cycle {cycle} by {simulator}, and {due} by Yosys"
+        self.told = where or self.told
+        histories = "" if where else ", from random registers and with random resets"
+        super().__init__(f"the sources mean two things{histories}: {self.told}", 1)
+
+
+class Unclocked(ToolError):
+    """A simulator can't clock the sources, and why."""
+
+
+@dataclasses.dataclass
+class Seen:
+    """What a simulator saw of the sources, which were equal: its name, the cycles, the first in which a port was
+    unknown to it in any run, and the port with the cycle in which that counts, if it does."""
+
+    simulator: str
+    cycles: int
+    unknown: int = -1
+    doubt: tuple[str, int] | None = None
+
+    def line(self) -> str:
+        late = f"; from cycle {self.unknown} on a port is unknown to {self.simulator} in some of them"
+        return f"beside {self.simulator}: equal in {self.cycles:,} cycles{late if self.unknown >= 0 else ''}"
 
 
 @dataclasses.dataclass
 class Beside:
-    """What is clocked: the files of the sources, the module made of them, its pins and the memory, and the models of
-    known cells."""
+    """What is clocked: the files of the sources, the module made of them, its pins and the memory, the models of known
+    cells, and the test, where it is known; without a memory, a module of any ports."""
 
     files: list[str]
     plain: Plain
     pins: Pins | None
-    memory: Memory
+    memory: Memory | None
     cells: str = ""
     cycles: int = CYCLES
+    test: Whole | None = None
+    seed: int = 1
+    nonce: str = dataclasses.field(default_factory=lambda: f"s{secrets.token_hex(8)}")
 
     def known(self) -> str:
         """The models of known cells. Icarus reads no number that a port has where nothing is connected; x it is
@@ -52,11 +92,16 @@ class Beside:
         """The pins of the sources' top."""
         if self.pins is None:
             clock = self.plain.clock or "clk"
-            names = [(name, clock if name == "clk" else name) for _, name, _ in self.plain.ports]
-            return ", ".join(f".{pin}({port if port in INPUTS else f'dut_{port}'})" for port, pin in names)
-        told = [f".{pin.name}({'~' if pin.is_low else ''}{port})" for port, pin in self.pins.inputs()]
+            names = [(way, name, clock if name == "clk" else name) for way, name, _ in self.plain.ports]
+            own = [self.input(port) if way == "input" and port != "clk" else f"dut_{port}" for way, port, _ in names]
+            return ", ".join(f".{pin}({port})" for port, (_, _, pin) in zip(own, names))
+        told = [f".{pin.name}({'~' if pin.is_low else ''}dut_{port})" for port, pin in self.pins.inputs()]
         told += [f".{pin.name}({'low' if pin.is_low else 'dut'}_{port})" for port, pin in self.pins.outputs()]
         return ", ".join(told + [f".{name}({value})" for name, value in self.pins.ties.items()])
+
+    def input(self, port: str, side: str = "dut_") -> str:
+        """What comes to a port of either side; of a module of any ports it has a name of its own in the bench."""
+        return f"in_{port}" if self.memory is None else f"{side}{port}"
 
     def wires(self) -> list[str]:
         lows = {port for port, pin in self.pins.outputs() if pin.is_low} if self.pins else set()
@@ -101,48 +146,91 @@ class Beside:
         }
         return bits <= set().union(*same.values())
 
-    def bench(self, same: dict[str, set[str]]) -> str:
-        outputs = [port for way, port, _ in self.plain.ports if way == "output"]
-        return BENCH.substitute(
-            word=ranged(self.memory.bits),
-            wires="\n".join(self.wires()),
-            top=self.plain.top,
-            pins=self.dut_pins(),
-            ports=", ".join(
-                f".{name}({name if way == 'input' else f'made_{name}'})" for way, name, _ in self.plain.ports
+    def outputs(self) -> list[tuple[str, int]]:
+        return [(port, width) for way, port, width in self.plain.ports if way == "output"]
+
+    def common(self, same: dict[str, set[str]]) -> dict[str, object]:
+        """What both benches have."""
+        return {
+            "name": f"vidlakost_{self.nonce}",
+            "nonce": self.nonce,
+            "wires": "\n".join(self.wires()),
+            "top": self.plain.top,
+            "pins": self.dut_pins(),
+            "ports": ", ".join(
+                f".{name}({name if name == 'clk' else self.input(name, '') if way == 'input' else f'made_{name}'})"
+                for way, name, _ in self.plain.ports
             ),
+            "registers": "\n".join(
+                f"    made.{one.name} = {{$random(seed), $random(seed)}};" for one in self.plain.registers
+            ),
+            "same": "\n".join(same),
+            "cycles": self.cycles,
+            "starts": self.cycles // 2 if self.is_whole(same) else 0,
+            "each": LENGTH,
+            "seeds": SEEDS,
+            "seed": self.seed,
+        }
+
+    def bench_of_any(self, same: dict[str, set[str]]) -> str:
+        """A bench of a module with any ports."""
+        inputs = [(port, width) for way, port, width in self.plain.ports if way == "input" and port != "clk"]
+        declared = [f"  reg {ranged(width)}in_{port} = 0;\n  reg [2:0] odds_{port} = 7;" for port, width in inputs]
+        compares = [
+            f"        if (dut_{port} !== made_{port}) compare(dut_{port}, made_{port}, {at});"
+            for at, (port, _) in enumerate(self.outputs())
+        ]
+        return ANY_BENCH.substitute(
+            self.common(same),
+            inputs="\n".join(declared),
+            draws="\n".join(DRAW.format(name=port) for port, _ in inputs),
+            compares="\n".join(compares),
+        )
+
+    def bench(self, same: dict[str, set[str]]) -> str:
+        if self.memory is None:
+            return self.bench_of_any(same)
+        registers, whole = self.plain.registers, self.test
+        compares = [
+            f"        if (dut_{port} !== made_{port}) compare(dut_{port}, made_{port}, {COUNTS.get(port, 1)}, {at});"
+            for at, (port, _) in enumerate(self.outputs())
+        ]
+        places = whole.starts if whole else []
+        stretches = [f"    starts[{at}] = {place};" for at, place in enumerate([*places, 1 << 30])]
+        return BENCH.substitute(
+            self.common(same),
+            word=ranged(self.memory.bits),
+            bits=self.memory.bits,
+            draw="{$random(seed), $random(seed)}" if self.memory.bits > 32 else "$random(seed)",
             last=2**self.memory.width - 1,
             latency=self.memory.latency,
-            registers="\n".join(f"    made.{one.name} = {{$urandom, $urandom}};" for one in self.plain.registers),
-            same="\n".join(same),
-            cycles=self.cycles,
-            starts=self.cycles // 2 if self.is_whole(same) else 0,
-            length=LENGTH,
-            compares="\n".join(f'      compare(dut_{port}, made_{port}, "{port}");' for port in outputs),
+            then="\n".join(f"  reg {ranged(one.width)}then_{one.name};" for one in registers),
+            keep="\n".join(f"      then_{one.name} = made.{one.name};" for one in registers),
+            restore="\n".join(f"      made.{one.name} = then_{one.name};" for one in registers),
+            compares="\n".join(compares),
+            stretches=len(places),
+            stretch="\n".join(stretches),
+            is_long=int(bool(places) and self.is_whole(same)),
+            span=whole.span if whole else 0,
+            length=whole.length if whole else 0,
+            histories=whole.histories if whole else 0,
+            first=whole.first if whole and self.is_whole(same) else 0,
         )
 
 
-def refuse_sources(files: list[str], libraries: list[str]) -> None:
-    if shutil.which("iverilog") is None or shutil.which("vvp") is None:
-        raise ToolError("--simulate needs Icarus (iverilog and vvp) on the PATH")
-    if libraries or any(map(is_vhdl, files)):
-        raise ToolError("--simulate clocks sources in Verilog; of a library's cells it needs those in Verilog too")
+def refuse_sources(files: list[str]) -> None:
+    """Clocks nothing that would reach out of a simulation."""
     for file, source in with_included(files):
         found = next((match for text in blanked(source) for match in WRITES.finditer(text)), None)
         if found:
-            raise ToolError(
-                (
-                    f"{shown(file)}:{source.count(chr(10), 0, found.start()) + 1}: {found[0]} would reach out"
-                    " of the simulation"
-                ),
-                1,
-            )
+            line = source.count(chr(10), 0, found.start()) + 1
+            raise Unclocked(f"{shown(file)}:{line}: {found[0]} would reach out of the simulation", 1)
 
 
 def how_far(out: pathlib.Path) -> str:
     """The cycle at which a run is."""
     found = re.findall(r"^at (\d+)$", out.read_text(encoding="utf-8", errors="replace"), re.MULTILINE)
-    return f"cycle {found[-1]} of {CYCLES}" if found else ""
+    return f"cycle {int(found[-1]):,}" if found else ""
 
 
 def call(words: list[str], folder: pathlib.Path) -> tuple[int, str]:
@@ -162,7 +250,7 @@ def call(words: list[str], folder: pathlib.Path) -> tuple[int, str]:
         )
     except bounded.Stopped as error:
         why = "a block that wakes itself for ever looks like this"
-        raise ToolError(f"{error}; {why}", 1) from error
+        raise Unclocked(f"{str(error).splitlines()[0]}; {why}", 1) from error
     return done.status, bounded.without(folder, done.said)
 
 
@@ -196,13 +284,15 @@ def compiled(
             break
         same = known(same, unknown)
     if status:
-        raise ToolError(f"Icarus refuses the sources: {(said.splitlines() or ['no reason is given'])[0]}", 1)
+        raise Unclocked(f"Icarus refuses the sources: {(said.splitlines() or ['no reason is given'])[0]}", 1)
 
 
-def beside(asked: Beside) -> str:
-    """What is found of the sources beside the made module; a port that differs is refused."""
-    with tempfile.TemporaryDirectory() as name:
-        folder = pathlib.Path(name)
+def beside(asked: Beside) -> Seen:
+    """What is seen of the sources beside the made module; a port that differs is refused."""
+    if shutil.which("iverilog") is None or shutil.which("vvp") is None:
+        raise Unclocked("Icarus (iverilog and vvp) is not on the PATH", 1)
+    refuse_sources(asked.files)
+    with bounded.folder_of_its_own() as folder:
         made = dataclasses.replace(asked.plain, name="vidlakost_made")
         (folder / "made.v").write_text(made.text(), encoding="utf-8")
         (folder / "cells.v").write_text(asked.known(), encoding="utf-8")
@@ -212,23 +302,28 @@ def beside(asked: Beside) -> str:
             f"-I{place}"
             for place in dict.fromkeys([os.getcwd(), *(os.path.dirname(os.path.abspath(file)) for file in asked.files)])
         ]
-        words = ["iverilog", "-g2012", "-s", "vidlakost_beside", *places, "-o", str(folder / "run")]
+        words = ["iverilog", "-g2012", "-s", f"vidlakost_{asked.nonce}", *places, "-o", str(folder / "run")]
         words += [str(folder / part) for part in ("bench.v", "made.v", "cells.v")] + files
         compiled(words, folder, asked.bench, asked.same())
         _, said = call(["vvp", "-n", str(folder / "run")], folder)
-    return found_in(said, asked.cycles)
+    return found_in(said, asked, "Icarus")
 
 
-def found_in(said: str, cycles: int) -> str:
-    """What the last line of the run says."""
-    last = (said.strip().splitlines() or [""])[-1]
-    differs = re.search(r"^\s*differs (\w+) (\d+) (\S) (\S)$", said, re.MULTILINE)
-    if differs:
-        port, cycle, one, other = differs.groups()
-        why = f"{port} is {one} in cycle {cycle} by Icarus, and {other} by Yosys"
-        raise ToolError(f"the sources mean two things, from random registers and with random resets: {why}", 1)
-    equal = re.fullmatch(r"equal (-?\d+)", last)
-    if equal is None:
-        raise ToolError(f"the run in Icarus did not end: {shown(last)}", 1)
-    open_at = "" if equal[1] == "-1" else f"; from cycle {equal[1]} on a port is unknown to Icarus in some of them"
-    return f"beside Icarus: equal in {cycles} cycles{open_at}"
+def found_in(said: str, asked: Beside, simulator: str) -> Seen:
+    """What the run says in the lines that it alone can say."""
+    lines = [line.split()[1:] for line in said.splitlines() if line.startswith(f"{asked.nonce} ")]
+    if not lines:
+        last = (said.strip().splitlines() or [""])[-1]
+        raise Unclocked(f"the run in {simulator} did not end: {shown(last)}", 1)
+    outputs = asked.outputs()
+    if lines[0][0] == "differs":
+        _, number, cycle, got, due = lines[0]
+        port, width = outputs[int(number)]
+        raise Differs(simulator, port, int(cycle), hexadecimal(got, width), hexadecimal(due, width))
+    unknown, doubt, doubted, cycles = map(int, lines[0][1:])
+    return Seen(simulator, cycles, unknown, (outputs[doubted][0], doubt) if doubt >= 0 else None)
+
+
+def hexadecimal(digits: str, width: int) -> str:
+    """A number of so many bits, of the digits of 64."""
+    return digits[-((width + 3) // 4) :]

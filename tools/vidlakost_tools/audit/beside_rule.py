@@ -5,11 +5,10 @@ from __future__ import annotations
 
 import dataclasses
 import os
-import pathlib
 import re
-import tempfile
 from typing import Iterable
 
+from vidlakost_tools import bounded
 from vidlakost_tools.audit.beside_icarus import Beside, call, compiled
 from vidlakost_tools.text import template
 from vidlakost_tools.verilog import port_judge
@@ -35,6 +34,7 @@ class Clocked:
     seed: int = 1
 
     def bench(self, same: Iterable[str]) -> str:
+        assert self.beside.memory is not None
         plain, bits = self.beside.plain, self.beside.memory.bits
         draws = [f"      n_{one.name} = {{$random(seed), $random(seed)}};" for one in plain.registers]
         return BENCH.substitute(
@@ -51,8 +51,8 @@ class Clocked:
 
 def told(asked: Clocked) -> str:
     """What the run says: `right in ..` or `wrong in cycle ..`."""
-    with tempfile.TemporaryDirectory() as name:
-        folder = pathlib.Path(name)
+    assert asked.beside.memory is not None
+    with bounded.folder_of_its_own() as folder:
         judge = port_judge.checker(asked.beside.memory, asked.cycles, asked.beside.plain.top, False, asked.beside.pins)
         texts = {"judge.v": judge, "cells.v": asked.beside.known()}
         for part, text in texts.items():

@@ -11,15 +11,15 @@ import sys
 import tempfile
 from typing import Any
 
-from vidlakost_tools.audit import beside_icarus, fail_lanes as lanes, fail_search, late_end, late_start, why_unknown
+from vidlakost_tools.audit import fail_lanes as lanes, fail_search, late_end, late_start, why_unknown
 from vidlakost_tools.audit.gates import Machine, gates_of
-from vidlakost_tools.audit.pins import Pin, Pins, ports_of, proposed, told_ports
+from vidlakost_tools.audit.pins import Pins, ports_of, proposed, told_ports
 from vidlakost_tools.program import ROOT, run
 from vidlakost_tools.text import INPUT_BYTES, visible
 from vidlakost_tools.texts.march import Element
 from vidlakost_tools.texts.memory import Memory
 from vidlakost_tools.tool import Refused, ToolError, refuse_inputs, tell, telling
-from vidlakost_tools.verilog import known_cells, open_run, source_texts
+from vidlakost_tools.verilog import open_run, source_texts
 from vidlakost_tools.verilog.front_end import ALL_GATES, Plain, plain_of
 
 FEWER_GATES = "a source that is not yet a netlist gives a far shorter one"
@@ -42,11 +42,7 @@ class Audit:
 
     def full_pins(self, plain: Plain) -> Pins | None:
         """The pins, with each port that has no line at the pin of its own name."""
-        if self.pins is None:
-            return None
-        named = {port for port, _ in self.pins.pins}
-        own = [(port, Pin(port, False)) for _, port, _ in plain.ports if port not in named]
-        return dataclasses.replace(self.pins, pins=[*self.pins.pins, *own])
+        return None if self.pins is None else self.pins.with_own(port for _, port, _ in plain.ports)
 
     def module(self, tries: tuple[str, ...] | None = None) -> Plain:
         return plain_of(self.files, self.options, self.pins, *([tries] if tries else []))
@@ -72,10 +68,13 @@ class Verdict:
         late = f"{cycles(self.delay)} late" if self.delay else ""
         if not self.conforms:
             return f"starts {late}: {self.line}" if late else self.line
-        found = [f"conforms {late}" if late else "conforms"]
+        return ", ".join([f"conforms {late}" if late else "conforms", *self.more()[1 if late else 0 :]])
+
+    def more(self) -> list[str]:
+        """What there is to say of right commands."""
+        found = [f"starts {cycles(self.delay)} late"] if self.delay else []
         found += [f"done {cycles(self.end_late)} late"] if self.end_late else []
-        found += [f"{' and '.join(self.in_reset)} not 0 in the reset"] if self.in_reset else []
-        return ", ".join(found)
+        return found + ([f"{' and '.join(self.in_reset)} not 0 in the reset"] if self.in_reset else [])
 
 
 def cycles(count: int) -> str:
@@ -131,19 +130,12 @@ def checked(audit: Audit, plain: Plain) -> str:
 
 def commands_found(audit: Audit) -> Verdict:
     """What `check` says, of words, of gates where it is unknown of words, or from a late start on."""
-    if "--simulate" in audit.options:
-        beside_icarus.refuse_sources(audit.files, audit.options.get("--liberty", []))
     plain = audit.module()
     refuse_inputs(audit.options.get("--vcd"), [("what is read", file) for file in plain.opened])
     source_texts.refuse_untold(audit.options.get("--vcd"), audit.files, "$")
     for warning in plain.warnings:
         tell(f"audit: {warning}")
     refuse_ports(audit, plain)
-    if "--simulate" in audit.options:
-        cells = known_cells.cells_of(audit.options, [source for _, source in source_texts.with_included(audit.files)])
-        print(
-            beside_icarus.beside(beside_icarus.Beside(audit.files, plain, audit.full_pins(plain), audit.memory, cells))
-        )
     found = Verdict(checked(audit, plain), plain)
     print(f"check: {found.line}")
     if found.line.startswith("unknown "):
@@ -268,7 +260,16 @@ def fail_found(audit: Audit, found: Verdict, limit: int) -> lanes.Found:
         print(visible(told.history))
     if told.found.got == "open":
         why_fail_open(audit, found, machine, told)
+    if told.found.got == "open" and told.found.cycle == 0:
+        reset_told(machine, told.plan, found.plain, clock)
     return told.found
+
+
+def reset_told(machine: Machine, plan: lanes.Plan, plain: Plain, clock: lanes.Clock) -> None:
+    """Says of a `fail` that is open in the cycle of the reset whether that is all there is to say of it."""
+    later = fail_search.look_at(machine, dataclasses.replace(plan, first=1), plain, clock)
+    if later.found.kind == "exact":
+        print("in the cycle of the reset fail has to be 0; --reset-open allows anything there")
 
 
 def why_fail_open(audit: Audit, found: Verdict, machine: Machine, told: fail_search.Told) -> None:

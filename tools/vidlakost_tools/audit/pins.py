@@ -4,7 +4,7 @@ from __future__ import annotations
 
 import dataclasses
 import re
-from typing import Any
+from typing import Any, Iterable
 
 from vidlakost_tools.text import lines_of, read_described, words_in
 from vidlakost_tools.texts.memory import Memory
@@ -67,6 +67,12 @@ class Pins:
         whole.refuse_missing(ports)
         whole.refuse_directions(ports)
         return whole
+
+    def with_own(self, names: Iterable[str]) -> Pins:
+        """With each of these ports that has no line at the pin of its own name."""
+        named = {port for port, _ in self.pins}
+        own = [(port, Pin(port, False)) for port in names if port not in named]
+        return dataclasses.replace(self, pins=[*self.pins, *own])
 
     def refuse_missing(self, ports: dict[str, Any]) -> None:
         told = {pin.name for _, pin in self.pins} | set(self.ties) | set(self.opens)

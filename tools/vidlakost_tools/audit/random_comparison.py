@@ -35,7 +35,7 @@ def damaged(files: list[pathlib.Path], chance: random.Random) -> str:
 
 def told(tool: str, files: list[pathlib.Path]) -> tuple[int, str]:
     """The status and the last line of a tool on a module."""
-    words = [sys.executable, str(ROOT / "tools" / tool), *map(str, files)]
+    words = [sys.executable, str(ROOT / "tools" / tool), *map(str, files), "--no-simulate"]
     done = subprocess.run(words, stdout=subprocess.PIPE, stderr=subprocess.STDOUT, text=True, check=False)
     return done.returncode, (done.stdout.strip().splitlines() or [""])[-1]
 
@@ -44,9 +44,9 @@ def agree(audited: tuple[int, str], judged: tuple[int, str]) -> bool:
     """Whether `audit` and `formal` both judged a module, and say the same of it where `audit` knows. Either may also
     have refused it, or have come to nothing, with the status of a module that is wrong."""
     (status, line), (other_status, other) = audited, judged
-    is_told = line.startswith("audit: ") and line != "audit: refused"
-    is_judged = other_status == 0 or other.startswith("differs in cycle ")
-    return is_told and is_judged and ((status == 0) == (other_status == 0) or "unknown" in line)
+    is_told = line.startswith("audit: ") and not line.startswith("audit: refused")
+    is_judged = other_status == 0 or other.startswith("formal: wrong: differs in cycle ")
+    return is_told and is_judged and ((status == 0) == (other_status == 0) or line.startswith("audit: unknown"))
 
 
 def compare(number: int, chance: random.Random) -> int:
@@ -64,7 +64,7 @@ def compare(number: int, chance: random.Random) -> int:
             text = damaged(files, chance) if chance.random() < 0.9 else files[0].read_text()
             audited, judged = told("audit", files), told("formal", files)
             (status, line), (other_status, other) = audited, judged
-            kind = "right" if status == 0 else "unknown" if "unknown" in line else "wrong"
+            kind = "right" if status == 0 else "unknown" if line.startswith("audit: unknown") else "wrong"
             said_of[kind] += 1
             # what is unknown may be right: then it is said, and counted
             said_of["unknown and right"] += kind == "unknown" and other_status == 0

@@ -10,12 +10,13 @@ from vidlakost_tools.access import logs
 from vidlakost_tools.access.target import Port, Target, Unit, links
 from vidlakost_tools.chip import access_log, text as system_text
 from vidlakost_tools.chip.ends import forced, in_vector, joined, width_of
-from vidlakost_tools.chip.steps import cycles
+from vidlakost_tools.chip.steps import begin_of, cycles
 from vidlakost_tools.chip.system import System
 from vidlakost_tools.collar import planted as collar_planted
 from vidlakost_tools.verilog.reserved_words import RESERVED
 from vidlakost_tools.collar.planted import DEFINE
 from vidlakost_tools.collar.watch import POWER
+from vidlakost_tools.texts.reads import first_read
 from vidlakost_tools.text import LARGE_BYTES, lines_of, read_described, read_text, template
 from vidlakost_tools.tool import ToolError
 from vidlakost_tools.verilog.syntax import ranged
@@ -99,6 +100,18 @@ class SystemTarget(Target):
         return "" if kind == "access" else "        shift_ignored;"
 
     # ---- the logs
+
+    def first_reads(self) -> dict[int, tuple[int, int]]:
+        found = {}
+        for number, part in enumerate(self.system.parts):
+            first, unit = first_read(part.unit.elements, part.memory), self.system.chips[part.chip].units[part.place]
+            if first:
+                found[number] = (begin_of(self.system, part.chip) + unit.start + first[0], first[1])
+        return found
+
+    @property
+    def is_inside(self) -> bool:
+        return True
 
     @property
     def has_inner_log(self) -> bool:
@@ -207,7 +220,7 @@ class SystemTarget(Target):
             for part in placed.parts:
                 chosen = f"planted && at_unit == 10'd{self.system.parts.index(part)}"
                 at = f"{chosen} ? {width}'d4 << {3 * number} :\n    {at}"
-                bit = f"{chosen} ? 7'd{first} + {{1'b0, at_bit}} :\n    {bit}"
+                bit = f"{chosen} ? 7'd{first} + at_bit :\n    {bit}"
                 first += part.memory.bits
         return (
             f"  assign planted_at = !planted & !is_each ? {width}'d0 :\n    {at};\n  assign planted_bit =\n    {bit};\n"

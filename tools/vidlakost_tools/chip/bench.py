@@ -4,7 +4,7 @@ from __future__ import annotations
 
 import dataclasses
 
-from vidlakost_tools.chip.steps import cycles
+from vidlakost_tools.chip.steps import begin_of, cycles
 from vidlakost_tools.chip.system import Part, Placed, System
 from vidlakost_tools.chip.text import Text, port_name, seen_by_tester
 from vidlakost_tools.chip.watch import Watch
@@ -15,6 +15,7 @@ from vidlakost_tools.collar.pins import bit_of
 from vidlakost_tools.collar.text import FOOT, HEAD, PLANTED
 from vidlakost_tools.collar.watch import GATES
 from vidlakost_tools.text import template
+from vidlakost_tools.texts.reads import first_read
 from vidlakost_tools.verilog.bench_end import FINISH, over, progress
 from vidlakost_tools.verilog.syntax import ranged
 
@@ -44,6 +45,15 @@ class Fault:
     what: str
     parts: list[Part]
 
+    def due(self, system: System) -> int:
+        """How many cycles behind its start a run has found a wrong bit; 0 where that is no matter of the first read."""
+        if self.kind != 4:
+            return 0
+        part = self.parts[0]
+        first = first_read(part.unit.elements, part.memory)
+        unit = system.chips[part.chip].units[part.place]
+        return begin_of(system, part.chip) + unit.start + first[0] if first else 0
+
 
 def faults(system: System) -> list[Fault]:
     """What is planted; a tied address is a matter of the march, and of the collar's own testbench."""
@@ -65,17 +75,18 @@ def runs(system: System) -> list[str]:
     """The runs with what is planted, and those with words in which every two bits differ; each can be left out."""
     width, count, found = 3 * len(system.collars), len(system.parts), []
     for number, fault in enumerate(faults(system)):
+        due = fault.due(system)
         where = sum(1 << system.parts.index(part) for part in fault.parts)
         what = f"1'b{int(fault.kind == 4)}, {width}'d{fault.kind} << {3 * fault.collar}"
         there = " || ".join(f'asked == "{name}"' for name in ["", *(part.name for part in fault.parts)])
         lines = [f"      take({number}, {there}, turn_taken);", "      if (turn_taken) begin"]
-        lines += [f"        run({what}, 7'd{place}, 3'd0, {count}'h{where:x});" for place in fault.places]
+        lines += [f"        run({what}, 7'd{place}, 3'd0, {count}'h{where:x}, {due});" for place in fault.places]
         lines += ["        " + progress(f"{system.name}: {fault.what} at {fault.parts[0].name} is found"), "      end"]
         found.append("\n".join(lines))
     numbers = max(collar_planted.count(placed.word.bits) for placed in system.collars)
     for number in range(1, numbers + 1):
         lines = [f'      take({len(found)}, asked == "", turn_taken);', "      if (turn_taken) begin"]
-        lines.append(f"        run(1'b0, {width}'d0, 7'd0, 3'd{number}, {count}'d0);")
+        lines.append(f"        run(1'b0, {width}'d0, 7'd0, 3'd{number}, {count}'d0, 0);")
         told = f"of the words in which every two bits differ number {number} passes"
         found.append("\n".join([*lines, "        " + progress(f"{system.name}: {told}"), "      end"]))
     return found

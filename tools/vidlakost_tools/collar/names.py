@@ -8,8 +8,10 @@ from vidlakost_tools.texts.memory import Memory
 
 
 MARK = "// made by vidlakost"
-# the kinds of a collar that has its controllers inside; `told` hands out the words that they write and read, too
-INSIDE = ("bist", "told")
+# the kinds of a collar that has its controllers inside; `told` hands out the words that they write and read, too, and
+# `logged` also whether they command a read
+TOLD = ("told", "logged")
+INSIDE = ("bist", *TOLD)
 
 
 class Names:
@@ -51,7 +53,8 @@ def own_ports(macro: Macro, word: Word, kind: str) -> list[Port]:
     """The ports of the collar that are no pins: `kind` is bist, told, open, or a way of `vidlakost access`."""
     scan = [Port("input", "scan_mode")] if macro.bypass else []
     if kind in INSIDE:
-        told = [Port("output", name, word.bits) for name in ("given", "taken")] if kind == "told" else []
+        told = [Port("output", name, word.bits) for name in ("given", "taken")] if kind in TOLD else []
+        told += [Port("output", "asks")] if kind == "logged" else []
         return [
             Port("input", "clk"),
             Port("input", "test"),

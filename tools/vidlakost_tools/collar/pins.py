@@ -74,9 +74,11 @@ def bit_of(net: str, width: int, at: int) -> str:
 
 @dataclasses.dataclass
 class Word:
-    """What a macro holds a word of: one memory, or a low and a high one whose words stand side by side."""
+    """What a macro holds a word of: one memory, or a low and a high one whose words stand side by side; in its place
+    also how many wrong reads it keeps, if that is more than the first one."""
 
     memories: list[Memory]
+    depth: int | None = None
 
     @property
     def first(self) -> Memory:

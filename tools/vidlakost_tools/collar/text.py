@@ -4,7 +4,7 @@ from __future__ import annotations
 
 from vidlakost_tools.access.target import Target, links
 from vidlakost_tools.collar import bus as collar_bus, lane_machine as collar_lanes, planted as collar_planted
-from vidlakost_tools.collar.names import INSIDE, MARK, halves, last_phase
+from vidlakost_tools.collar.names import INSIDE, MARK, TOLD, halves, last_phase
 from vidlakost_tools.collar.nets import Nets
 from vidlakost_tools.collar.pins import Macro, Pin, Word, bit_of, widths_of
 from vidlakost_tools.collar.watch import CONTROLS, POWER, Watch
@@ -248,9 +248,12 @@ class Collar(Nets):
             over, bad = self.net(f"{half}_done"), self.net(f"{half}_fail")
             self.lines.append(f"  {memory.name}_bist {self.names.of(f'{half}_test')}(.clk(clk), .reset({reset}),")
             self.lines.append(f"    {own}, .done({over}), .fail({bad}));")
-        for name, parts in zip(("given", "taken"), zip(*words)) if self.kind == "told" else ():
+        for name, parts in zip(("given", "taken"), zip(*words)) if self.kind in TOLD else ():
             value = parts[0] if len(parts) == 1 else "{" + ", ".join(reversed(parts)) + "}"
             self.lines.append(f"  assign {name} = {value};")
+        if self.kind == "logged":
+            en, we = (self.net(f"{halves(self.word)[0][0]}_{name}") for name in ("en", "we"))
+            self.lines.append(f"  assign asks = {en} & ~{we};")
 
     def states(self) -> None:
         """Declares what the self-tests say."""

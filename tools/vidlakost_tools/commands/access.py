@@ -24,8 +24,9 @@ With --log, for each memory a comparator beside its self-test, which keeps the f
     MEMORY_log.v, and for one memory NAME_log_tb.sv, which prints the log for `vidlakost bitmap`. With --apb or --jtag
     the buses read the log, too: APB from 0x800 on, JTAG by the instruction LOG, an entry in each scan. NAME_log.tcl
     has OpenOCD read it
-For one memory --march says how long the test takes; the SVF and the PDL have to wait so long. --mhz is the clock of the
-test. With it an SVF waits in seconds, so TCK may be faster than that clock. Put the module of the self-test in FOLDER:
+For one memory --march says how long the test takes; the files for a tester have to wait so long. --mhz is the clock of
+the test, and with --in-place the slowest one of all. With it an SVF waits in seconds, and the others as many cycles of
+TCK as it takes, so TCK may be faster than that clock. Put the module of the self-test in FOLDER:
     cd FOLDER && iverilog -g2012 -o tb NAME_access_tb.sv NAME_access.v NAME_model.v NAME_bist.v && vvp -n tb
     vvp -n tb +planted +address=3 +bit=1 +value=1
 With PINS the files are for the whole chip that `vidlakost top --access` wrote to FOLDER with the same words. There is a
@@ -64,15 +65,17 @@ from vidlakost_tools.access import (
     tap,
     wgl,
 )
+from vidlakost_tools.access.logs import log_depth
 from vidlakost_tools.access.target import IDENTITY, Target, is_chip_file, is_list
 from vidlakost_tools.chip import access as system_access, system as soc
 from vidlakost_tools.files import marked, write_own
+from vidlakost_tools.in_place.files import depth_in
 from vidlakost_tools.in_place.sequencer import PlaceTarget, of_places
 from vidlakost_tools.text import shown
 from vidlakost_tools.texts.chip import read_chip
 from vidlakost_tools.texts.march import march_of
 from vidlakost_tools.texts.memory import read_memory
-from vidlakost_tools.tool import ToolError, number_of, tell, usage_of, words_of
+from vidlakost_tools.tool import ToolError, tell, usage_of, words_of
 
 
 def target_of(path: str, march: str | None) -> Target:
@@ -109,20 +112,10 @@ def inputs_of(path: str, options: dict[str, Any]) -> list[str]:
     return given
 
 
-def depth_of(options: dict[str, Any]) -> int | None:
-    """How many wrong reads a log keeps, if there is one."""
-    if "--log" not in options:
-        return None
-    depth = number_of(options["--log"], "--log", 1)
-    if depth > 64:
-        raise ToolError(f"--log is 1 to 64, and not {depth}")
-    return depth
-
-
 def texts(target: Target, options: dict[str, Any]) -> dict[str, str]:
     """The files by their names."""
     name = target.name
-    depth = depth_of(options)
+    depth = log_depth(options)
     if depth is not None and ("--apb" in options or "--jtag" in options):
         target = dataclasses.replace(target, depth=depth)
     target = dataclasses.replace(target, identity=identity_of(options), has_sib="--sib" in options)
@@ -161,8 +154,8 @@ def of_tap(target: Target, options: dict[str, Any]) -> dict[str, str]:
         f"{name}_socket.cpp": tap.socket(target),
         f"{name}.cfg": tap.config(target),
         f"{name}.svf": standards.svf(target, mhz),
-        f"{name}.stil": stil.stil(target),
-        f"{name}.wgl": wgl.wgl(target),
+        f"{name}.stil": stil.stil(target, mhz),
+        f"{name}.wgl": wgl.wgl(target, mhz),
     }
     if target.has_sib:
         made[f"{name}_sib.v"] = network.block(target)
@@ -171,15 +164,15 @@ def of_tap(target: Target, options: dict[str, Any]) -> dict[str, str]:
     if not standards.has_plain_name(target):
         tell(f"access: {name} is no name in BSDL, ICL and PDL, so these files are left out")
         return made
-    described = {"bsdl": standards.bsdl, "icl": ijtag.icl, "pdl": ijtag.pdl}
-    return {**made, **{f"{name}.{ending}": make(target) for ending, make in described.items()}}
+    described = {"bsdl": standards.bsdl(target), "icl": ijtag.icl(target), "pdl": ijtag.pdl(target, mhz)}
+    return {**made, **{f"{name}.{ending}": text for ending, text in described.items()}}
 
 
 def planned(system: soc.System, path: str, options: dict[str, Any]) -> system_access.SystemTarget:
     """The target of a whole whose memories are joined by a module."""
     soc.planned(system, path)
     target = system_access.of_system(system)
-    return dataclasses.replace(target, each="--each" in options, depth=depth_of(options))
+    return dataclasses.replace(target, each="--each" in options, depth=log_depth(options))
 
 
 def refuse_of_whole(pins: list[str], options: dict[str, Any]) -> None:
@@ -192,7 +185,7 @@ def refuse_of_whole(pins: list[str], options: dict[str, Any]) -> None:
     elif {"--in-place", "--each"} <= set(options):
         why = "--in-place keeps the first failure of each memory without --each"
     elif {"--in-place", "--log"} <= set(options):
-        why = "with --in-place a memory keeps only its first failure: leave out --log, or join all by `vidlakost top`"
+        why = "`vidlakost top --in-place --log N` says how many wrong reads a memory keeps: leave out --log"
     elif "--log" in options and not {"--apb", "--jtag"} & set(options):
         why = "a bus reads the log of a whole chip: write --apb or --jtag, too"
     if why:
@@ -204,6 +197,7 @@ def of_whole(path: str, pins: list[str], out: pathlib.Path, options: dict[str, A
     refuse_of_whole(pins, options)
     system = soc.read_system(path)
     soc.give_collars(system, pins)
+    system.keep(depth_in(out, system) if "--in-place" in options else None)
     target: Target = of_places(system) if "--in-place" in options else planned(system, path, options)
     made = {name: text for name, text in texts(target, options).items() if name not in system_access.left_out(target)}
     beside = []

@@ -2,8 +2,8 @@
 
 usage: vidlakost bitmap LOG MARCH MEMORY [--mux M] [--svg PICTURE] [--csv TABLE] [--list FAULTS]
        vidlakost bitmap LOG CHIPFILE --unit U [--mux M] [--svg PICTURE] [--csv TABLE] [--list FAULTS]
-       vidlakost bitmap LOG LIST|CHIPFILE PINS.. --unit U [--second] [--mux M] [--svg PICTURE] [--csv TABLE]
-                        [--list FAULTS]
+       vidlakost bitmap LOG LIST|CHIPFILE PINS.. --unit U [--second | --in-place] [--mux M] [--svg PICTURE]
+                        [--csv TABLE] [--list FAULTS]
        vidlakost bitmap --help
 
 LOG has a line `cycle C expected X returned W` for each wrong read. The testbench NAME_log_tb.sv of `vidlakost access
@@ -13,7 +13,8 @@ march expects of this memory, the log belongs to others, and bitmap refuses it. 
 locate`; for a chip they are the chip's.
 With PINS the log is of the whole chip that `vidlakost top` joined, and the cycles are those of the whole. If the chip
 has second ports, the test of a memory may run twice there. Then bitmap reads the log as that of the first run, and with
---second as that of the second run.
+--second as that of the second run. With --in-place the log is of memories in their places, and each begins with a cycle
+of its own; U may be a memory's name, and has to be where a macro has the words of two.
 --mux M says that a row of the array has M words (1 by default). A word is in the row of its physical index divided by
 M. Its bit B is in column B * M + index modulo M.
 bitmap prints the shape (cell, pair, row, column, other). Then it prints each wrong cell, with row, column, index,
@@ -93,7 +94,7 @@ def lines_of_cells(cells: Counter[tuple[int, int]], memory: Memory, mux: int) ->
 
 
 def main(arguments: list[str]) -> int:
-    allowed = {"--mux": 1, "--svg": 1, "--csv": 1, "--list": 1, "--unit": 1, "--second": 0}
+    allowed = {"--mux": 1, "--svg": 1, "--csv": 1, "--list": 1, "--unit": 1, "--second": 0, "--in-place": 0}
     words, options = words_of(__doc__, arguments, allowed, 2)
     asked = asked_of(words, options, __doc__)
     memory = asked.memory

@@ -2,11 +2,12 @@
 
 usage: vidlakost diagnosis LOG MARCH MEMORY [--mux M] [--list FAULTS] [--with MARCH]..
        vidlakost diagnosis LOG CHIPFILE --unit U [--mux M] [--list FAULTS] [--with MARCH]..
-       vidlakost diagnosis LOG LIST|CHIPFILE PINS.. --unit U [--second] [--mux M] [--list FAULTS] [--with MARCH]..
+       vidlakost diagnosis LOG LIST|CHIPFILE PINS.. --unit U [--second | --in-place] [--mux M] [--list FAULTS]
+                           [--with MARCH]..
        vidlakost diagnosis --help
 
-LOG, PINS, --second, the cycles and --mux are as for `vidlakost bitmap`. The log has to be of a whole test: a read that
-is not in the log was right. If the log ends with `more`, that holds only up to its last entry.
+LOG, PINS, --second, --in-place, the cycles and --mux are as for `vidlakost bitmap`. The log has to be of a whole test:
+a read that is not in the log was right. If the log ends with `more`, that holds only up to its last entry.
 diagnosis prints the number of candidates of each class, then each candidate. The candidates are:
     cells       the primitives of FAULTS (without a list, all static ones and DRF), at each cell and with each aggressor
     lines       columns, rows, words, data bits, and parts of a bit line or of a word line, each of which reads as one
@@ -80,7 +81,8 @@ def next_march(candidates: list[Candidate], options: dict[str, Any], memory: Mem
 
 
 def main(arguments: list[str]) -> int:
-    allowed: dict[str, int | list[str]] = {"--mux": 1, "--list": 1, "--unit": 1, "--second": 0, "--with": ["MARCH"]}
+    allowed: dict[str, int | list[str]] = {"--mux": 1, "--list": 1, "--unit": 1, "--with": ["MARCH"]}
+    allowed.update({"--second": 0, "--in-place": 0})
     words, options = words_of(__doc__, arguments, allowed, 2)
     asked = asked_of(words, options, __doc__)
     mux = number_of(options.get("--mux", "1"), "--mux", 1)

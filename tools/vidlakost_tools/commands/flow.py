@@ -1,6 +1,7 @@
 """A makefile for a whole chip: controllers, collars, the top, testbenches, lint, synthesis and reports.
 
-usage: vidlakost flow CHIPFILE|LIST [PINS..] FOLDER [--list FAULTS] [--model FILE].. [--in-place [--places FILE]]
+usage: vidlakost flow CHIPFILE|LIST [PINS..] FOLDER [--list FAULTS] [--model FILE]..
+                      [--in-place [--places FILE] [--log N]]
                       [--clock-mux CELL:SELECT:CHIP:TEST:OUT]
        vidlakost flow --help
 
@@ -20,7 +21,8 @@ With --in-place `make` makes for each memory, in the folder WORD, the testbench 
 in that testbench, its lint, its count of cells and its timing. FOLDER/chip gets the same for the sequencer, and what
 `access` writes with its testbenches, without a wrong bit and with one. FILE of --places is a text that
 `vidlakost places` reads. With it FOLDER/places gets the testbench of the chip, without wrong bits and with them, and
-its timing, and Yosys proves its use; `make places` is that step. There is no page for a tester.
+its timing, and Yosys proves its use; `make places` is that step. There is no page for a tester. With --log each memory
+keeps N wrong reads.
 
 Words for `make`; name a file in them from FOLDER on:
     SIM=verilator    uses Verilator in place of Icarus
@@ -40,6 +42,7 @@ from __future__ import annotations
 import pathlib
 from typing import Any
 
+from vidlakost_tools.access.logs import log_depth
 from vidlakost_tools.chip import system as soc, text as system_text
 from vidlakost_tools.chip.flow import MARK, Flow
 from vidlakost_tools.chip.system import System
@@ -83,14 +86,17 @@ def vendors_of(system: System, options: dict[str, Any], is_placed: bool) -> dict
 
 
 def main(arguments: list[str]) -> int:
-    allowed: dict[str, int | list[str]] = {"--list": 1, "--model": [], "--clock-mux": 1, "--in-place": 0, "--places": 1}
+    allowed: dict[str, int | list[str]] = {"--list": 1, "--model": [], "--clock-mux": 1, "--in-place": 0}
+    allowed.update({"--places": 1, "--log": 1})
     (path, *pins, folder), options = words_of(__doc__, arguments, allowed, 2)
     is_placed = "--in-place" in options
-    if "--places" in options and not is_placed:
-        raise ToolError(f"--places needs --in-place\n{usage_of(__doc__)}")
+    alone = next((name for name in ("--places", "--log") if name in options and not is_placed), None)
+    if alone:
+        raise ToolError(f"{alone} needs --in-place\n{usage_of(__doc__)}")
     system = soc.read_system(path)
     pins = pins or pins_beside(system)
     soc.give_collars(system, pins)
+    system.keep(log_depth(options))
     if not is_placed:
         soc.planned(system, path)
     vendors = vendors_of(system, options, is_placed)

@@ -3,13 +3,14 @@
 usage: vidlakost formal                                    a dozen marches and memories, compiled and judged
        vidlakost formal --random N [--seed S]              N random ones
        vidlakost formal --wrong                            modules with one mistake each, which the judge has to find
-       vidlakost formal VERILOG .. MARCH MEMORY [--top NAME] [--pins FILE] [--cells ice40] [--resets]
+       vidlakost formal VERILOG .. MARCH MEMORY [--top NAME] [--pins FILE] [--cells ice40] [--resets] [--no-simulate]
                                                        a module of yours, in any Verilog that Yosys reads
        vidlakost formal --help
 
 Every register is open in cycle 0, the cycle of the reset. Every word on `rdata` is open in every cycle. In each cycle
 to the end of the test, and in three cycles after it, all ports have to be as the list of `vectors` says, and `fail` as
-these words say. formal shares only that list with the program.
+these words say. Of modules that the program wrote formal shares only that list with the program. A module of yours is
+read by Yosys, as `audit` reads it. So formal, too, has a simulator clock the sources beside what Yosys makes of them.
 With --resets the reset may come again in any cycle, and each reset begins the test anew. That takes longer, and is for
 the smallest memories. formal judges the first of the dozen so too.
 What nothing drives is open in every cycle. formal ignores initial values. It refuses a signal with two drivers, a
@@ -17,7 +18,10 @@ register that samples at another edge than the rising one of clk, a latch, and a
 warnings of Yosys.
 If the model checker finds a case, plain Python clocks it once more, from the module as a text of the subset that
 `check` reads. If no port is wrong in it, the line says `not known`. formal ends with 1 if a module differs, with the
-first wrong cycle, or if it is not known."""
+first wrong cycle, or if it is not known. The last line of a module of yours begins with `formal: right`, `wrong`,
+`unknown` or `refused`. Where no simulator is installed, or it can't read the sources, it is `formal: unknown: right as
+Yosys reads it, not simulated`; with --no-simulate it is `formal: right as Yosys reads it, not simulated`, and the
+status 0."""
 from __future__ import annotations
 
 import dataclasses
@@ -27,12 +31,18 @@ import re
 import tempfile
 from typing import Any, Iterator, Mapping, Sequence
 
+from vidlakost_tools.audit import witness
+from vidlakost_tools.audit.outcome import Outcome
 from vidlakost_tools.audit.pins import Pins, ports_of, read_pins, told_ports
+from vidlakost_tools.audit.rule_vectors import Rule
+from vidlakost_tools.audit.stretches import of_test
+from vidlakost_tools.audit.witness import SIMULATED
 from vidlakost_tools.program import ask
-from vidlakost_tools.text import Path
-from vidlakost_tools.texts.memory import Memory
+from vidlakost_tools.text import Path, read_described
+from vidlakost_tools.texts.march import march_of
+from vidlakost_tools.texts.memory import Memory, parse_memory
 from vidlakost_tools.texts.random_cases import random_case
-from vidlakost_tools.tool import ToolError, number_of, tell, usage_of, words_of
+from vidlakost_tools.tool import Refused, ToolError, number_of, tell, usage_of, words_of
 from vidlakost_tools.verilog import clock_tree, port_judge, replayed, yosys
 from vidlakost_tools.verilog.front_end import Plain, plain_of
 from vidlakost_tools.verilog.model_checker import differs_within
@@ -258,14 +268,36 @@ def judge_wrong() -> int:
     return 1 if missed else 0
 
 
+def judged(files: list[str], march: str, memory_file: str, options: dict[str, Any]) -> Outcome:
+    """The verdict on somebody's module."""
+    difference = judge(files, march, memory_file, options)
+    if difference:
+        told = difference.partition("not known: ")[2]
+        return Outcome("formal", "unknown" if told else "wrong", told or difference)
+    memory, elements = parse_memory(read_described(memory_file)), march_of(march)[1]
+    given = read_pins(options["--pins"]) if options.get("--pins") else None
+    plain = plain_of(files, options, given)
+    pins = given.with_own(port for _, port, _ in plain.ports) if given else None
+    whole = of_test(elements, memory)
+    asked = witness.Asked("formal", files, options, plain, pins, memory, whole, Rule(elements, memory))
+    usual = "each port is right in each cycle"
+    return witness.outcome(asked, usual, usual, {})
+
+
 def main(arguments: list[str]) -> int:
-    allowed = {"--random": 1, "--seed": 1, "--wrong": 0, "--resets": 0, "--top": 1, "--pins": 1, "--cells": 1}
-    files, options = words_of(__doc__, arguments, allowed)
+    own = {"--resets": 0, "--top": 1, "--pins": 1, "--cells": 1, **SIMULATED}
+    files, options = words_of(__doc__, arguments, {"--random": 1, "--seed": 1, "--wrong": 0, **own})
     yosys.want()
-    if len(files) >= 3 and set(options) <= {"--resets", "--top", "--pins", "--cells"}:
-        difference = judge(files[:-2], files[-2], files[-1], options)
-        print(difference or "each port is right in each cycle")
-        return 1 if difference else 0
+    if len(files) >= 3 and set(options) <= set(own):
+        try:
+            outcome = judged(files[:-2], files[-2], files[-1], options)
+        except ToolError as error:
+            if isinstance(error, Refused) or error.status != 1:
+                raise
+            tell(f"formal: {error}")
+            outcome = witness.refusal("formal", error)
+        print(outcome.line())
+        return outcome.status
     if files:
         raise ToolError(f"name three files or more, or none\n{usage_of(__doc__)}")
     if "--wrong" in options:

@@ -9,7 +9,8 @@ usage: vidlakost locate MARCH MEMORY CYCLE [EXPECTED RETURNED]
        vidlakost locate LIST|CHIPFILE PINS.. --whole CYCLE FAILBITS [EXPECTED RETURNED]
        vidlakost locate LIST|CHIPFILE PINS.. --whole --line LINE     from the line of a log, or of a testbench
        vidlakost locate LIST|CHIPFILE PINS.. --whole --tdr HEX [--sib]
-       vidlakost locate LIST|CHIPFILE PINS.. --in-place --tdr HEX [--sib]
+       vidlakost locate LIST|CHIPFILE PINS.. --in-place ..           the same three of memories in their places,
+                                               of which --tdr HEX --log is the register where they keep logs
        vidlakost locate --help
 
 CYCLE is the cycle in which the answer is on `rdata`. The cycle of the reset is 0, and `fail` is 1 from the cycle after
@@ -21,9 +22,9 @@ is due.
 
 HEX is what a scan of the register gave. With --sib the register was after segment insertion bits, which are above it
 in the scan. With --whole the cycles are those of the whole that `vidlakost top` joins, PINS end in .pins, and a bit of
-FAILBITS is a memory. With --in-place the register is that of memories in their places, and the cycle one of the
-memory's own test. With --chip the cycles are the chip's own, and FAILBITS are the bits of `fail`, that of unit 0
-last. With `--mux M` a row of the array has M words: bit B of an index is in column B * M + index modulo M."""
+FAILBITS is a memory. With --in-place the memories are those in their places, and a cycle is one of the
+memory's own test. With --chip the cycles are the chip's own, and FAILBITS are the bits of `fail`, that of unit 0 last.
+With `--mux M` a row of the array has M words: bit B of an index is in column B * M + index modulo M."""
 from __future__ import annotations
 
 import re
@@ -131,22 +132,42 @@ def of_whole(words: list[str], options: dict[str, Any], mux: int) -> list[str]:
 
 def of_places(words: list[str], options: dict[str, Any], mux: int) -> list[str]:
     """What is said of memories in their places."""
-    if "--tdr" not in options or set(options) - {"--in-place", "--tdr", "--sib"}:
-        raise ToolError(f"--in-place needs --tdr, and takes only --sib and --mux besides\n{usage_of(__doc__)}")
-    system = soc.read_system(words[0])
-    soc.give_collars(system, words[1:])
-    return place_locate.register(system, options["--tdr"], mux, "--sib" in options)
+    path, pins = words[0], [word for word in words[1:] if word.endswith(".pins")]
+    rest = [word for word in words[1:] if not word.endswith(".pins")]
+    if {"--whole", "--chip", "--elements"} & set(options):
+        raise ToolError(f"--in-place stands without --whole, --chip and --elements\n{usage_of(__doc__)}")
+    system = soc.read_system(path)
+    soc.give_collars(system, pins)
+    if "--tdr" in options:
+        if rest or set(options) - {"--in-place", "--tdr", "--sib", "--log"}:
+            raise ToolError(f"--in-place --tdr takes a chip file or a list, and the pins\n{usage_of(__doc__)}")
+        return place_locate.register(system, options["--tdr"], mux, "--sib" in options, "--log" in options)
+    if "--line" in options:
+        number, given = of_unit(options["--line"], rest, len(system.collars))
+        return list(place_locate.at_cycle(system.collars[number], int(given[0]), given[1:], mux))
+    if len(rest) not in (2, 4):
+        raise ToolError(f"--in-place takes a cycle, the bits of fail, and two words or none\n{usage_of(__doc__)}")
+    failing = tester.failing_units(rest[1], len(system.collars))
+    if len(failing) > 1:
+        names = ", ".join(system.collars[number].name for number in failing)
+        raise ToolError(f"{names} fail: which of them does the cycle belong to? Set one bit alone")
+    return list(place_locate.at_cycle(system.collars[failing[0]], answered(rest[0], options), rest[2:], mux))
+
+
+def of_unit(line: str, rest: list[str], count: int) -> tuple[int, list[str]]:
+    """The unit of a line of a log, and its cycle and words."""
+    match, whose = entry_in(line), OF_UNIT.search(line)
+    if match is None or whose is None or rest:
+        raise ToolError("--line has 'unit U cycle C expected X returned Y', and stands behind the pins alone")
+    if int(whose[1]) >= count:
+        raise ToolError(f"the unit is 0 to {count - 1}, and not {whose[1]}")
+    return int(whose[1]), list(match.groups())
 
 
 def of_line(system: soc.System, rest: list[str], line: str, mux: int) -> list[str]:
     """What is said of a line of a log of a whole chip."""
-    match, whose = entry_in(line), OF_UNIT.search(line)
-    if match is None or whose is None or rest:
-        raise ToolError("--line has 'unit U cycle C expected X returned Y', and stands behind the pins alone")
-    if int(whose[1]) >= len(system.parts):
-        raise ToolError(f"the unit is 0 to {len(system.parts) - 1}, and not {whose[1]}")
-    part = system.parts[int(whose[1])]
-    return list(system_locate.in_system(system, int(match[1]), part, [match[2], match[3]], mux))
+    number, (cycle, *given) = of_unit(line, rest, len(system.parts))
+    return list(system_locate.in_system(system, int(cycle), system.parts[number], given, mux))
 
 
 def answered(text: str, options: dict[str, Any]) -> int:
@@ -194,7 +215,9 @@ def of_memory(words: list[str], options: dict[str, Any], mux: int, has_rows: boo
 
 def main(arguments: list[str]) -> int:
     allowed = {"--line": 1, "--elements": 0, "--chip": 0, "--tdr": 1, "--at": 1, "--mux": 1, "--sib": 0}
-    words, options = words_of(__doc__, arguments, {**allowed, "--whole": 0, "--in-place": 0}, 1, None)
+    words, options = words_of(__doc__, arguments, {**allowed, "--whole": 0, "--in-place": 0, "--log": 0}, 1, None)
+    if "--log" in options and not {"--in-place", "--tdr"} <= set(options):
+        raise ToolError(f"--log needs --in-place and --tdr\n{usage_of(__doc__)}")
     if "--sib" in options and "--tdr" not in options:
         raise ToolError(f"--sib needs --tdr\n{usage_of(__doc__)}")
     has_rows, mux = "--mux" in options, number_of(options.pop("--mux", "1"), "--mux", 1)

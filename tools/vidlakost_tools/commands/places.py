@@ -1,6 +1,6 @@
 """A chip whose memories stay where they are: a testbench of their bundles, and a proof that its use is what it was.
 
-usage: vidlakost places PLACES LIST|CHIPFILE PINS.. FOLDER
+usage: vidlakost places PLACES LIST|CHIPFILE PINS.. FOLDER [--no-simulate] [--json FILE]
        vidlakost places --help
 
 FOLDER is that of `vidlakost top --in-place`; LIST, CHIPFILE and PINS are the words of that call. PLACES has a line for
@@ -24,8 +24,12 @@ The lines source, before, at, clock and set may come many times. places writes t
                         first failure. +planted=MEMORY plants at that memory alone
     NAME_places.f       what a simulator has to read
 If PLACES has lines `before`, Yosys proves that in use each pin of each memory, each flip-flop and each output of the
-chip has what it had before. places prints each one that differs; the status is then 1. Without Yosys it says that
-nothing was proved.
+chip has what it had before. places prints each one that differs; the status is then 1. Where all is proved Icarus clocks
+both chips, for 20,000 random cycles of use, with memories that answer random words; places refuses a pin of a memory or
+an output that differs, since the sources then mean two things. The last line is `places: right`, `wrong`, `unknown` or
+`refused`, and what was seen. Without Icarus it is `places: unknown: right as Yosys reads it, not simulated`, with the
+status 1; with --no-simulate it is `places: right as Yosys reads it, not simulated`, with the status 0. --json writes the
+verdict to FILE, for scripts. Without Yosys places says that nothing was proved.
     cd FOLDER && iverilog -g2012 -o tb -c NAME_places.f && vvp -n tb && vvp -n tb +planted"""
 from __future__ import annotations
 
@@ -33,15 +37,23 @@ import os
 import pathlib
 import shutil
 
+from vidlakost_tools import bounded
+from vidlakost_tools.audit.beside_icarus import Differs, Unclocked
+from vidlakost_tools.audit.outcome import READ_ALONE, Outcome
+from vidlakost_tools.audit.witness import refusal
 from vidlakost_tools.chip import system as soc
 from vidlakost_tools.collar.names import MARK
 from vidlakost_tools.files import write_own
-from vidlakost_tools.in_place import places_proof
+from vidlakost_tools.in_place import places_beside, places_proof
+from vidlakost_tools.in_place.files import depth_in
 from vidlakost_tools.in_place.place_list import Places, inputs_of, read_places
 from vidlakost_tools.in_place.places_bench import ChipBench
 from vidlakost_tools.in_place.sequencer import PlaceTarget, of_places
 from vidlakost_tools.text import lines_of, read_described, shown
-from vidlakost_tools.tool import ToolError, tell, words_of
+from vidlakost_tools.tool import ToolError, refuse_inputs, tell, words_of
+
+
+USUAL = "each memory, each flip-flop and each output has what it had"
 
 
 def listed(folder: pathlib.Path, target: PlaceTarget, places: Places) -> list[str]:
@@ -63,11 +75,14 @@ def listed(folder: pathlib.Path, target: PlaceTarget, places: Places) -> list[st
 
 
 def main(arguments: list[str]) -> int:
-    (path, system_file, *pins, name), _ = words_of(__doc__, arguments, {}, 4)
+    allowed = {"--no-simulate": 0, "--json": 1}
+    (path, system_file, *pins, name), options = words_of(__doc__, arguments, allowed, 4)
     folder, system = pathlib.Path(name), soc.read_system(system_file)
     soc.give_collars(system, pins)
+    system.keep(depth_in(folder, system))
     target, places = of_places(system), read_places(path, system)
     read = [path, system_file, *pins, *inputs_of(places)]
+    refuse_inputs(options.get("--json"), [("what is read", file) for file in read])
     texts = {f"{target.name}_places_tb.sv": ChipBench(target, places).text()}
     texts[f"{target.name}_places.f"] = "\n".join([f"{MARK} places", *listed(folder, target, places), ""])
     write_own(folder, texts, read)
@@ -77,7 +92,36 @@ def main(arguments: list[str]) -> int:
     if shutil.which("yosys") is None:
         tell("places: yosys is not on the PATH, so nothing is proved about the use of the chip")
         return 0
-    found = places_proof.differences(target, places)
-    told = [f"{target.name}: in use {line}" for line in found]
-    print("\n".join(told or [f"{target.name}: in use each memory, each flip-flop and each output has what it had"]))
-    return 1 if found else 0
+    try:
+        outcome = judged(target, places, "--no-simulate" in options)
+    except Differs as error:
+        tell(f"places: {error}")
+        outcome = refusal("places", error)
+    outcome.write(options.get("--json"), read)
+    print(outcome.line())
+    return outcome.status
+
+
+def judged(target: PlaceTarget, places: Places, is_alone: bool) -> Outcome:
+    """The verdict on the use of the chip."""
+    places_proof.refuse_misread([*places.before, *places.sources])
+    with bounded.folder_of_its_own() as folder:
+        proof = places_proof.Proof(target, places, folder)
+        found = proof.differences()
+        print("\n".join([f"{target.name}: in use {line}" for line in found or [USUAL]]))
+        by_yosys = {"Yosys": found[0] if found else USUAL}
+        if found:
+            more = f", and {len(found) - 1} more" if len(found) > 1 else ""
+            return Outcome("places", "wrong", f"in use {found[0]}{more}", witnesses=by_yosys)
+        if is_alone:
+            return Outcome("places", "right", is_alone=True, witnesses=by_yosys)
+        try:
+            cycles, doubt = places_beside.compared(proof, *proof.sides())
+        except Unclocked as error:
+            tell(f"places: no simulator has seen the sources: {error}")
+            return Outcome("places", "unknown", READ_ALONE, witnesses=by_yosys)
+    saw = {**by_yosys, "Icarus": doubt or f"equal in {cycles:,} cycles of use"}
+    if doubt:
+        return Outcome("places", "unknown", f"by Icarus {doubt}", witnesses=saw)
+    print(f"beside Icarus: equal in {cycles:,} cycles of use")
+    return Outcome("places", "right", f"in use {USUAL}, simulated by Icarus", witnesses=saw)

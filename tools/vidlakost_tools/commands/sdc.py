@@ -37,6 +37,7 @@ from vidlakost_tools.access.target import Target, is_chip_file, is_list
 from vidlakost_tools.chip import access as system_access, system as soc
 from vidlakost_tools.files import marked, write_own
 from vidlakost_tools.in_place import constraints as in_place
+from vidlakost_tools.in_place.files import depth_in
 from vidlakost_tools.in_place.place_list import inputs_of, read_places
 from vidlakost_tools.in_place.sequencer import of_places
 from vidlakost_tools.text import shown
@@ -87,7 +88,7 @@ def clocks_of(options: dict[str, Any], names: list[str]) -> dict[str, float]:
 
 
 def texts_in_place(
-    path: str, pins: list[str], kind: str, timing: Timing, options: dict[str, Any]
+    path: str, pins: list[str], folder: str, kind: str, timing: Timing, options: dict[str, Any]
 ) -> tuple[dict[str, str], list[str]]:
     """The files of memories in their places, and what was read for them."""
     if not pins:
@@ -96,6 +97,7 @@ def texts_in_place(
         raise ToolError("--falling is for ports to the memories, and with --in-place these are inside the modules")
     system = soc.read_system(path)
     soc.give_collars(system, pins)
+    system.keep(depth_in(pathlib.Path(folder), system))
     target = of_places(system)
     places = read_places(options["--places"], system) if "--places" in options else None
     clocks = clocks_of(options, list(dict.fromkeys(placed.word.name for placed in system.collars)))
@@ -121,7 +123,7 @@ def main(arguments: list[str]) -> int:
     timing = Timing(test, normal, bus, share, "--falling" in options)
     kind = "apb" if "--apb" in options else "tap" if "--jtag" in options else "access"
     if "--in-place" in options:
-        texts, read = texts_in_place(path, pins, kind, timing, options)
+        texts, read = texts_in_place(path, pins, folder, kind, timing, options)
     else:
         target, read = target_of(path, pins), []
         cases = (("test", True), ("normal", False))

@@ -1,7 +1,7 @@
 """A whole chip: the tests that `chip` writes, a collar round each memory, and a module that joins them.
 
-usage: vidlakost top CHIPFILE|LIST PINS.. FOLDER [--model FILE].. [--access | --in-place] [--clock-mux CELL]
-                     [--plan]
+usage: vidlakost top CHIPFILE|LIST PINS.. FOLDER [--model FILE].. [--access | --in-place [--log N]]
+                     [--clock-mux CELL] [--plan]
        vidlakost top --help
 
 CHIPFILE is a chip file of at most 16 units. Each file of PINS lists the pins of one memory's macro, in the form that
@@ -46,7 +46,8 @@ With --in-place each memory stays where it is in the hierarchy, and no module jo
                              go to bist_in and bist_out of memory I. `vidlakost access --in-place` writes APB and JTAG
                              for it
     files.f                  all but the testbenches
-Each macro then has one bit of fail, even for a word of two memories. Each memory may have a clock of its own.
+Each macro then has one bit of fail, even for a word of two memories. Each memory may have a clock of its own. With
+--log each memory keeps its first N wrong reads, 1 to 64, in place of the first one.
 `vidlakost places` checks the chip that has these modules, and `vidlakost flow --in-place` does all of this.
     cd FOLDER && iverilog -g2012 -o tb -c files.f && vvp -n tb && vvp -n tb +planted"""
 from __future__ import annotations
@@ -55,6 +56,7 @@ import pathlib
 import tempfile
 from typing import Any, Mapping
 
+from vidlakost_tools.access.logs import log_depth
 from vidlakost_tools.chip import bench as system_bench, system as soc, text as system_text
 from vidlakost_tools.chip.steps import plan
 from vidlakost_tools.chip.system import System
@@ -212,10 +214,16 @@ def tell_untested(system: System, texts: dict[str, str]) -> None:
 
 def main(arguments: list[str]) -> int:
     words, options = words_of(
-        __doc__, arguments, {"--model": [], "--access": 0, "--in-place": 0, "--clock-mux": 1, "--plan": 0}, 2
+        __doc__,
+        arguments,
+        {"--model": [], "--access": 0, "--in-place": 0, "--log": 1, "--clock-mux": 1, "--plan": 0},
+        2,
     )
     if {"--access", "--in-place"} <= set(options):
         why = "--access needs the module that joins the memories, and --in-place writes none"
+        raise ToolError(f"{why}\n{usage_of(__doc__)}")
+    if "--log" in options and "--in-place" not in options:
+        why = "--log is for memories in their places: those of a joined chip have theirs by `vidlakost access --log`"
         raise ToolError(f"{why}\n{usage_of(__doc__)}")
     path, *files = words
     system = soc.read_system(path)
@@ -223,6 +231,7 @@ def main(arguments: list[str]) -> int:
     folder = pathlib.Path(files.pop())
     soc.give_collars(system, files)
     give_clocks(system, options)
+    system.keep(log_depth(options))
     vendors = files_of(options.get("--model", []))
     is_placed = "--in-place" in options
     texts = texts_in_place(system, folder, vendors) if is_placed else texts_of(system, path, folder, vendors)

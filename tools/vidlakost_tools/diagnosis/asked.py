@@ -1,11 +1,13 @@
 """What a call about a log names: the log, and its march and memory or its unit of a chip."""
 from __future__ import annotations
 
+import copy
 import dataclasses
 from typing import Any, List, Sequence, Tuple
 
 from vidlakost_tools.access.log import Entry, read_log
 from vidlakost_tools.access.target import is_list
+from vidlakost_tools.collar.pins import lows
 from vidlakost_tools.diagnosis.cells import Fault
 from vidlakost_tools.diagnosis.evidence import Evidence, Test, evidence_of
 from vidlakost_tools.diagnosis.tester import check_expected
@@ -14,7 +16,7 @@ from vidlakost_tools.text import Path
 from vidlakost_tools.texts.chip import read_chip
 from vidlakost_tools.texts.march import Element, march_of
 from vidlakost_tools.texts.memory import Memory, read_memory
-from vidlakost_tools.texts.reads import Read
+from vidlakost_tools.texts.reads import Read, last_command
 from vidlakost_tools.texts.report import judged
 from vidlakost_tools.tool import ToolError, number_of, usage_of
 
@@ -46,10 +48,17 @@ class Asked:
     unit: int | None = None
     runs: List[Run] = dataclasses.field(default_factory=list)
     run: int = 0
+    # of a memory in its place the lowest bit in the word of its macro, and how many bits that has
+    low: int = 0
+    whole: int = 0
 
 
 def asked_of(words: list[str], options: dict[str, Any], doc: str | None) -> Asked:
     """What comes after the log in the words of a call."""
+    if "--in-place" in options:
+        if "--unit" not in options or "--second" in options or len(words) < 3:
+            raise ToolError(f"--in-place needs --unit and the files of pins, and no --second\n{usage_of(doc)}")
+        return in_place(words, options["--unit"])
     if "--unit" not in options:
         if len(words) != 3 or "--second" in options:
             raise ToolError(f"give a log, a march and a memory\n{usage_of(doc)}")
@@ -89,6 +98,37 @@ def of_whole(words: list[str], number: int, is_second: bool) -> Asked:
     return Asked(part.unit.march, unit.elements, part.memory, begin, files, number, runs, int(is_second))
 
 
+def in_place(words: list[str], unit: str) -> Asked:
+    """A memory in its place, by its number, or by its name where a macro has the words of two. Its test begins in a
+    cycle of its own."""
+    from vidlakost_tools.chip import system as soc
+
+    system = soc.read_system(words[1])
+    soc.give_collars(system, words[2:])
+    places = [(number, placed, part) for number, placed in enumerate(system.collars) for part in placed.parts]
+    found = [one for one in places if unit in (one[2].name, str(one[0]))]
+    if len(found) != 1:
+        names = ", ".join(part.name for _, _, part in found or places)
+        raise ToolError(f"--unit {unit} is {'two of' if found else 'none of'} {names}: give a name")
+    number, placed, part = found[0]
+    low = next(low for low, memory in lows(placed.word) if memory is part.memory)
+    runs = [Run(1, last_command(part.unit.elements, part.memory) + part.memory.latency)]
+    files = [*words, *(name for one in system.parts for name in (one.unit.march, one.unit.memory_file))]
+    told = (part.unit.march, part.unit.elements, part.memory, 0, files, number, runs)
+    return Asked(*told, low=low, whole=placed.word.bits)
+
+
+def of_part(asked: Asked, entries: list[Entry], more: bool) -> Tuple[List[Entry], bool]:
+    """Of the entries of a macro those that are of a memory's march: its bits are wrong, and no lane or second port was
+    tried. A log that was full behind the march has all of it."""
+    ones, run = (1 << asked.memory.bits) - 1, asked.runs[0]
+    found = [Entry(one.cycle, one.expected >> asked.low & ones, one.word >> asked.low & ones) for one in entries]
+    found = [one for one in found if one.expected != one.word and run.has(one.cycle)]
+    if not found:
+        raise ToolError(f"no wrong read is of the march of {asked.memory.name}")
+    return found, more and run.has(entries[-1].cycle)
+
+
 @dataclasses.dataclass
 class Logged:
     """What a log says: its reads with the words that returned, and whether more followed."""
@@ -116,8 +156,12 @@ def of_run(path: str, asked: Asked, entries: list[Entry], more: bool) -> Tuple[L
 
 def logged(path: str, asked: Asked) -> Logged:
     """What a log says about a test. A log of another march or memory is refused."""
-    entries, more = read_log(path, asked.memory, asked.unit)
-    if asked.runs:
+    memory = copy.copy(asked.memory)
+    memory.bits = asked.whole or memory.bits
+    entries, more = read_log(path, memory, asked.unit)
+    if asked.whole:
+        entries, more = of_part(asked, entries, more)
+    elif asked.runs:
         entries, more = of_run(path, asked, entries, more)
     evidence, reads = evidence_of(Test(asked.elements, asked.memory, asked.begin), entries, more)
     for entry, read in zip(entries, reads):

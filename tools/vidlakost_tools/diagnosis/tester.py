@@ -17,7 +17,7 @@ from vidlakost_tools.tool import ToolError
 
 def word_of(text: str, bits: int, what: str) -> int:
     """A hexadecimal word."""
-    if not re.fullmatch(r"(0[xX])?[0-9a-fA-F]{1,80}", text) or int(text, 16) >> bits:
+    if not re.fullmatch(r"(0[xX])?[0-9a-fA-F]{1,400}", text) or int(text, 16) >> bits:
         raise ToolError(f"{what} has to be hexadecimal, of at most {bits} bits, and not {shown(text)}")
     return int(text, 16)
 

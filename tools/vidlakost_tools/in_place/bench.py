@@ -4,20 +4,28 @@ from __future__ import annotations
 
 from vidlakost_tools.collar.bench import Bench, indented
 from vidlakost_tools.collar.planted import INPUTS, some_of
+from vidlakost_tools.collar.pins import Macro, Word
 from vidlakost_tools.collar.watch import GATES
-from vidlakost_tools.in_place.text import CYCLE, InPlace, length_of
+from vidlakost_tools.in_place.due import Due
+from vidlakost_tools.in_place.text import CYCLE, HEAD_BITS, InPlace, length_of, ring_of
 from vidlakost_tools.text import template
 from vidlakost_tools.verilog.bench_end import progress
 from vidlakost_tools.verilog.syntax import ranged
 
 DUT = template(__file__, "bench_dut.sv")
 FIRST = template(__file__, "bench_first.sv")
+LOG = template(__file__, "bench_log.sv")
+LOG_WRONG = template(__file__, "bench_log_wrong.sv")
 
 
 class PlaceBench(Bench):
     """The parts of that testbench."""
 
     tool = "top"
+
+    def __init__(self, macro: Macro, word: Word, due: Due):
+        super().__init__(macro, word)
+        self.due = due
 
     @property
     def module(self) -> str:
@@ -46,13 +54,33 @@ class PlaceBench(Bench):
             bits=self.bits,
             latency=self.word.first.latency,
             top=length_of(self.word) - 1,
-            length=length_of(self.word),
+            length=ring_of(self.word),
+            ring=ring_of(self.word) - 1,
+            **self.logged(),
+            due=self.due.function(),
             low=low,
             middle=low + self.bits,
             most=self.most(),
             disturbed=self.disturbed("~"),
             settled=self.disturbed(""),
         )
+
+    def logged(self) -> dict[str, str]:
+        """What looks at each wrong read where several are kept; the first one stands behind their number."""
+        depth, total = self.word.depth, length_of(self.word)
+        first = f"all[{HEAD_BITS + total - 1}:{HEAD_BITS}]"
+        if not depth:
+            return {"first": "all", "log": "", "log_wrong": "", "log_begins": ""}
+        values = {
+            "name": self.word.name, "latency": self.word.first.latency, "depth": depth, "top": total - 1,
+            "total": total, "low": HEAD_BITS,
+        }
+        return {
+            "first": first,
+            "log": LOG.substitute(**values),
+            "log_begins": "      reads <= 0;\n      wrong_reads <= 0;\n",
+            "log_wrong": LOG_WRONG.substitute(**values),
+        }
 
     def counter(self) -> str:
         """The name that the number of the cycle has in the module."""
@@ -62,7 +90,7 @@ class PlaceBench(Bench):
 
     def faults(self) -> str:
         places = some_of(self.word.name, self.bits)
-        lines = [f"  first_failure(7'd{places[0]}, 32'h0, 0);"]
+        lines = [f"  first_failure(7'd{one.low}, 32'h0, -1);" for one in self.due.firsts]
         for count in range(5):
             # each two bits differ in one of these words, and in its inverse, which comes a cycle later
             word = sum((bit >> count & 1) << bit for bit in range(CYCLE))

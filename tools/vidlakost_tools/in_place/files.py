@@ -4,6 +4,7 @@ from __future__ import annotations
 
 import collections
 import pathlib
+import re
 import tempfile
 
 from vidlakost_tools.chip.system import Part, Placed, System
@@ -13,8 +14,9 @@ from vidlakost_tools.collar.text import collar
 from vidlakost_tools.collar.vendor import files_beside, files_by_module
 from vidlakost_tools.files import marked
 from vidlakost_tools.in_place.bench import PlaceBench
+from vidlakost_tools.in_place.due import Due
 from vidlakost_tools.in_place.sequencer import PlaceTarget, Sequencer, length
-from vidlakost_tools.in_place.text import InPlace
+from vidlakost_tools.in_place.text import KEEPS, InPlace, kind_of
 from vidlakost_tools.program import ask
 from vidlakost_tools.text import LARGE_BYTES, read_text
 from vidlakost_tools.tool import ToolError
@@ -39,6 +41,16 @@ def refuse_modules(system: System, given: list[str]) -> None:
     twice = next((name for name in [*made, *macros] if counts[name.lower()] > 1), None)
     if twice:
         raise ToolError(f"two modules would have the name {twice} if case is ignored: rename one")
+
+
+def depth_in(folder: pathlib.Path, system: System) -> int | None:
+    """How many wrong reads the modules of a folder keep, if that is more than the first failure."""
+    module = folder / f"{system.collars[0].word.name}_in_place.v"
+    if not module.is_file():
+        return None
+    begin, _, end = KEEPS.partition("{depth}")
+    told = re.search(rf"^{re.escape(begin)}(\d+){re.escape(end)}$", read_text(str(module), LARGE_BYTES), re.MULTILINE)
+    return int(told[1]) if told else None
 
 
 def bases(system: System) -> list[Part]:
@@ -79,8 +91,8 @@ def texts_of(target: PlaceTarget, models: dict[str, str], vendors: dict[str, lis
         name = placed.word.name
         own = [f"{name}_in_place.v", f"{name}_collar.v", *(f"{memory.name}_bist.v" for memory in placed.word.memories)]
         made[own[0]] = InPlace(placed.macro, placed.word).text()
-        made[own[1]] = collar(placed.macro, placed.word, "told")
-        made[f"{name}_in_place_tb.sv"] = PlaceBench(placed.macro, placed.word).text()
+        made[own[1]] = collar(placed.macro, placed.word, kind_of(placed.word))
+        made[f"{name}_in_place_tb.sv"] = PlaceBench(placed.macro, placed.word, Due(placed)).text()
         beside = models_beside(system, placed, vendors)
         made[f"{name}_in_place.f"] = "\n".join([f"{MARK} top", f"{name}_in_place_tb.sv", *own, *beside, ""])
         every += [*own, *beside]

@@ -14,7 +14,7 @@ from vidlakost_tools.collar.text import memory_name
 from vidlakost_tools.collar.watch import GATES as GATES_DEFINE
 from vidlakost_tools.in_place.files import models_beside
 from vidlakost_tools.in_place.place_list import Places
-from vidlakost_tools.in_place.text import InPlace
+from vidlakost_tools.in_place.text import InPlace, kind_of
 from vidlakost_tools.text import template
 
 WORD = template(__file__, "flow_word.mk")
@@ -120,6 +120,7 @@ class PlaceFlow(Flow):
             written=" ".join(written),
             access=access,
             models="".join(f" --model {self.beside(file)}" for file in self.vendors),
+            log=f" --log {self.system.depth}" if self.system.depth else "",
             mux=self.mux(),
             places=f" --places {plain(self.places.path)}" if self.places else "",
             **values,
@@ -174,7 +175,7 @@ def told_pins(placed: Placed) -> list[str]:
     """The pins of a macro to which no path goes, or two clocks, from the module in its place on."""
     made = InPlace(placed.macro, placed.word)
     made.text()
-    macro = f"{made.names.of('collar')}.{memory_name(placed.macro, placed.word, 'told')}"
+    macro = f"{made.names.of('collar')}.{memory_name(placed.macro, placed.word, kind_of(placed.word))}"
     found = []
     for pin in placed.macro.of("tie"):
         width = (literal(pin.value) or (1, 0))[0]

@@ -36,9 +36,20 @@ def in_place(placed: Placed, cycle: int, expected: int, returned: int, mux: int)
             yield from in_part(parts[id(memory)], cycle, [f"{word:x}" for word in words], mux)
 
 
-def register(system: System, text: str, mux: int, has_sib: bool = False) -> list[str]:
-    """What the register of the TAP says."""
-    target = dataclasses.replace(of_places(system), has_sib=has_sib)
+def at_cycle(placed: Placed, cycle: int, words: list[str], mux: int) -> Iterator[str]:
+    """What the cycle of a failure is, by which the words are told or not; without them of each part of a word."""
+    if words:
+        bits = placed.word.bits
+        expected, returned = (tester.word_of(word, bits, what) for word, what in zip(words, ("EXPECTED", "RETURNED")))
+        yield from in_place(placed, cycle, expected, returned, mux)
+        return
+    for part in placed.parts:
+        yield from in_part(part, cycle, [], mux)
+
+
+def register(system: System, text: str, mux: int, has_sib: bool = False, has_log: bool = False) -> list[str]:
+    """What the register of the TAP says. Where each memory keeps several wrong reads it tells of any of them."""
+    target = dataclasses.replace(of_places(system), has_sib=has_sib, entries=1 if has_log else None)
     found = tester.register_of(target, text)
     lines = list(tester.state_lines(found, target))
     if not found["seen"]:
@@ -46,4 +57,10 @@ def register(system: System, text: str, mux: int, has_sib: bool = False) -> list
     if found["unit"] >= target.count:
         raise ToolError(f"there is no unit {found['unit']}: the units are 0 to {target.count - 1}")
     placed = system.collars[found["unit"]]
+    if has_log:
+        if found["shown"] and found["shown"] >= found["count"]:
+            told = f"the memory has kept {found['count']} wrong reads, and that of number {found['shown']} is none"
+            raise ToolError(f"{told}: ask for an entry below their count")
+        more = ", and more came" if found["more"] else ""
+        lines.append(f"unit {found['unit']} wrong read {found['shown']} of {found['count']} that are kept{more}")
     return [*lines, *in_place(placed, found["cycle"], found["expected"], found["returned"], mux)]

@@ -162,7 +162,7 @@ class Proof:
         twice = [*self.driven_twice("gold", "had"), *self.driven_twice("gate", "has")]
         if twice:
             return twice
-        gold, gate = side_of(self.folder / "gold.json", "gold"), side_of(self.folder / "gate.json", "gate")
+        gold, gate = self.sides()
         if gold.is_off_inside or gate.is_off_inside:
             chip = self.places.chip
             why = "that no net of its own has from `ENABLE ? VALUE : 'bz`, and isn't compared"
@@ -189,6 +189,10 @@ class Proof:
             with contextlib.suppress(yosys.Slow):
                 return self.unproved(sides + PROOF.replace("equiv_status", "equiv_induct -undef\nequiv_status"))
         return left
+
+    def sides(self) -> tuple[Side, Side]:
+        """Both chips, as Yosys reads them."""
+        return side_of(self.folder / "gold.json", "gold"), side_of(self.folder / "gate.json", "gate")
 
     def other_beginnings(self) -> list[str]:
         gold, gate = (beginnings_of(self.folder / f"{side}_first.json", self.places.chip) for side in ("gold", "gate"))

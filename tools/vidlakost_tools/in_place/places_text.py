@@ -9,4 +9,5 @@ EACH = "of each memory its own first failure is read, one behind the other"
 # the words that are told, however they come
 FIRST = beside(__file__, "places_text_first.sv")
 SIGNALS = beside(__file__, "places_text_signals.sv")
+LOG = beside(__file__, "places_text_log.sv")
 TAP = beside(__file__, "places_text_tap.sv")

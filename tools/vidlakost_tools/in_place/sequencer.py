@@ -11,18 +11,43 @@ from vidlakost_tools.chip.system import Placed, System, groups_of
 from vidlakost_tools.collar.names import last_phase
 from vidlakost_tools.collar.planted import also
 from vidlakost_tools.collar.text import PLANTED
-from vidlakost_tools.in_place.text import CYCLE
+from vidlakost_tools.in_place.text import CYCLE, HEAD_BITS
 from vidlakost_tools.text import template
 from vidlakost_tools.tool import ToolError
 from vidlakost_tools.verilog.syntax import ranged
 
 ABOUT = template(__file__, "sequencer_about.sv")
+# the bits of the number of a wrong read that is told
+ENTRY_BITS = 6
+
+
 @dataclasses.dataclass
 class PlaceTarget(Target):
     """The memories of a chip that stay in their places, each with a bundle."""
 
     system: System = dataclasses.field(default_factory=lambda: System("", 1, []))
     groups: list[list[int]] = dataclasses.field(default_factory=list)
+    # how many wrong reads each memory keeps, if that is more than its first failure
+    entries: int | None = None
+
+    @property
+    def has_entries(self) -> bool:
+        return self.entries is not None
+
+    def choice(self) -> list[Port]:
+        """The memories of which nothing is told, and which wrong read of the others is told."""
+        entry = [Port("input", "entry", ENTRY_BITS)] if self.has_entries else []
+        return [*entry, *super().choice()]
+
+    def result(self) -> list[Port]:
+        found = super().result()
+        if self.has_entries:
+            found += [Port("output", "count", 7), Port("output", "more"), Port("output", "shown", ENTRY_BITS)]
+        return found
+
+    def ring(self, bits: int) -> int:
+        """How many bits a memory gives whose words have so many bits."""
+        return HEAD_BITS + self.entries * (CYCLE + 2 * bits) if self.entries else CYCLE + 2 * bits
 
     def ports(self) -> list[Port]:
         """The bundles."""
@@ -42,6 +67,14 @@ class PlaceTarget(Target):
     def counts_cycles(self) -> bool:
         return False
 
+    @property
+    def shows_each(self) -> bool:
+        return True
+
+    @property
+    def turning(self) -> int:
+        return reading(self.ring(self.word)) + 2 * STEP
+
     def how_planted(self) -> str:
         return "//   +planted +unit=U +bit=B   each word that memory U answers has bit B wrong"
 
@@ -55,8 +88,11 @@ class PlaceTarget(Target):
     def stand_in(self, number: int) -> str:
         """A memory whose test is over after some cycles, and which has failed if a fault is planted in it."""
         bits = self.units[number].memory.bits
-        total = CYCLE + 2 * bits
+        total = self.ring(bits)
         ones = f"{{{bits}'d1 << at_bit, {bits}'d0, 32'd{number + 7}}}"
+        if self.entries:
+            rest = (self.entries - 1) * (CYCLE + 2 * bits)
+            ones = f"{{{f'{rest}{chr(39)}d0, ' if rest else ''}{ones[1:-1]}, 8'd1}}"
         return STAND_IN.substitute(i=number, half=3 + number % 5, over=20 + number, last=total - 1, kept=ones)
 
 
@@ -72,6 +108,16 @@ def length(placed: Placed) -> int:
         march = max(part.unit.length for part in placed.parts)
         found += (lanes_length(placed, second) if macro.masks else 1) + 2 if phase % 2 else march + 2
     return found + 20
+
+
+# of a bit of a first failure the most cycles: twice three of the memory until a step is heard, twice three of the
+# sequencer until that is told, two to begin and to take it, and one more for either clock
+STEP = 2 * 3 + 2 * 3 + 2 + 2
+
+
+def reading(bits: int) -> int:
+    """How many cycles it takes at most until so many bits are read, by the slowest clock."""
+    return STEP * bits + STEP
 
 
 def of_places(system: System) -> PlaceTarget:
@@ -90,10 +136,14 @@ def of_places(system: System) -> PlaceTarget:
         memory.bits = placed.word.bits
         units.append(Unit(memory, f"_{number}"))
     done = sum(max(length(system.collars[number]) for number in group) + 20 for group in groups) + 20
-    return PlaceTarget(system.name, "", units, True, done, system=system, groups=groups)
+    target = PlaceTarget(system.name, "", units, True, done, system=system, groups=groups, entries=system.depth)
+    return dataclasses.replace(target, done=done + reading(target.ring(target.word)))
 
 
 BODY = template(__file__, "sequencer_body.sv")
+ENTRIES = """
+//   entry      of any clock: which wrong read of that memory is told, the first is 0; shown is the one that is told
+//   count      how many of its wrong reads the memory keeps; more   it had more of them"""
 
 
 class Sequencer:
@@ -120,10 +170,13 @@ class Sequencer:
         wide = ranged(self.count)
         vectors = ["begun", "steps", "found"]
         vectors += [f"{name}_{number}" for name in ("over", "bad", "told", "ignore") for number in (1, 2)]
+        entries = ["entry_1", "entry_2", "slot", "picked"] if self.target.has_entries else []
         ones = ("start_1", "start_2", "run", "was_quiet", "reading", "is_read", "turn_over")
         return [
             *(f"  reg {wide}{name};" for name in vectors),
             *(f"  reg {name};" for name in ones),
+            *(f"  reg {ranged(ENTRY_BITS)}{name};" for name in entries),
+            *(["  reg [7:0] head;", "  assign count = head[6:0];", "  assign more = head[7];"] if entries else []),
             f"  reg {ranged(self.turn_bits)}turn;",
             f"  reg {ranged(self.target.unit_bits)}whose;",
             *(f"  reg [1:0] {name};" for name in ("stage", "part")),
@@ -151,6 +204,7 @@ class Sequencer:
             "    start_2 <= start_1;",
             "    ignore_1 <= ignore;",
             "    ignore_2 <= ignore_1;",
+            *(["    entry_1 <= entry;", "    entry_2 <= entry_1;"] if self.target.has_entries else []),
             *(f"    {name}_1 <= {value};" for name, value in values.items()),
             *(f"    {name}_2 <= {name}_1;" for name in parts),
         ]
@@ -174,6 +228,7 @@ class Sequencer:
         bits, count = self.target.unit_bits, self.count
         chosen = "".join(f"{self.bit('open', number)} ? {bits}'d{number} : " for number in range(count - 1))
         lasts = [unit.memory.bits - 1 for unit in self.target.units]
+        head = f"part == 2'd3 ? {self.at_bits}'d7 : " if self.target.has_entries else ""
         return [
             f"  wire {ranged(count)}open = found & ~ignore_2;",
             f"  wire is_open = open != {zero(count)};",
@@ -183,12 +238,37 @@ class Sequencer:
             *(f"      {bits}'d{number}: last = {self.at_bits}'d{last};" for number, last in enumerate(lasts[:-1])),
             f"      default: last = {self.at_bits}'d{lasts[-1]};",
             "    endcase",
-            f"  wire is_last = at == (part == 2'd0 ? {self.at_bits}'d31 : last);",
+            f"  wire is_last = at == ({head}part == 2'd0 ? {self.at_bits}'d31 : last);",
         ]
 
     def part_of(self, width: int) -> str:
         """So many bits of the number of a bit."""
         return "at" if width == self.at_bits else f"at[{width - 1}:0]" if width > 1 else "at[0]"
+
+    def entries(self) -> dict[str, str]:
+        """What is there where each memory keeps several wrong reads: its head comes first, and of the entries the one
+        is taken that was picked."""
+        most = self.target.entries
+        if most is None:
+            blank = dict.fromkeys(("is_shown", "is_picked", "cleared", "begun", "head", "turned", "shown"), "")
+            return {**blank, "first_part": "2'd0", "ends": "part == 2'd2"}
+        at, told = self.part_of(3), "told_2" if self.count == 1 else "told_2[whose]"
+        return {
+            "is_shown": " & shown == entry_2",
+            "is_picked": " && slot == picked",
+            "cleared": "          head <= 8'd0;\n",
+            "begun": f"          picked <= entry_2;\n          slot <= {ENTRY_BITS}'d0;\n",
+            "head": f"            if (part == 2'd3) head[{at}] <= {told};\n",
+            "turned": (
+                "              if (is_last && part == 2'd2) begin\n"
+                "                part <= 2'd0;\n"
+                f"                slot <= slot + {ENTRY_BITS}'d1;\n"
+                "              end\n"
+            ),
+            "shown": "                shown <= picked;\n",
+            "first_part": "2'd3",
+            "ends": f"part == 2'd2 && slot == {ENTRY_BITS}'d{most - 1}",
+        }
 
     def body(self) -> str:
         one = self.count == 1
@@ -207,6 +287,7 @@ class Sequencer:
             told="told_2" if one else "told_2[whose]",
             at_cycle=self.part_of(5),
             at_word=f"[{self.part_of(self.word_bits)}]" if self.word_bits else "",
+            **self.entries(),
         )
 
     def text(self) -> str:
@@ -221,11 +302,12 @@ class Sequencer:
             groups=len(groups),
             groups_told="\n".join(groups),
             memories="\n".join(memories),
+            entries=ENTRIES if self.target.has_entries else "",
         )
         state = [Port("output", name) for name in ("test", "done", "fail", "seen")]
         state[2].width = self.count
         ports = [Port("input", "clk"), Port("input", "start"), *target.choice(), *target.ports()]
         ports += [*state, *target.result()]
-        kept = ("test", "done", "seen", *(port.name for port in target.result()))
+        kept = ("test", "done", "seen", *(port.name for port in target.result() if port.name not in ("count", "more")))
         lines = [*self.declared(), *self.bundles(), self.body()]
         return header(about, f"{target.name}_access", ports, kept) + "\n".join(lines)

@@ -86,6 +86,16 @@ def read_of(elements: list[Element], memory: Memory, answered: int) -> Read:
     return Read(visit.background, visit.element, visit.operation, visit.index, word)
 
 
+def first_read(elements: list[Element], memory: Memory) -> tuple[int, int] | None:
+    """The cycle in which the first read of a test answers, and the word that it expects; nothing if it has no read."""
+    for span in spans(elements, memory):
+        ways = [operation[0] for operation in span.element.operations]
+        if "r" in ways:
+            answered = span.first + ways.index("r") + memory.latency
+            return answered, read_of(elements, memory, answered).expected
+    return None
+
+
 def visit_lines(visit: Visit, element: Element, memory: Memory) -> list[str]:
     """A visit in words."""
     return [

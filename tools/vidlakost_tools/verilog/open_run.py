@@ -323,6 +323,15 @@ def line_of(module: Run, elements: list[Element], memory: Memory) -> str:
 
 def read_module(path: Path) -> Run:
     """The module of a file that the program accepts."""
+    run = read_module_of_any(path)
+    missing = [port for port in ("reset", "rdata", *PORTS) if port not in run.widths]
+    if missing:
+        raise ToolError(f"{path} has no port '{missing[0]}'")
+    return run
+
+
+def read_module_of_any(path: Path) -> Run:
+    """A module of the subset with any ports."""
     text, run = read_described(path), Run()
     try:
         module = Reader(text).module()
@@ -333,9 +342,6 @@ def read_module(path: Path) -> Run:
     except (Unread, KeyError) as error:
         line = text.count("\n", 0, getattr(error, "at", len(text))) + 1
         raise ToolError(f"{path}:{line}: this is not a module of the subset: {error}") from error
-    missing = [port for port in ("reset", "rdata", *PORTS) if port not in run.widths]
-    if missing:
-        raise ToolError(f"{path} has no port '{missing[0]}'")
     return run
 
 
