@@ -20,7 +20,7 @@ from vidlakost_tools.in_place.sequencer import PlaceTarget
 from vidlakost_tools.in_place.text import box
 from vidlakost_tools.text import beside, shown, template
 from vidlakost_tools.tool import ToolError
-from vidlakost_tools.verilog import yosys
+from vidlakost_tools.verilog import misread, yosys
 from vidlakost_tools.verilog.source_texts import blanked, with_included
 
 # of one side: its boxes, its sources, its top, what its memories are called, and the name that the module gets
@@ -216,6 +216,7 @@ def refuse_misread(files: list[str]) -> None:
             line = blanked(source)[0].count("\n", 0, found.start()) + 1
             why = "Yosys takes notif0 for notif1; `assign` with `? :` says what is meant"
             raise ToolError(f"{shown(file)}:{line}: {why}")
+    misread.refuse((file, blanked(source)[0]) for file, source in with_included(files))
 
 
 def is_tied(gold: Side, pin: Pin, placed: Placed, number: int) -> bool:
