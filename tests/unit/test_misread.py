@@ -41,6 +41,28 @@ class Forms(unittest.TestCase):
         # in two modules, and in two blocks
         self.assertEqual(refused(BLOCK.format("a = 1;") + BLOCK.format("a <= 1;")), "")
 
+    def test_race(self) -> None:
+        sets = "  always @(posedge c) n = x;\n"
+        raced = "^'a.v':2: the block sets n with =, and another block reads it at the same edge"
+        for more in (
+            "  always @(posedge c) y <= n;\n",
+            "  wire w = n & a;\n  always @(posedge c or posedge r) if (r) y <= 0; else y <= w;\n",
+            "  assign {w, v[1]} = n;\n  wire u = v[0];\n  always @(posedge c) if (u) y <= a;\n",
+            "  always @* w = n;\n  always_ff @(posedge c) y <= w;\n",
+            "  function f(input i); f = i & n; endfunction\n  always @(posedge c) y <= f(a);\n",
+            "  function f; input i; f = n; endfunction\n  wire w = f(a);\n  always @(posedge c) y <= w;\n",
+        ):
+            self.assertRegex(refused(f"module m;\n{sets}{more}endmodule\n"), raced, more)
+        for more in (
+            "  always @(negedge c) y <= n;\n",
+            "  wire w = n;\n  assign y = w;\n",
+            "  always @(posedge c) begin n2 = x; y <= n2; end\n",
+            "  always @(posedge c) y <= u;\n",
+        ):
+            self.assertEqual(refused(f"module m;\n{sets}{more}endmodule\n"), "", more)
+        loops = "  integer i;\n" + "  always @(posedge c) for (i = 0; i < 3; i = i + 1) {}[i] <= x;\n" * 2
+        self.assertEqual(refused(f"module m;\n{loops.format('y', 'z')}endmodule\n"), "")
+
     def test_inner_index(self) -> None:
         for use in ("a[0][three]", "a[0][4]", "b[0][two + 1]", "a[two][y[0]]", "a[0][two[0] + three]"):
             told = "^'a.v':6: to Yosys an index beyond this range of [ab] is a place"

@@ -7,13 +7,17 @@ from typing import Iterable, Iterator
 
 from vidlakost_tools.text import shown
 from vidlakost_tools.tool import ToolError
-from vidlakost_tools.verilog.simulation import Reader
+from vidlakost_tools.verilog.simulation import Block, Reader
 
 TASK = re.compile(r"\btask\b.*?\bendtask\b", re.DOTALL)
 MODULE = re.compile(r"\bmodule\b.*?(?:\bendmodule\b|\Z)", re.DOTALL)
 RANGE = r"\[[^\[\]]*\]"
 RANGE_NESTED = r"\[(?:[^\[\]]|\[[^\[\]]*\])*\]"
 KIND = r"(?:reg|logic|wire|bit|integer|int|byte|var)"
+NAME = re.compile(r"[A-Za-z_]\w*")
+ASSIGN = re.compile(r"\bassign\b\s*([^=;]*?)=([^;]*);")
+WIRE = re.compile(r"\bwire\b([^=;()]*?)=([^;]*);")
+FUNCTION = re.compile(r"\bfunction\b[^;(]*?(\w+)\s*[;(](.*?)\bendfunction\b", re.DOTALL)
 # a declaration of names with two unpacked ranges at least
 ARRAYS = re.compile(rf"\b{KIND}\b[^;()]*?;")
 ARRAY = re.compile(rf"([A-Za-z_]\w*)\s*((?:{RANGE}\s*){{2,}})(?=[,;=])")
@@ -24,6 +28,7 @@ WORD = re.compile(
 LOOP = re.compile(r"\bfor\s*\(\s*(?:int(?:eger)?\s+|genvar\s+)?(\w+)\s*=\s*(\d+)\s*;\s*(\w+)\s*(<=?)\s*(\d+)\s*;")
 TASK_WHY = "Yosys copies no inout of a task back; an input and an output of their own say the same"
 BOTH_WHY = "the block sets {} with = and with <=, of which to Yosys the last in the text wins; set it with one of both"
+RACE_WHY = "the block sets {} with =, and another block reads it at the same edge, be it by a wire; set it with <="
 INNER_WHY = "to Yosys an index beyond this range of {} is a place of another row; one range, with an index such as "
 INNER_WHY += "{{row, column}}, says the same"
 
@@ -39,7 +44,53 @@ def forms(text: str) -> Iterator[tuple[int, str]]:
             both = sorted(block.sets(True) & block.sets(False))
             if both:
                 yield module.start() + block.at, BOTH_WHY.format(both[0])
+        yield from races(module[0], module.start())
         yield from inner_indices(module[0], module.start())
+
+
+def hanging(module: str, blocks: list[Block]) -> dict[str, set[str]]:
+    """Of wires, functions and signals of blocks without an edge the names on which they hang."""
+    found: dict[str, set[str]] = {}
+    for match in [*ASSIGN.finditer(module), *WIRE.finditer(module)]:
+        for name in NAME.findall(re.sub(RANGE, " ", match[1])):
+            found.setdefault(name, set()).update(NAME.findall(match[2]))
+    for match in FUNCTION.finditer(module):
+        found.setdefault(match[1], set()).update(NAME.findall(match[2]))
+    for block in blocks:
+        if not block.is_clocked:
+            read = {event.name for event in block.events if not event.is_set} | calls(module, block)
+            for name in (event.name for event in block.events if event.is_set):
+                found.setdefault(name, set()).update(read)
+    return found
+
+
+def calls(module: str, block: Block) -> set[str]:
+    """The names of a block behind which a parenthesis begins, as of functions."""
+    return set(re.findall(r"\b(\w+)\s*\(", module[block.at : block.end]))
+
+
+def races(module: str, begin: int) -> Iterator[tuple[int, str]]:
+    """The blocks that set something with = at an edge at which another block reads it, be it by way of wires or
+    functions: the language has no order between both."""
+    blocks = list(Reader(module).blocks())
+    clocked = [block for block in blocks if block.is_clocked]
+    if not any(block.sets(True) for block in clocked):
+        return
+    hangs = hanging(module, blocks)
+    read = [set(block.first_read()) | calls(module, block) for block in clocked]
+    for names in read:
+        todo = list(names)
+        while todo:
+            more = hangs.get(todo.pop(), set()) - names
+            names |= more
+            todo += more
+    for block in clocked:
+        for other, names in zip(clocked, read):
+            raced = sorted(block.sets(True) & names)
+            is_one = block.edges & other.edges or not block.edges or not other.edges
+            if other is not block and raced and is_one:
+                yield begin + block.at, RACE_WHY.format(raced[0])
+                break
 
 
 def range_of(text: str) -> tuple[int, int] | None:
