@@ -317,6 +317,31 @@ def wrong_places(bench: Bench, chip: Chip) -> None:
         path.write_text(right)
 
 
+# what is wrong at the top of the camera, a part of it and what stands there in its place, and what has to be told
+WRONG_TOPS = [
+    ("", "", "camera_places_tb: passed"),
+    (".tdo_en(tdo_en)", ".tdo_en()", "camera: tdo_en is not 1 in a scan"),
+    (".clk(clk), .test", ".clk(dot_clk), .test", "camera: the clock of the sequencer is 1 while clk is 0"),
+    ("tdo tdo_en", "tdo", "camera: tdo is driven outside scans: name the port of tdo_en"),
+]
+
+
+def wrong_tops(bench: Bench) -> None:
+    """A chip in which the TAP drives TDO always, or the sequencer has another clock, is told by what it is about."""
+    bench.run(["tools/top", CAMERA, *PLACED, "tops", "--in-place"])
+    bench.run(["tools/access", CAMERA, *PLACED, "tops", "--in-place", "--jtag"])
+    texts = {name: (bench.folder / f"examples/in_place/{name}").read_text() for name in ("camera.v", "camera.places")}
+    for old, new, told in WRONG_TOPS:
+        made = {name: text.replace(old, new) if old else text for name, text in texts.items()}
+        (bench.folder / "top.v").write_text(made["camera.v"])
+        places = re.sub("(?m)^before .*\n", "", made["camera.places"])
+        (bench.folder / "top.places").write_text(places.replace("source examples/in_place/camera.v", "source top.v"))
+        bench.run(["tools/places", "top.places", CAMERA, *PLACED, "tops"])
+        done = bench.run(["bash", "-c", "cd tops && iverilog -g2012 -o tb -c camera_places.f && vvp -n tb"])
+        is_so = told in done.stdout and bool(done.returncode) == bool(old)
+        bench.is_so(is_so, f"{old!r} is {new!r}: {done.stdout}{done.stderr}")
+
+
 def is_left_out() -> bool:
     if shutil.which("iverilog"):
         return False
@@ -335,6 +360,7 @@ def in_place(bench: Bench) -> None:
         chip.plays_bus()
     highest_bit(bench, chip)
     wrong_places(bench, chip)
+    wrong_tops(bench)
     Chip(bench, True, False, ["--sib"]).plays_files(["svf", "pdl"])
 
 

@@ -11,11 +11,14 @@ each of these (`#` begins a comment):
     before FILE                    a source of the chip as it was, with its macros
     at MEMORY PATH [was PATH]      the instance of a memory, from the top on, as core.bank.words; was, if the instance
                                    of its macro had another name
-    access PATH                    the instance of NAME_access; in NAME_tap or NAME_apb its name is tested
+    access PATH [CLOCK]            the instance of NAME_access; in NAME_tap or NAME_apb its name is tested. CLOCK is the
+                                   port whose clock it has, which is compared if it is named
     clock PORT NANOSECONDS         a clock of the chip, with its period
     set PORT VALUE                 an input that keeps a value; all others are 0 in use, and unknown in test
     start PORT, done PORT, fail PORT           the ports that start the test and show its state, a line for each; or
-    tap TCK TMS TDI TRST_N TDO     those of the TAP that `vidlakost access --in-place --jtag` writes
+    tap TCK TMS TDI TRST_N TDO [TDO_EN]
+                                   those of the TAP that `vidlakost access --in-place --jtag` writes. Without TDO_EN TDO
+                                   has to be off outside scans
 The lines source, before, at, clock and set may come many times. places writes to FOLDER
     NAME_places_tb.sv   a testbench of the chip. First it compares both ends of each bit of each bundle, one bit at a
                         time. Then it runs the test by the ports of the chip, and compares it with what the sequencer

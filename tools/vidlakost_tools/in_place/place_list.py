@@ -23,13 +23,13 @@ FORMS = {
     "source": "source FILE",
     "before": "before FILE",
     "at": "at MEMORY PATH [was PATH]",
-    "access": "access PATH",
+    "access": "access PATH [CLOCK]",
     "clock": "clock PORT NANOSECONDS",
     "set": "set PORT VALUE",
     "start": "start PORT",
     "done": "done PORT",
     "fail": "fail PORT",
-    "tap": "tap TCK TMS TDI TRST_N TDO",
+    "tap": "tap TCK TMS TDI TRST_N TDO [TDO_EN]",
 }
 MANY = ("source", "before", "at", "clock", "set")
 TAP_PINS = ("tck", "tms", "tdi", "trst_n", "tdo")
@@ -54,6 +54,8 @@ class Places:
     before: list[str] = dataclasses.field(default_factory=list)
     places: dict[str, Place] = dataclasses.field(default_factory=dict)
     access: str = ""
+    # the chip's clock of the sequencer, if that is named
+    access_clock: str = ""
     # the period of each clock, in nanoseconds
     clocks: dict[str, int] = dataclasses.field(default_factory=dict)
     values: dict[str, str] = dataclasses.field(default_factory=dict)
@@ -79,8 +81,8 @@ class Places:
             self.places[rest[0]] = Place(rest[1], rest[3] if rest[3:] else rest[1], line)
             return True
         if word == "tap":
-            self.start.update(zip(TAP_PINS, rest))
-            return len(rest) == 5 and all(map(is_name, rest))
+            self.start.update(zip((*TAP_PINS, "tdo_en"), rest))
+            return len(rest) in (5, 6) and all(map(is_name, rest))
         if word == "clock":
             if len(rest) != 2 or not re.fullmatch("[1-9][0-9]{0,5}", rest[1]):
                 return False
@@ -93,6 +95,8 @@ class Places:
             self.refuse_twice(line, rest[0], self.values)
             self.values[rest[0]] = rest[1]
             return is_name(rest[0])
+        if word == "access" and len(rest) == 2:
+            self.access_clock = rest.pop()
         if len(rest) != 1:
             return False
         return self.named(word, rest[0])
@@ -137,6 +141,8 @@ def read_places(path: str, system: System) -> Places:
     if missing:
         raise found.refuse(0, f"no line for {', '.join(missing)}")
     refuse_starts(found, seen)
+    if found.access_clock and found.access_clock not in found.clocks:
+        raise found.refuse(seen["access"], f"no line 'clock' is for {found.access_clock}")
     refuse_names(found, system)
     found.ports = ports_of(found)
     refuse_widths(found, len(system.collars))
@@ -188,7 +194,7 @@ def ports_of(places: Places) -> list[Found]:
     unknown = next((port.name for port in ports if not port.width or port.way == "inout"), None)
     if unknown:
         raise places.refuse(0, f"{unknown} of {places.chip} is an inout, or its width is not a number")
-    outputs = [places.start[word] for word in ("done", "fail", "tdo") if word in places.start]
+    outputs = [places.start[word] for word in ("done", "fail", "tdo", "tdo_en") if word in places.start]
     inputs = [*places.clocks, *places.values, *(name for name in places.start.values() if name not in outputs)]
     for names, way in ((inputs, "input"), (outputs, "output")):
         for name in names:

@@ -18,6 +18,15 @@ from vidlakost_tools.verilog.bench_end import FINISH, over, progress
 from vidlakost_tools.verilog.syntax import ranged
 
 
+OWN_CLOCK = """  // the sequencer has the clock of the chip's that is named
+  always @(c_{clock} or dut.{access}.clk) begin
+    #0.01;
+    if (!is_probed && in_test === 1'b1 && dut.{access}.clk !== c_{clock})
+      $fatal(1, "{name}: the clock of the sequencer is %b while {clock} is %b", dut.{access}.clk, c_{clock});
+  end
+"""
+
+
 class ChipBench:
     """The testbench that is being written."""
 
@@ -100,8 +109,27 @@ class ChipBench:
             loads="\n".join(loads),
             budget=self.system.budget,
             order="\n".join(order),
+            own_clock=self.own_clock(),
             clocks=f"{{dut.{access}.clk, {self.joined(self.clock)}}}",
         )
+
+    def own_clock(self) -> str:
+        """Whether the clock of the sequencer is that of the chip's which is named."""
+        name = self.places.access_clock
+        if not name:
+            return ""
+        return OWN_CLOCK.format(name=self.system.name, clock=name, access=self.places.access)
+
+    def driven(self) -> tuple[str, str]:
+        """In a scan TDO is driven, and outside it is off, or the chip tells so by a port."""
+        name, start = self.system.name, self.places.start
+        port = start.get("tdo_en")
+        if port is None:
+            told = f"{start.get('tdo')} is driven outside scans: name the port of tdo_en behind it in the line tap"
+            return "", f'      if (c_{start.get("tdo")} !== 1\'bz) $fatal(1, "{name}: {told}");\n'
+        scan, rest = (f"{port} is not {bit} {where} a scan" for bit, where in ((1, "in"), (0, "outside")))
+        inside = f'        if (c_{port} !== 1\'b1) $fatal(1, "{name}: {scan}");\n'
+        return inside, f'      if (c_{port} !== 1\'b0) $fatal(1, "{name}: {rest}");\n'
 
     # ---- the ways to start
 
@@ -145,6 +173,7 @@ class ChipBench:
                 f"            $fatal(1, {read});",
                 "        end",
             ]
+        values["in_scan"], values["at_rest"] = self.driven()
         way = TAP if places.has_tap else SIGNALS
         values["whose"] = extended(f"dut.{places.access}.unit", target.unit_bits, 32)
         if places.has_tap:
