@@ -19,6 +19,8 @@ each of these (`#` begins a comment):
     tap TCK TMS TDI TRST_N TDO [TDO_EN]
                                    those of the TAP that `vidlakost access --in-place --jtag` writes. Without TDO_EN TDO
                                    has to be off outside scans
+    under BITS CODE                the TAP is the chip's own: so many bits has its instruction, and CODE, in hexadecimal
+                                   digits, that by which it selects NAME_register of `access --in-place --under-tap`
 The lines source, before, at, clock and set may come many times. places writes to FOLDER
     NAME_places_tb.sv   a testbench of the chip. First it compares both ends of each bit of each bundle, one bit at a
                         time. Then it runs the test by the ports of the chip, and compares it with what the sequencer
@@ -66,9 +68,11 @@ def listed(folder: pathlib.Path, target: PlaceTarget, places: Places) -> list[st
         told = f"{folder} has no {target.name}_access.v in its files.f"
         raise ToolError(f"{told}: give the folder that `vidlakost top --in-place` wrote")
     own = [line for line in lines_of(read_described(files)) if line and not line.startswith("//")]
-    reach = [f"{target.name}_{what}.v" for what in ("tap", "apb", "cross")]
-    if places.has_tap and not (folder / reach[0]).is_file():
-        raise ToolError(f"{folder} has no {reach[0]}: `vidlakost access --in-place --jtag` writes it")
+    own_tap, *others = (f"{target.name}_{what}.v" for what in ("tap", "register", "apb", "cross"))
+    reach, needed = [own_tap, *others], others[0] if places.under[0] else own_tap
+    if places.has_tap and not (folder / needed).is_file():
+        way = "--under-tap" if places.under[0] else "--jtag"
+        raise ToolError(f"{folder} has no {needed}: `vidlakost access --in-place {way}` writes it")
     found = [name for name in reach if (folder / name).is_file()]
     sources = [os.path.relpath(os.path.realpath(file), os.path.realpath(folder)) for file in places.sources]
     odd = next((name for name in sources if any(letter in name for letter in " \t\"#")), None)
@@ -111,6 +115,8 @@ def judged(target: PlaceTarget, places: Places, is_alone: bool) -> Outcome:
     with bounded.folder_of_its_own() as folder:
         proof = places_proof.Proof(target, places, folder)
         found = proof.differences()
+        if places.under[0]:
+            tell(f"places: what stands before {places.start['tdo']} is not compared, since the register leaves by it")
         print("\n".join([f"{target.name}: in use {line}" for line in found or [USUAL]]))
         by_yosys = {"Yosys": found[0] if found else USUAL}
         if found:

@@ -29,6 +29,7 @@ FORMS = {
     "start": "start PORT",
     "done": "done PORT",
     "fail": "fail PORT",
+    "under": "under BITS CODE",
     "tap": "tap TCK TMS TDI TRST_N TDO [TDO_EN]",
 }
 MANY = ("source", "before", "at", "clock", "set")
@@ -62,6 +63,8 @@ class Places:
     # the ports by which the test is started: start, done and fail, or those of a TAP
     start: dict[str, str] = dataclasses.field(default_factory=dict)
     ports: list[Found] = dataclasses.field(default_factory=list)
+    # of a TAP that the chip had before the bits of an instruction, and the one of the register; (0, 0) of ours
+    under: tuple[int, int] = (0, 0)
 
     def refuse(self, line: int, why: str) -> ToolError:
         return ToolError(f"{self.path}:{line}: {why}" if line else f"{self.path}: {why}")
@@ -83,6 +86,8 @@ class Places:
         if word == "tap":
             self.start.update(zip((*TAP_PINS, "tdo_en"), rest))
             return len(rest) in (5, 6) and all(map(is_name, rest))
+        if word == "under":
+            return self.is_under(rest)
         if word == "clock":
             if len(rest) != 2 or not re.fullmatch("[1-9][0-9]{0,5}", rest[1]):
                 return False
@@ -100,6 +105,13 @@ class Places:
         if len(rest) != 1:
             return False
         return self.named(word, rest[0])
+
+    def is_under(self, rest: list[str]) -> bool:
+        """The instruction by which the chip's own TAP selects the register."""
+        if len(rest) != 2 or not re.fullmatch("[1-9][0-9]?", rest[0]) or not re.fullmatch("[0-9a-fA-F]{1,16}", rest[1]):
+            return False
+        self.under = (int(rest[0]), int(rest[1], 16))
+        return not self.under[1] >> self.under[0]
 
     def refuse_twice(self, line: int, port: str, told: Mapping[str, object]) -> None:
         """A port has one clock, or one value."""
@@ -154,6 +166,8 @@ def refuse_starts(places: Places, seen: dict[str, int]) -> None:
     signals = [word for word in ("start", "done", "fail") if word in seen]
     if ("tap" in seen) == bool(signals) or signals and len(signals) < 3:
         raise places.refuse(0, "write either the lines start, done and fail, or the line tap")
+    if "under" in seen and "tap" not in seen:
+        raise places.refuse(seen["under"], "the line under needs the line tap")
 
 
 def refuse_names(places: Places, system: System) -> None:

@@ -18,6 +18,10 @@ from vidlakost_tools.verilog.bench_end import FINISH, over, progress
 from vidlakost_tools.verilog.syntax import ranged
 
 
+IDENTIFIED = """      heard = {length}'d0;
+      shift(32, {length}'d0);
+      if (heard[31:0] !== 32'h{identity:08x}) $fatal(1, "{name}: the identity is %h", heard[31:0]);
+"""
 OWN_CLOCK = """  // the sequencer has the clock of the chip's that is named
   always @(c_{clock} or dut.{access}.clk) begin
     #0.01;
@@ -120,6 +124,14 @@ class ChipBench:
             return ""
         return OWN_CLOCK.format(name=self.system.name, clock=name, access=self.places.access)
 
+    def instruction(self) -> dict[str, Any]:
+        """By which instruction the register is reached, and what is looked at before: our own TAP has an identity."""
+        bits, code = self.places.under
+        if bits:
+            return {"ir_top": bits - 1, "instruction": f"{bits}'h{code:x}", "identified": ""}
+        told = IDENTIFIED.format(name=self.system.name, length=tap.length(self.target), identity=self.target.identity)
+        return {"ir_top": tap.IR_BITS - 1, "instruction": "4'h8", "identified": told}
+
     def driven(self) -> tuple[str, str]:
         """In a scan TDO is driven, and outside it is off, or the chip tells so by a port."""
         name, start = self.system.name, self.places.start
@@ -179,7 +191,7 @@ class ChipBench:
         if places.has_tap:
             at = {part.name: part.bits for part in tap.parts(target)}
             size = tap.length(target)
-            values.update(last=size - 1, length=size, rest=size - self.count, identity=target.identity)
+            values.update(last=size - 1, length=size, rest=size - self.count, **self.instruction())
             values.update({name: at[name] for name in ("failing", "cycle")})
             values.update(wanted=at["expected"], got=at["returned"])
             values["whose"] = extended(f"heard{at['unit']}", target.unit_bits, 32)
