@@ -211,10 +211,11 @@ class Verdicts(unittest.TestCase):
         self.assertEqual(witness.refusal("audit", ToolError("x", 1)).line(), "audit: refused")
 
     def test_who_is_asked(self) -> None:
-        for files, options, why in (
+        rows: list[tuple[list[str], dict[str, Any], str]] = [
             (["a.v", "b.vhd"], {}, "no simulator clocks Verilog and VHDL together"),
             (["a.v"], {"--liberty": ["l"]}, "the cells of a library have no Verilog"),
-        ):
+        ]
+        for files, options, why in rows:
             with self.assertRaisesRegex(Unclocked, why):
                 witness.clocked(witness.Asked("audit", files, options, PLAIN))
         with mock.patch("shutil.which", return_value=None):
