@@ -10,7 +10,8 @@ usage: vidlakost formal                                    a dozen marches and m
 Every register is open in cycle 0, the cycle of the reset. Every word on `rdata` is open in every cycle. In each cycle
 to the end of the test, and in three cycles after it, all ports have to be as the list of `vectors` says, and `fail` as
 these words say. Of modules that the program wrote formal shares only that list with the program. A module of yours is
-read by Yosys (VHDL by GHDL first), as `audit` reads it. So formal, too, has a simulator clock the sources beside what Yosys makes of them.
+read by Yosys (VHDL by GHDL first), as `audit` reads it. So formal, too, has a simulator clock the sources beside what
+Yosys makes of them.
 With --resets the reset may come again in any cycle, and each reset begins the test anew. That takes longer, and is for
 the smallest memories. formal judges the first of the dozen so too.
 What nothing drives is open in every cycle. formal ignores initial values. It refuses a signal with two drivers, a

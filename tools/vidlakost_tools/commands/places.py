@@ -29,12 +29,12 @@ The lines source, before, at, clock and set may come many times. places writes t
                         first failure. +planted=MEMORY plants at that memory alone
     NAME_places.f       what a simulator has to read
 If PLACES has lines `before`, Yosys proves that in use each pin of each memory, each flip-flop and each output of the
-chip has what it had before. places prints each one that differs; the status is then 1. Where all is proved Icarus clocks
-both chips, for 20,000 random cycles of use, with memories that answer random words; places refuses a pin of a memory or
-an output that differs, since the sources then mean two things. The last line is `places: right`, `wrong`, `unknown` or
-`refused`, and what was seen. Without Icarus it is `places: unknown: right as Yosys reads it, not simulated`, with the
-status 1; with --no-simulate it is `places: right as Yosys reads it, not simulated`, with the status 0. --json writes the
-verdict to FILE, for scripts. Without Yosys places says that nothing was proved.
+chip has what it had before. places prints each one that differs; the status is then 1. Where all is proved Icarus
+clocks both chips, for 20,000 random cycles of use, with memories that answer random words; places refuses a pin of a
+memory or an output that differs, since the sources then mean two things. The last line is `places: right`, `wrong`,
+`unknown` or `refused`, and what was seen. Without Icarus it is `places: unknown: right as Yosys reads it, not
+simulated`, with the status 1; with --no-simulate it is `places: right as Yosys reads it, not simulated`, with the
+status 0. --json writes the verdict to FILE, for scripts. Without Yosys places says that nothing was proved.
     cd FOLDER && iverilog -g2012 -o tb -c NAME_places.f && vvp -n tb && vvp -n tb +planted"""
 from __future__ import annotations
 
