@@ -183,7 +183,8 @@ class InPlaceFlow(unittest.TestCase):
                 (folder / "Makefile").write_text(text)
                 (folder / theirs).parent.mkdir(exist_ok=True)
                 (folder / theirs).write_text("mine\n")
-                done = subprocess.run(["make", "reports.html"], cwd=folder, stderr=subprocess.PIPE, text=True, check=False)
+                make = ["make", "reports.html"]
+                done = subprocess.run(make, cwd=folder, stderr=subprocess.PIPE, text=True, check=False)
                 self.assertEqual(done.returncode, 2)
                 self.assertIn("is there, and this makefile did not make it", done.stderr)
                 self.assertEqual((folder / theirs).read_text(), "mine\n")

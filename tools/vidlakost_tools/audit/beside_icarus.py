@@ -227,6 +227,19 @@ def refuse_sources(files: list[str]) -> None:
             raise Unclocked(f"{shown(file)}:{line}: {found[0]} would reach out of the simulation", 1)
 
 
+ASKS = re.compile(r"\b__ICARUS(?:__|_SYNTH__)\b")
+
+
+def refuse_asking(files: list[str]) -> None:
+    """Believes nothing of sources that ask whether Icarus reads them, since no other tool reads what it does then."""
+    for file, source in with_included(files):
+        found = next((match for text in blanked(source) for match in ASKS.finditer(text)), None)
+        if found:
+            line = source.count(chr(10), 0, found.start()) + 1
+            why = "it asks whether Icarus reads it, so other tools read something else"
+            raise Unclocked(f"{shown(file)}:{line}: {why}", 1)
+
+
 def how_far(out: pathlib.Path) -> str:
     """The cycle at which a run is."""
     found = re.findall(r"^at (\d+)$", out.read_text(encoding="utf-8", errors="replace"), re.MULTILINE)
@@ -292,6 +305,7 @@ def beside(asked: Beside) -> Seen:
     if shutil.which("iverilog") is None or shutil.which("vvp") is None:
         raise Unclocked("Icarus (iverilog and vvp) is not on the PATH", 1)
     refuse_sources(asked.files)
+    refuse_asking(asked.files)
     with bounded.folder_of_its_own() as folder:
         made = dataclasses.replace(asked.plain, name="vidlakost_made")
         (folder / "made.v").write_text(made.text(), encoding="utf-8")

@@ -12,7 +12,7 @@ from typing import Any, Mapping
 from vidlakost_tools import bounded
 from vidlakost_tools.text import LARGE_BYTES, Path, beside, lines_of, read_bytes, shown, template
 from vidlakost_tools.tool import ToolError, identifier
-from vidlakost_tools.verilog import known_cells, simulation, two_meanings, unread
+from vidlakost_tools.verilog import known_cells, misread, simulation, two_meanings, unread
 from vidlakost_tools.verilog.rtlil import driven_constant, driven_twice, without_initial, written_contents
 from vidlakost_tools.verilog.source_texts import OPENED, Sources, asked, blanked, opened, with_included, with_members
 
@@ -152,6 +152,7 @@ DIVISIONS = ("$div", "$mod", "$divfloor", "$modfloor")
 def read(files: list[str], options: Mapping[str, Any], folder: pathlib.Path) -> Sources:
     """The sources; a signal with two drivers is refused."""
     asks = asked(files)
+    misread.refuse((file, blanked(source)[0]) for file, source in with_included(files) if not is_in(folder, file))
     given, raw, plain, first, parts = (
         folder / name for name in ("given.il", "raw.il", "plain.il", "first.il", "first.json")
     )
