@@ -59,6 +59,7 @@ CALLS: List[Call] = [
     Call(f"tools/formal list_short.v {TEST}", 1, "formal: refused: ", "formal: 'list_short.v':38", "yosys iverilog"),
     Call("tools/plain out.v list_short.v", 1, "", "plain: 'list_short.v':38: the block reads reset", "yosys iverilog"),
     audited("cells.v", prints=EXACT, options="--liberty three_state.lib"),
+    Call(f"tools/audit cells.v {TEST} --liberty three_state.lib", 0, SEEN, "", "yosys iverilog"),
     audited(
         "cells_off.v",
         status=1,

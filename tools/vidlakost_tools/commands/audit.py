@@ -35,7 +35,8 @@ every word on rdata. A save file for GTKWave comes with it, at the cycle that wa
                              themselves beside the module that Yosys makes of them. It clocks random cycles, with random
                              resets and registers, and the whole test from two seeds, with right and with wrong
                              answers; of a test of more than 300,000 cycles the beginning, the end, each border of
-                             elements, and random stretches. audit refuses a port that differs
+                             elements, and random stretches. audit refuses a port that differs. The cells of a
+                             library are clocked as Yosys reads their functions
 --no-simulate has no simulator clock the sources.
 --json writes to FILE, for scripts: the verdict, each witness with its version and what it saw, the cycle and the port
 with what is due there and what it is, and the SHA-256 of each input.
