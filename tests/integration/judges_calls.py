@@ -5,6 +5,7 @@ from typing import List
 
 from tests.integration.call import Call
 from tests.integration.judges import (
+    CELLS,
     COMPILE,
     EXACT,
     IDLE,
@@ -179,6 +180,7 @@ CALLS: List[Call] = [
     clocked("signed.v", prints=SEEN),
     audited("signed_half.v", status=1, prints="audit: wrong: fail is 0 in cycle 15 though"),
     Call(in_shell(netlist("counts.v", "counts_gates.v")), prints=EXACT, needs="yosys"),
+    Call(in_shell(CELLS), prints=SEEN, needs="yosys iverilog"),
     Call(
         in_shell(netlist("counts_on.v", "counts_on_gates.v")),
         status=1,

@@ -85,8 +85,10 @@ def clocked(asked: Asked) -> Seen:
     if shutil.which("iverilog") is None:
         raise Unclocked("Icarus (iverilog and vvp) is not on the PATH", 1)
     texts = [source for _, source in source_texts.with_included(asked.files)]
-    cells = known_cells.cells_of(asked.options, texts) + yosys.library_models(asked.options, texts)
-    return beside_icarus.beside(Beside(asked.files, asked.plain, asked.pins, asked.memory, cells, test=asked.test))
+    generic = known_cells.generic(texts)
+    cells = known_cells.cells_of(asked.options, texts) + generic + yosys.library_models(asked.options, texts)
+    beside = Beside(asked.files, asked.plain, asked.pins, asked.memory, cells, test=asked.test)
+    return beside_icarus.beside(dataclasses.replace(beside, is_set="\\$_" not in generic or "reg" not in generic))
 
 
 def outcome(asked: Asked, told: str, usual: str, witnesses: dict[str, str]) -> Outcome:
