@@ -81,6 +81,8 @@ class Beside:
     cycles: int = CYCLES
     test: Whole | None = None
     seed: int = 1
+    # a register in a cell of Yosys' own has no name in the sources
+    is_set: bool = True
     nonce: str = dataclasses.field(default_factory=lambda: f"s{secrets.token_hex(8)}")
 
     def known(self) -> str:
@@ -118,7 +120,7 @@ class Beside:
         these. A signal of which some bits are no registers is set where no other has its bits, and is said to have
         none."""
         bits: dict[str, dict[int, str]] = {}
-        for register in self.plain.registers:
+        for register in self.plain.registers if self.is_set else ():
             for index, origin in enumerate(self.plain.origins.get(register.name, [])):
                 made = f"{made_in}{register.name}[{index}]" if register.width > 1 else f"{made_in}{register.name}"
                 for name, at in origin:

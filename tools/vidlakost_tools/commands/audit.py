@@ -32,7 +32,8 @@ audit reports in this order:
                              sources themselves beside the module that Yosys makes of them. It clocks random cycles,
                              with random resets and registers, and the whole test from two seeds, with right and with
                              wrong answers; of a test of more than 300,000 cycles the beginning, the end, each border of
-                             elements, and random stretches. audit refuses a port that differs
+                             elements, and random stretches. audit refuses a port that differs. The cells of a
+                             library are clocked as Yosys reads their functions
 --vcd writes the run of `check` to FILE, beside the ports that are due. Every register is open at first, and so is
 every word on rdata. A save file for GTKWave comes with it, at the cycle that was found, unless one of yours is there.
 --limit ends the look at `fail` after so many seconds (600); the verdict is then no yes.

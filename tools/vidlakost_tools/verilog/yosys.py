@@ -49,6 +49,20 @@ def libraries_of(options: Mapping[str, Any]) -> str:
     return "".join(f"read_liberty -ignore_miss_func {sources_of([file])}\n" for file in options.get("--liberty", []))
 
 
+MODEL = re.compile(r"^module (\w+)\(.*?^endmodule$", re.MULTILINE | re.DOTALL)
+
+
+def library_models(options: Mapping[str, Any], texts: list[str]) -> str:
+    """The cells of the libraries that texts name, in Verilog, as Yosys reads their functions."""
+    if not options.get("--liberty"):
+        return ""
+    with bounded.folder_of_its_own() as folder:
+        run(f"{libraries_of(options)}write_verilog -noattr {quoted(folder / 'cells.v')}\n", folder, "-q")
+        written = (folder / "cells.v").read_text(encoding="utf-8", errors="replace")
+    named = set(re.findall(r"\w+", " ".join(texts)))
+    return "\n\n".join(match[0] for match in MODEL.finditer(written) if match[1] in named) + "\n"
+
+
 class Slow(ToolError):
     """Yosys took longer than it may."""
 
