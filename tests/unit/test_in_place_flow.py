@@ -2,6 +2,7 @@
 itself, and OpenSTA may tell of those pins alone to which no path goes."""
 from __future__ import annotations
 
+import itertools
 import os
 import pathlib
 import re
@@ -175,16 +176,16 @@ class InPlaceFlow(unittest.TestCase):
 
     @unittest.skipIf(shutil.which("make") is None, "make runs the steps")
     def test_what_stands_there_before_stays(self) -> None:
-        """No step is done where a folder or a file of its name is somebody's."""
+        """No step is done, and nothing is cleaned, where a folder or a file of its name is somebody's."""
         text = self.flow(self.places).text()
-        for theirs in ("reports.html", "late/run.log", "chip/tb"):
-            with tempfile.TemporaryDirectory() as name:
+        files = ("reports.html", "reports.html.sums", "reports.html.read", "late/run.log", "chip/tb", "chip/passed")
+        for theirs, word in itertools.product(files, ("reports.html", "clean")):
+            with self.subTest(theirs=theirs, word=word), tempfile.TemporaryDirectory() as name:
                 folder = pathlib.Path(name)
                 (folder / "Makefile").write_text(text)
                 (folder / theirs).parent.mkdir(exist_ok=True)
                 (folder / theirs).write_text("mine\n")
-                make = ["make", "reports.html"]
-                done = subprocess.run(make, cwd=folder, stderr=subprocess.PIPE, text=True, check=False)
+                done = subprocess.run(["make", word], cwd=folder, stderr=subprocess.PIPE, text=True, check=False)
                 self.assertEqual(done.returncode, 2)
                 self.assertIn("is there, and this makefile did not make it", done.stderr)
                 self.assertEqual((folder / theirs).read_text(), "mine\n")

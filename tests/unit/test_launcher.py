@@ -259,6 +259,14 @@ class Launcher(unittest.TestCase):
         self.prove()
         self.assertEqual(self.call("bench").stdout, "proved\n")
 
+    def test_a_release_without_its_program_says_so(self) -> None:
+        self.plant().unlink()
+        (self.root / "RELEASE").write_text("vidlakost 1\n")
+        done = self.call("bench")
+        self.assertEqual(done.returncode, 125)
+        self.assertIn("this release has no program", done.stderr)
+        self.assertNotIn("unproved", done.stderr)
+
     def test_what_others_may_write_of_a_release_is_not_taken(self) -> None:
         planted = self.plant()
         (self.root / "RELEASE").write_text("vidlakost 1\ncommit 1, 2026-12-01\nproved with kit\nneeds nothing\n")

@@ -1,6 +1,7 @@
 """What is looked at of a release before anything of it runs, and an installation from an unpacked one."""
 from __future__ import annotations
 
+import contextlib
 import hashlib
 import io
 import pathlib
@@ -11,7 +12,9 @@ import tarfile
 import tempfile
 import unittest
 from typing import Iterable
+from unittest import mock
 
+from vidlakost_tools.commands import release
 from vidlakost_tools.commands.release import pack
 from vidlakost_tools.pages import debian, installing, unpacking
 from vidlakost_tools.program import tagged
@@ -30,6 +33,7 @@ def sum_of(content: bytes) -> str:
 def released(**changed: bytes) -> dict[str, tuple[bytes, bool]]:
     """The files of a small release with their list; what is changed is not as the list has it."""
     files = {"README.md": (b"read me\n", False), PROGRAM: (b"program\n", True), "vidlakost": (b"launcher\n", True)}
+    files["RELEASE"] = b"vidlakost 1\n", False
     files["SHA256SUMS"] = "".join(f"{sum_of(files[name][0])}  {name}\n" for name in sorted(files)).encode(), False
     for name, content in changed.items():
         files[name] = content, files.get(name, (b"", False))[1]
@@ -200,6 +204,73 @@ class Installed(unittest.TestCase):
         (self.home / "vidlakost").symlink_to(outside / "vidlakost")
         self.refused("no installation wrote it")
         self.assertEqual((outside / "vidlakost").read_text(), "mine\n")
+
+    def test_a_list_of_others_stays(self) -> None:
+        """A list of sums in the place of ours, with or without a RELEASE beside it that it doesn't list."""
+        self.home.mkdir(parents=True)
+        mine, other = self.home / "SHA256SUMS", self.home / "RELEASE"
+        for text in ("mine\n", f"{sum_of(b'mine')}  mine\n", f"{sum_of(b'other')}  RELEASE\n"):
+            mine.write_text(text)
+            self.refused("no installation wrote it")
+            self.assertEqual(mine.read_text(), text)
+            self.assertFalse(other.exists())
+
+
+class Handed(unittest.TestCase):
+    def home(self, name: str) -> pathlib.Path:
+        """A release as it stands unpacked, with the tools of this checkout and without its program."""
+        home = pathlib.Path(name) / "home"
+        shutil.copytree(ROOT / "tools" / "vidlakost_tools", home / "tools" / "vidlakost_tools")
+        shutil.copy(ROOT / "tools" / "release", home / "tools")
+        (home / "RELEASE").write_text("vidlakost 1\ncommit a, b\n")
+        (home / "SHA256SUMS").write_text(f"{sum_of((home / 'RELEASE').read_bytes())}  RELEASE\n")
+        return home
+
+    def call(self, home: pathlib.Path, *words: str) -> subprocess.CompletedProcess[str]:
+        form = [sys.executable, str(home / "tools" / "release"), *words]
+        return subprocess.run(form, cwd=home, stdout=subprocess.PIPE, stderr=subprocess.STDOUT, text=True, check=False)
+
+    def test_a_list_of_files_outside(self) -> None:
+        """A list that names a file outside, with the sum of that file, brings none of it below the prefix or beside."""
+        with tempfile.TemporaryDirectory() as name:
+            home = self.home(name)
+            for listed in ("../outside", "share/../../outside", str(home.parent / "outside")):
+                (home.parent / "outside").write_text("outside\n")
+                (home / "share").mkdir(exist_ok=True)
+                with open(home / "SHA256SUMS", "a", encoding="utf-8") as file:
+                    file.write(f"{sum_of(b'outside' + bytes([10]))}  {listed}\n")
+                done = self.call(home, "--prefix", "local")
+                self.assertEqual(done.returncode, 1, done.stdout)
+                self.assertIn("lies outside of the release", done.stdout)
+                self.assertFalse((home / "local").exists())
+
+    def test_no_program_to_pack(self) -> None:
+        with tempfile.TemporaryDirectory() as name:
+            done = self.call(self.home(name), "--deb")
+        self.assertEqual((done.returncode, done.stdout.splitlines()[1:]), (125, []), done.stdout)
+        self.assertIn("the release has no libexec/vidlakost", done.stdout)
+
+    def test_an_archive_is_written_through_no_link(self) -> None:
+        """A link in the place of the archive, or of its sum, goes, and what it leads to stays."""
+        with tempfile.TemporaryDirectory() as name:
+            root = pathlib.Path(name)
+            theirs, dist = root / "theirs", root / "dist"
+            theirs.write_text("mine\n")
+            dist.mkdir()
+            with mock.patch.multiple(
+                release, ROOT=root, tree=lambda _: released(), git=lambda *_: b"0", archive_name=lambda _: "made"
+            ):
+                for link in ("made.tar.gz", "made.tar.gz.sha256"):
+                    (dist / link).symlink_to(theirs)
+                with contextlib.redirect_stdout(io.StringIO()):
+                    release.write_archive(True)
+            self.assertEqual(theirs.read_text(), "mine\n")
+            self.assertEqual(
+                [(path.name, path.is_symlink()) for path in sorted(dist.iterdir())],
+                [("made.tar.gz", False), ("made.tar.gz.sha256", False)],
+            )
+            beside = f"{sum_of((dist / 'made.tar.gz').read_bytes())}  made.tar.gz\n"
+            self.assertEqual((dist / "made.tar.gz.sha256").read_text(), beside)
 
 
 if __name__ == "__main__":

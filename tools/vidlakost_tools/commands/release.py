@@ -30,6 +30,7 @@ import tempfile
 import zlib
 from typing import Dict, Iterator, List, Mapping
 
+from vidlakost_tools import bounded
 from vidlakost_tools.pages import debian, installing, trusted_pages, unpacking
 from vidlakost_tools.pages.debian import PROGRAM
 from vidlakost_tools.pages.spec_graph import Graph
@@ -110,6 +111,9 @@ def below(parts: list[str]) -> list[str]:
 def packed() -> list[str]:
     """The files of this release, and none that somebody put beside them. An installation has some of them elsewhere."""
     names = ["SHA256SUMS", *(line.partition("  ")[2] for line in lines_of(read_text(ROOT / "SHA256SUMS")))]
+    outside = next((name for name in names if not unpacking.is_inside(name)), None)
+    if outside is not None:
+        raise ToolError(f"{shown(outside)} of the list SHA256SUMS lies outside of the release, so nothing is done", 1)
     return [name for name in sorted(names) if (ROOT / name).is_file()]
 
 
@@ -193,12 +197,11 @@ def pack(files: Mapping[str, tuple[bytes, bool]], time: int, top: str) -> bytes:
 def write_archive(unproved: bool) -> None:
     if is_unpacked():
         raise ToolError("this is an unpacked release already; --prefix installs it")
-    folder = ROOT / "dist"
-    folder.mkdir(exist_ok=True)
-    path = folder / f"{archive_name(unproved)}.tar.gz"
+    path = ROOT / "dist" / f"{archive_name(unproved)}.tar.gz"
     content = pack(tree(unproved), int(git("log", "-1", "--format=%ct").strip() or 0), archive_name(unproved))
-    path.write_bytes(content)
-    path.with_name(path.name + ".sha256").write_text(f"{hashlib.sha256(content).hexdigest()}  {path.name}\n")
+    installing.put(path, content, False)
+    beside = f"{hashlib.sha256(content).hexdigest()}  {path.name}\n"
+    installing.put(path.with_name(path.name + ".sha256"), beside.encode(), False)
     print(f"{path} {len(content)} bytes")
 
 
@@ -208,6 +211,8 @@ def deb_path(unproved: bool) -> pathlib.Path:
 
 def package_of(path: pathlib.Path, files: Mapping[str, tuple[bytes, bool]], unproved: bool) -> None:
     """Makes the Debian package of these files."""
+    if PROGRAM not in files:
+        raise ToolError(f"the release has no {PROGRAM}, so there is nothing to pack", 125)
     time = int(git("log", "-1", "--format=%ct").strip() or 0)
     date = datetime.datetime.fromtimestamp(time, datetime.timezone.utc).strftime("%a, %d %b %Y %H:%M:%S +0000")
     debian.package(path, files, full_version(unproved), needs(files[PROGRAM][0]), time, date, unproved)
@@ -216,8 +221,9 @@ def package_of(path: pathlib.Path, files: Mapping[str, tuple[bytes, bool]], unpr
 def write_deb(unproved: bool) -> None:
     """The Debian package of the same files."""
     path = deb_path(unproved)
-    path.parent.mkdir(exist_ok=True)
-    package_of(path, tree(unproved), unproved)
+    with bounded.folder_of_its_own() as folder:
+        package_of(folder / path.name, tree(unproved), unproved)
+        installing.put(path, (folder / path.name).read_bytes(), False)
     for line in debian.complaints(path):
         print(line)
     print(f"{path} {path.stat().st_size} bytes")

@@ -39,6 +39,13 @@ def is_older(path: pathlib.Path, wanted: str | None) -> bool:
     return not path.is_symlink() and path.is_file() and sum_of(path.read_bytes()) == wanted
 
 
+def is_list_of_ours(prefix: pathlib.Path) -> bool:
+    """Whether the list that stands there is that of an installation: a plain file that has the sum of RELEASE beside
+    it."""
+    home = prefix / HOME
+    return not (home / LIST).is_symlink() and is_older(home / "RELEASE", installed_sums(prefix).get("RELEASE"))
+
+
 def refuse_strangers(prefix: pathlib.Path, files: Collection[str], links: Mapping[str, str]) -> None:
     """Refuses before anything is written: a link in the place of a folder, a file that no installation wrote, and one
     in bin that is no link of ours."""
@@ -50,7 +57,8 @@ def refuse_strangers(prefix: pathlib.Path, files: Collection[str], links: Mappin
                 break
             if folder.is_symlink() and folder not in (prefix / "lib", prefix / "share"):
                 raise ToolError(f"{folder} is a link, so nothing is installed")
-        if (path.is_symlink() or path.exists()) and name != LIST and not is_older(path, sums.get(name)):
+        is_ours = is_list_of_ours(prefix) if name == LIST else is_older(path, sums.get(name))
+        if os.path.lexists(path) and not is_ours:
             raise ToolError(f"{path} is there and no installation wrote it, or it was changed, so nothing is installed")
     for name, target in links.items():
         path = prefix / "bin" / name

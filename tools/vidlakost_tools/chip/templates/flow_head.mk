@@ -37,12 +37,14 @@ opens = test -e $(1).read && (cd $(dir $(1)) && xargs grep -qE '[$$](readmem|fop
 done = { $(call opens,$(1)) || $(call sums,$(1),$(2)) >$(1).sums; }
 
 # What the steps write stands in these folders and files. One that is there before the first run is somebody's, and stays.
-OWNED := $(sort $(foreach step,@@{steps},$(firstword $(subst /, ,$(step)))))
+STEPS := @@{steps}
+OWNED := $(sort $(foreach step,$(STEPS),$(firstword $(subst /, ,$(step)))))
 MARKS := .vidlakost-flow
+theirs = for it in $(OWNED); do test -e $(MARKS)/$$it || for one in $$it $$it.sums $$it.read; do test ! -e $$one -a ! -L $$one || { \
+  echo "@@{name}: $$one is there, and this makefile did not make it, so nothing is done: take another folder" >&2; exit 1; }; done; done
 # the steps are those of this chip file as it was when the makefile was written
 FORCE:
-	@for it in $(OWNED); do test ! -e $$it -a ! -L $$it -o -e $(MARKS)/$$it || { \
-	  echo "@@{name}: $$it is there, and this makefile did not make it, so nothing is done: take another folder" >&2; exit 1; }; done
+	@$(theirs)
 	@mkdir -p $(MARKS) && touch $(addprefix $(MARKS)/,$(OWNED))
 	@cd $(ROOT) && printf '%s\n'@@{sums} | sha256sum -c --status 2>/dev/null || { \
 	  echo "@@{name}: @@{chip} is another than the one that this makefile is of: run vidlakost flow again" >&2; exit 1; }
@@ -100,4 +102,5 @@ timed = rm -f sta.txt && yosys -q -p "read_verilog -nodpi $(SYNTH_MORE) -lib $(3
 @@{targets}
 
 clean:
-	rm -f -- $(foreach step,@@{steps},$(step) $(step).sums $(step).read)
+	@$(theirs)
+	rm -f -- $(foreach step,$(STEPS),$(step) $(step).sums $(step).read)
