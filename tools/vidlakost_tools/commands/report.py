@@ -24,8 +24,9 @@ The object:
     total       primitives, covered, escapes
     in_word     with --inword: the object of that report
 For a report of `inword` the schema is vidlakost-inword-1. An escape there has aggressor and victim, the numbers of two
-bits, and content, the aggressor's digit first. `apart` counts the primitives that have no verdict there. The rest is
-as above.
+bits, content, the aggressor's digit first, and reading: `before`, `behind` or `both`. `apart` counts the primitives
+that have no verdict there, and `no_two_bits` those that no word has two bits for. `readings` has what each reading
+alone would call covered. The rest is as above.
 Later versions may add keys, under new names. If one of these keys changes, the schema changes."""
 from __future__ import annotations
 
