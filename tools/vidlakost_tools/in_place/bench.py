@@ -58,6 +58,9 @@ class PlaceBench(Bench):
             ring=ring_of(self.word) - 1,
             **self.logged(),
             due=self.due.function(),
+            given=self.inside_name("given"),
+            taken=self.inside_name("taken"),
+            random="{" + ", ".join(["$random"] * -(-self.bits // 32)) + "}",
             low=low,
             middle=low + self.bits,
             most=self.most(),
@@ -70,23 +73,31 @@ class PlaceBench(Bench):
         depth, total = self.word.depth, length_of(self.word)
         first = f"all[{HEAD_BITS + total - 1}:{HEAD_BITS}]"
         if not depth:
-            return {"first": "all", "log": "", "log_wrong": "", "log_begins": ""}
+            blank = dict.fromkeys(("log", "log_wrong", "log_begins", "unasked", "asked"), "")
+            return {**blank, "first": "all"}
         values = {
             "name": self.word.name, "latency": self.word.first.latency, "depth": depth, "top": total - 1,
-            "total": total, "low": HEAD_BITS,
+            "total": total, "low": HEAD_BITS, "taken": self.inside_name("taken"),
         }
         return {
             "first": first,
             "log": LOG.substitute(**values),
+            # a failure that is of no read, as one of the lanes
+            "unasked": f"      if (is_unasked) force dut.{self.inside_name('asks')} = 1'b0;\n",
+            "asked": f"        release dut.{self.inside_name('asks')};\n        is_unasked = 1'b0;\n",
             "log_begins": "      reads <= 0;\n      wrong_reads <= 0;\n",
             "log_wrong": LOG_WRONG.substitute(**values),
         }
 
     def counter(self) -> str:
         """The name that the number of the cycle has in the module."""
+        return self.inside_name("cycle")
+
+    def inside_name(self, name: str) -> str:
+        """The name that a net has in the module."""
         made = InPlace(self.macro, self.word)
         made.text()
-        return made.names.of("cycle")
+        return made.names.of(name)
 
     def faults(self) -> str:
         places = some_of(self.word.name, self.bits)
@@ -96,5 +107,12 @@ class PlaceBench(Bench):
             word = sum((bit >> count & 1) << bit for bit in range(CYCLE))
             for begin, later in ((word, 0), ((1 << CYCLE) - 1 - word, 1)):
                 lines.append(f"  first_failure(7'd{places[count % len(places)]}, 32'h{begin:x}, {later});")
-        lines.append("  " + progress(f"{self.word.name}: the first failure is read"))
+        # the words of a march with few backgrounds have bits that are always alike
+        lines.append("`ifndef VERILATOR")
+        lines += ["  is_scrambled = 1'b1;", f"  first_failure(7'd{places[0]}, 32'h0, 0);"] * 4
+        if self.word.depth:
+            for began in (0x55555555, 0x33333333, 0x0F0F0F0F, 0x00FF00FF, 0x0000FFFF):
+                lines += ["  is_scrambled = 1'b1;", "  is_unasked = 1'b1;"]
+                lines.append(f"  first_failure(7'd{places[0]}, 32'h{began:x}, 0);")
+        lines += ["`endif", "  " + progress(f"{self.word.name}: the first failure is read")]
         return "\n".join([super().faults(), f"`ifndef {GATES}", *map(indented, map(indented, lines)), "`endif"])
