@@ -84,7 +84,7 @@ class Ended(unittest.TestCase):
         number = "1700000000000000000"
         for name in (f".vidlakost-{number}", f".vidlakost-notes-{number}", f".vidlakost-{number}-{number}"):
             (folder / name).write_text("x")
-        words = [ROOT / "vidlakost", "decoder", "march", folder / "report"]
+        words = [str(ROOT / "vidlakost"), "decoder", "march", str(folder / "report")]
         environment = {**os.environ, "VIDLAKOST_PROGRAM": str(program)}
         subprocess.run(words, env=environment, stdout=subprocess.DEVNULL, check=True)
         self.assertEqual(sorted(os.listdir(folder)), [f".vidlakost-{number}-{number}", f".vidlakost-notes-{number}"])
