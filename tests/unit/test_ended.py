@@ -50,7 +50,8 @@ class Ended(unittest.TestCase):
         program.write_text(PROGRAM)
         program.chmod(0o755)
         environment = {**os.environ, "VIDLAKOST": str(program), "PYTHONPATH": str(ROOT / "tools")}
-        for number in (signal.SIGTERM, signal.SIGINT, signal.SIGHUP):
+        others = (signal.SIGQUIT, signal.SIGUSR1, signal.SIGALRM, signal.SIGXCPU, signal.SIGPWR)
+        for number in (signal.SIGTERM, signal.SIGINT, signal.SIGHUP, *others):
             said = self.folder / f"said_{number}"
             words = [sys.executable, "-c", CALL.format(str(said))]
             tool = subprocess.Popen(words, env=environment, stderr=subprocess.DEVNULL)
@@ -74,6 +75,35 @@ class Ended(unittest.TestCase):
         with mock.patch.object(subprocess, "Popen", begun), self.assertRaises(KeyboardInterrupt):
             bounded.heard(["sleep", "300"], os.environ, None)
         self.assertEqual(started[0].returncode, -signal.SIGKILL)
+
+    def test_program_ends_with_its_launcher(self) -> None:
+        program = self.folder / "program"
+        program.write_text("#!/bin/sh\necho $$ >\"$2\"\nexec sleep 300\n")
+        program.chmod(0o755)
+        environment = {**os.environ, "VIDLAKOST_PROGRAM": str(program)}
+        for number in (signal.SIGTERM, signal.SIGQUIT, signal.SIGUSR1, signal.SIGALRM, signal.SIGXCPU):
+            said = self.folder / f"said_{number}"
+            launcher = subprocess.Popen([ROOT / "vidlakost", "slow", said], env=environment, stderr=subprocess.DEVNULL)
+            until = time.monotonic() + 20
+            while not (said.exists() and said.read_text().strip()) and time.monotonic() < until:
+                time.sleep(0.02)
+            launcher.send_signal(number)
+            self.assertIn(launcher.wait(timeout=20), (-number, 128 + number))
+            self.assertTrue(is_gone(int(said.read_text())), number)
+
+    def test_a_launcher_removes_what_is_marked_as_the_programs(self) -> None:
+        """A name that only ends with such a number is somebody's."""
+        program, folder = self.folder / "program", self.folder / "out"
+        program.write_text("#!/bin/sh\necho total 1\n")
+        program.chmod(0o755)
+        folder.mkdir()
+        number = "1700000000000000000"
+        for name in (f".vidlakost-{number}", f".vidlakost-notes-{number}", f".vidlakost-{number}-{number}"):
+            (folder / name).write_text("x")
+        words = [str(ROOT / "vidlakost"), "decoder", "march", str(folder / "report")]
+        environment = {**os.environ, "VIDLAKOST_PROGRAM": str(program)}
+        subprocess.run(words, env=environment, stdout=subprocess.DEVNULL, check=True)
+        self.assertEqual(sorted(os.listdir(folder)), [f".vidlakost-{number}-{number}", f".vidlakost-notes-{number}"])
 
 
 class Left(unittest.TestCase):

@@ -42,6 +42,9 @@ def usage_of(doc: str | None) -> str:
     return found[0] if found else doc or ""
 
 
+# the signals that end a process which doesn't hear them, but those of a fault and the one that no process hears; Python
+# hears INT itself, and passes over PIPE and XFSZ
+ENDS = ("TERM", "HUP", "QUIT", "USR1", "USR2", "ALRM", "VTALRM", "PROF", "XCPU", "POLL", "PWR", "STKFLT")
 # a mark in front of each word with one dash, while argparse reads the words
 PLAIN = "\0"
 
@@ -131,7 +134,7 @@ def start(main: Callable[[], int | None]) -> None:
     if sys.stdout is None:
         tell(f"{name}: standard output is closed")
         sys.exit(8)
-    for number in (signal.SIGTERM, signal.SIGHUP):
+    for number in filter(None, (getattr(signal, f"SIG{name}", None) for name in ENDS)):
         if signal.getsignal(number) == signal.SIG_DFL:
             signal.signal(number, stop)
     # bytes that are not UTF-8, as in the name of a folder, go out as they came
