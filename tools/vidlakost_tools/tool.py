@@ -134,7 +134,8 @@ def start(main: Callable[[], int | None]) -> None:
     if sys.stdout is None:
         tell(f"{name}: standard output is closed")
         sys.exit(8)
-    for number in filter(None, (getattr(signal, f"SIG{name}", None) for name in ENDS)):
+    numbers: list[signal.Signals] = [getattr(signal, f"SIG{end}") for end in ENDS if hasattr(signal, f"SIG{end}")]
+    for number in numbers:
         if signal.getsignal(number) == signal.SIG_DFL:
             signal.signal(number, stop)
     # bytes that are not UTF-8, as in the name of a folder, go out as they came
