@@ -11,43 +11,23 @@ from typing import Iterator
 
 from tests.integration.access import CAMERA, PLACED
 from tests.integration.bench import Bench
-from tests.integration.failing_chip import MACROS, MEMORIES, Fault, bits_of, commands, faults, round_memories, written
+from tests.integration.failing_chip import (
+    MACROS,
+    MEMORIES,
+    PLAYER,
+    Fault,
+    bits_of,
+    commands,
+    faults,
+    round_memories,
+    written,
+)
 from vidlakost_tools.tester_files import bsdl, icl, pdl, stil, svf, wgl
 from vidlakost_tools.tester_files.cycles import Cycle, joined, listing
 from vidlakost_tools.tester_files.retarget import Session
 
 # the slowest clock of all, in megahertz, and how fast TCK is beside it: that of STIL and WGL, that which BSDL allows
 SLOWEST, TCK = 4, {"svf": 33.0, "stil": 10.0, "wgl": 10.0, "pdl": 20.0}
-PLAYER = """`timescale 1ns / 1ps
-module player;
-AROUND
-  reg tck = 1'b0, tms = 1'b1, tdi = 1'b0, trst_n = 1'b0;
-  wire tdo, tdo_en;
-  integer file, heard, got, new_tms, new_tdi, new_trst_n, times;
-  string heard_name;
-  real period;
-  reg [7:0] wanted;
-  initial begin
-    if ($value$plusargs("period=%f", period) == 0 || $value$plusargs("heard=%s", heard_name) == 0) $fatal(1);
-    #500 trst_n = 1'b1;
-    file = $fopen("cycles.txt", "r");
-    heard = $fopen(heard_name, "w");
-    got = $fscanf(file, "%d %d %d %c %d", new_tms, new_tdi, new_trst_n, wanted, times);
-    while (got == 5) begin
-      repeat (times) begin
-        {tms, tdi, trst_n} = {new_tms[0], new_tdi[0], new_trst_n[0]};
-        #(0.45 * period) $fwrite(heard, "%b", tdo_en ? tdo : 1'bx);
-        #(0.05 * period) tck = 1'b1;
-        #(0.4 * period) tck = 1'b0;
-        #(0.1 * period);
-      end
-      got = $fscanf(file, "%d %d %d %c %d", new_tms, new_tdi, new_trst_n, wanted, times);
-    end
-    $fclose(heard);
-    $finish;
-  end
-endmodule
-"""
 BUS = """`timescale 1ns / 1ps
 module player;
 AROUND
@@ -317,6 +297,31 @@ def wrong_places(bench: Bench, chip: Chip) -> None:
         path.write_text(right)
 
 
+# what is wrong at the top of the camera, a part of it and what stands there in its place, and what has to be told
+WRONG_TOPS = [
+    ("", "", "camera_places_tb: passed"),
+    (".tdo_en(tdo_en)", ".tdo_en()", "camera: tdo_en is not 1 in a scan"),
+    (".clk(clk), .test", ".clk(dot_clk), .test", "camera: the clock of the sequencer is 1 while clk is 0"),
+    ("tdo tdo_en", "tdo", "camera: tdo is driven outside scans: name the port of tdo_en"),
+]
+
+
+def wrong_tops(bench: Bench) -> None:
+    """A chip in which the TAP drives TDO always, or the sequencer has another clock, is told by what it is about."""
+    bench.run(["tools/top", CAMERA, *PLACED, "tops", "--in-place"])
+    bench.run(["tools/access", CAMERA, *PLACED, "tops", "--in-place", "--jtag"])
+    texts = {name: (bench.folder / f"examples/in_place/{name}").read_text() for name in ("camera.v", "camera.places")}
+    for old, new, told in WRONG_TOPS:
+        made = {name: text.replace(old, new) if old else text for name, text in texts.items()}
+        (bench.folder / "top.v").write_text(made["camera.v"])
+        places = re.sub("(?m)^before .*\n", "", made["camera.places"])
+        (bench.folder / "top.places").write_text(places.replace("source examples/in_place/camera.v", "source top.v"))
+        bench.run(["tools/places", "top.places", CAMERA, *PLACED, "tops"])
+        done = bench.run(["bash", "-c", "cd tops && iverilog -g2012 -o tb -c camera_places.f && vvp -n tb"])
+        is_so = told in done.stdout and bool(done.returncode) == bool(old)
+        bench.is_so(is_so, f"{old!r} is {new!r}: {done.stdout}{done.stderr}")
+
+
 def is_left_out() -> bool:
     if shutil.which("iverilog"):
         return False
@@ -335,6 +340,7 @@ def in_place(bench: Bench) -> None:
         chip.plays_bus()
     highest_bit(bench, chip)
     wrong_places(bench, chip)
+    wrong_tops(bench)
     Chip(bench, True, False, ["--sib"]).plays_files(["svf", "pdl"])
 
 

@@ -39,6 +39,37 @@ MACRO = """module NAME(input clk, input ce, input we, input [TOP:0] a, input [BI
     end
 endmodule
 """
+# what clocks a TAP by the lines of a file, and writes what it hears
+PLAYER = """`timescale 1ns / 1ps
+module player;
+AROUND
+  reg tck = 1'b0, tms = 1'b1, tdi = 1'b0, trst_n = 1'b0;
+  wire tdo, tdo_en;
+  integer file, heard, got, new_tms, new_tdi, new_trst_n, times;
+  string heard_name;
+  real period;
+  reg [7:0] wanted;
+  initial begin
+    if ($value$plusargs("period=%f", period) == 0 || $value$plusargs("heard=%s", heard_name) == 0) $fatal(1);
+    #500 trst_n = 1'b1;
+    file = $fopen("cycles.txt", "r");
+    heard = $fopen(heard_name, "w");
+    got = $fscanf(file, "%d %d %d %c %d", new_tms, new_tdi, new_trst_n, wanted, times);
+    while (got == 5) begin
+      repeat (times) begin
+        {tms, tdi, trst_n} = {new_tms[0], new_tdi[0], new_trst_n[0]};
+        #(0.45 * period) $fwrite(heard, "%b", tdo_en ? tdo : 1'bx);
+        #(0.05 * period) tck = 1'b1;
+        #(0.4 * period) tck = 1'b0;
+        #(0.1 * period);
+      end
+      got = $fscanf(file, "%d %d %d %c %d", new_tms, new_tdi, new_trst_n, wanted, times);
+    end
+    $fclose(heard);
+    $finish;
+  end
+endmodule
+"""
 
 
 @dataclasses.dataclass(frozen=True)

@@ -135,7 +135,7 @@ FILES: Dict[str, str] = {
     "order.report": DECODER.replace("covered other\n", "").replace(
         "covered both or\n", "covered both or\ncovered other\n"
     ),
-    "sum5.report": DECODER.replace("covered 4 escapes 1", "covered 3 escapes 2"),
+    "sum5.report": DECODER.replace("covered 4 escapes 2", "covered 3 escapes 3"),
     "inside.report": IN_WORD,
     "outside.report": IN_WORD.replace("victim 1", "victim 2"),
     "shown.report": IN_WORD.replace("<0w1;0/1/-> CFds", "<0;0/1/-> CFst"),

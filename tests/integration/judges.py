@@ -104,6 +104,11 @@ def netlist(source: str, out: str) -> str:
     return f"yosys -q -p '{passes}' && tools/audit {out} {TEST} --no-simulate"
 
 
+# a netlist whose cells, some of them registers, are Yosys' own
+CELLS = f"yosys -q -p 'read_verilog {STYLES}two_processes.v; synth -flatten; write_verilog -noattr -noexpr cells_own.v'"
+CELLS += f" && tools/audit cells_own.v {TEST}"
+
+
 def for_ice40(source: str, out: str, *options: str) -> str:
     """The command that maps a source to the cells of ice40, and audits the netlist."""
     passes = f"read_verilog {source}; synth_ice40 -flatten; write_verilog -noattr {out}"

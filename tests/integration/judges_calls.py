@@ -5,6 +5,7 @@ from typing import List
 
 from tests.integration.call import Call
 from tests.integration.judges import (
+    CELLS,
     COMPILE,
     EXACT,
     IDLE,
@@ -59,6 +60,7 @@ CALLS: List[Call] = [
     Call(f"tools/formal list_short.v {TEST}", 1, "formal: refused: ", "formal: 'list_short.v':38", "yosys iverilog"),
     Call("tools/plain out.v list_short.v", 1, "", "plain: 'list_short.v':38: the block reads reset", "yosys iverilog"),
     audited("cells.v", prints=EXACT, options="--liberty three_state.lib"),
+    Call(f"tools/audit cells.v {TEST} --liberty three_state.lib", 0, SEEN, "", "yosys iverilog"),
     audited(
         "cells_off.v",
         status=1,
@@ -178,6 +180,7 @@ CALLS: List[Call] = [
     clocked("signed.v", prints=SEEN),
     audited("signed_half.v", status=1, prints="audit: wrong: fail is 0 in cycle 15 though"),
     Call(in_shell(netlist("counts.v", "counts_gates.v")), prints=EXACT, needs="yosys"),
+    Call(in_shell(CELLS), prints=SEEN, needs="yosys iverilog"),
     Call(
         in_shell(netlist("counts_on.v", "counts_on_gates.v")),
         status=1,

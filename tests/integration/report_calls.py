@@ -60,7 +60,7 @@ CALLS: List[Call] = [
         says="trace: place.report:5: the array of the escape does not fit the march",
     ),
     Call("tools/trace order.report", status=2, says="trace: order.report:4: the line is no verdict on other"),
-    Call("tools/trace sum5.report", status=2, says="trace: sum5.report:7: the total does not fit the lines"),
+    Call("tools/trace sum5.report", status=2, says="trace: sum5.report:8: the total does not fit the lines"),
     Call("tools/trace linked.report", prints="LF1 <0w0/1/-> <1w1/0/->: neither primitive acts\n"),
     Call("tools/trace linked.report 'LF1 <0w0/1/-> <1w1/0/->' --steps", prints="  element 0   w0   cell 1  000\n"),
     Call("tools/trace linked.report LF1", status=2, says="trace: linked.report has no escape of LF1"),

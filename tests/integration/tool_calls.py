@@ -107,7 +107,9 @@ CALLS: List[Call] = [
     Call("tools/collar field.mem --macro ram.pins collar", status=4, says="collar: memory D4 words"),
     Call("tools/collar latency.mem --macro no.pins collar", status=2, says="collar: no.pins: No such file"),
     Call("tools/plain plain.v free.v --no-simulate", 0, "", "plain: right as Yosys reads it, not", "yosys"),
-    Call("tools/plain plain.v free.v", 0, "beside Icarus: equal in ", "plain: right: plain.v is what", "yosys iverilog"),
+    Call(
+        "tools/plain plain.v free.v", 0, "beside Icarus: equal in ", "plain: right: plain.v is what", "yosys iverilog"
+    ),
     Call("tools/plain free.v free.v", status=2, says="plain: 'free.v' is what is read", needs="yosys"),
     Call(
         "tools/plain ram.pins free.v --pins ram.pins", status=2, says="plain: 'ram.pins' is what is read", needs="yosys"

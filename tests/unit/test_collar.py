@@ -14,7 +14,7 @@ from vidlakost_tools.collar.names import Names
 from vidlakost_tools.collar.pin_lines import read_macro
 from vidlakost_tools.collar.pins import Macro, Word, alike
 from vidlakost_tools.collar.text import collar
-from vidlakost_tools.collar.untested import told_pins, untested
+from vidlakost_tools.collar.untested import beyond, told_pins, untested
 from vidlakost_tools.files import COMMENTS, is_own, marked, refuse_twins, write_own
 from vidlakost_tools.folder import permissions, write_all
 from vidlakost_tools.texts.march import elements_of
@@ -130,6 +130,14 @@ class Lines(unittest.TestCase):
         self.assertEqual(left([*PINS, *more]), f"{off}; wen: {alone}; t, u: tied; o: left open; s: fixed in test")
         self.assertEqual(left([*PINS, *PORT, "masks"]), "")
         self.assertEqual(left([*PINS, *PORT]), f"{off}; wen, v: {alone}")
+
+    def test_words_behind_those_of_the_description(self) -> None:
+        """A macro of 8 words of which 5 are described; three bits of an address count to 7."""
+        five = Word([Memory("m", words=5, bits=8, latency=1, polarity=0, pause=1, rows=None, backgrounds=[0])])
+        told = "a: from 5 to 7, if the macro has these words"
+        self.assertEqual(told_pins(beyond(read(PINS, five.first), five)), told)
+        whole = Word([memory()])
+        self.assertEqual(beyond(read(PINS, whole.first), whole), [])
 
     def test_a_further_clock_is_not_tested_where_the_model_ignores_it(self) -> None:
         def of_clock(lines: list[str], is_theirs: bool) -> str:

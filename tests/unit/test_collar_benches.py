@@ -66,6 +66,14 @@ class Benches(unittest.TestCase):
                 said = self.said(lines)
                 self.assertEqual((said[0], said[-1]), ("four: passes", "four_collar_tb: passed"))
 
+    def test_as_many_fixed_pins_as_half_a_period_has_units(self) -> None:
+        """Each pin that has one value in test is moved then, and none of these moves delays the start."""
+        for count in (4, 5, 10):
+            lines = [*PLAIN, *(f"pass p{number} 1 {number % 2}" for number in range(count))]
+            for words in ((), ("+planted",)):
+                with self.subTest(count=count, words=words):
+                    self.assertEqual(self.said(lines, *words)[-1], "four_collar_tb: passed")
+
     def test_faults_that_are_planted(self) -> None:
         said = self.said(PLAIN, "+planted")
         found = ["four: a tied address is found", "four: a wrong bit is found"]

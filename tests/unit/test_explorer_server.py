@@ -189,7 +189,9 @@ class Survives(Served):
         connection = socket.create_connection(self.place, timeout=10)
         token = self.server.token if chance.random() < 0.5 else "x" * 43
         whole = f"GET /{token}/ HTTP/1.1\r\nHost: {self.server.host}\r\n\r\n".encode()
-        front = whole[: chance.randrange(len(whole) + 1)] if chance.random() < 0.8 else bytes(chance.randrange(256) for _ in range(60))
+        front = whole[: chance.randrange(len(whole) + 1)]
+        if chance.random() < 0.2:
+            front = bytes(chance.randrange(256) for _ in range(60))
         if front:
             connection.sendall(front)
         return connection

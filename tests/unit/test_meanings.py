@@ -280,17 +280,6 @@ class Simulation(unittest.TestCase):
         for right in ("t = a; y = t;", "t = 0; if (a) t = ~t; y = t;", "reg t; t = b; y = t;"):
             self.assertEqual(self.told(f"reg t;\nalways @* begin {right} end"), [], right)
 
-    def test_race_of_two_blocks(self) -> None:
-        first, second = "always @(posedge clk) r = a;", "always @(posedge clk) y <= r;"
-        self.assertEqual(
-            self.told(f"reg r;\n{first}\n{second}"),
-            ["3: the block sets r with =, and another block reads it at the same edge"],
-        )
-        self.assertEqual(self.told(f"reg r;\n{first.replace('=', '<=')}\n{second}"), [])
-        # each of them has its loop's number for itself
-        loop = "always @(posedge clk) for (i = 0; i < 2; i = i + 1) {} <= a;"
-        self.assertEqual(self.told(f"integer i;\n{loop.format('y')}\n{loop.format('z')}"), [])
-
     def test_delays_and_what_one_tool_sees(self) -> None:
         for text, line in (
             ("assign #1 z = a;", 2),

@@ -13,11 +13,12 @@ import stat
 import subprocess
 import sys
 import tempfile
+import threading
 import time
-from typing import Callable, Iterator, Mapping, Sequence
+from typing import Any, Callable, Iterator, Mapping, Sequence
 
 from vidlakost_tools.text import lines_of
-from vidlakost_tools.tool import ToolError, telling
+from vidlakost_tools.tool import ENDS, ToolError, telling
 
 CHILD = pathlib.Path(__file__).with_name("confined.py")
 # the ways by which a program is held to a folder, of which the first that the system has is taken
@@ -136,19 +137,43 @@ def end(child: subprocess.Popen[bytes]) -> int:
     return child.wait()
 
 
+def begun(words: Sequence[str], **how: Any) -> subprocess.Popen[bytes]:
+    """A program in a group of its own. A signal that comes while it is begun is answered when it is known, and it is
+    ended before that: else nobody would have its number."""
+    came: list[int] = []
+    before: dict[int, Any] = {}
+    if threading.current_thread() is threading.main_thread():
+        for number in ENDS:
+            handler = signal.getsignal(number)
+            if callable(handler):
+                before[number] = handler
+                signal.signal(number, lambda number, _: came.append(number))
+    try:
+        child: subprocess.Popen[bytes] = subprocess.Popen(
+            words, stdin=subprocess.DEVNULL, start_new_session=True, **how
+        )
+    finally:
+        for one, answer in before.items():
+            signal.signal(one, answer)
+    if came:
+        end(child)
+        if child.stdout is not None:
+            child.stdout.close()
+        before[came[0]](came[0], None)
+    return child
+
+
 def waited(call: Call, out: pathlib.Path, errors: pathlib.Path) -> int | None:
     """The status of a program whose words go to two files; None where it took too long."""
     child, is_in_time = None, False
     with open(out, "wb") as file, open(errors, "wb") as other:
         try:
-            child = subprocess.Popen(
+            child = begun(
                 call.child(),
-                stdin=subprocess.DEVNULL,
                 stdout=file,
                 stderr=other if call.is_apart else subprocess.STDOUT,
                 cwd=call.folder,
                 env=None if call.environment is None else dict(call.environment),
-                start_new_session=True,
             )
             is_in_time = is_over(child, call.bounds.seconds)
         finally:
@@ -160,9 +185,7 @@ def heard(words: Sequence[str], environment: Mapping[str, str], seconds: float |
     """The status and the output of our own program, which needs no bounds but one of time. It is called thousands of
     times, so no process of ours stands before it. A signal to the caller ends it with all that it began, as the
     launcher has begun the program."""
-    child = subprocess.Popen(
-        words, stdout=subprocess.PIPE, stdin=subprocess.DEVNULL, env=dict(environment), start_new_session=True
-    )
+    child = begun(words, stdout=subprocess.PIPE, env=dict(environment))
     try:
         content, _ = child.communicate(timeout=seconds)
         return child.returncode, content

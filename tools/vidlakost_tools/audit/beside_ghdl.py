@@ -270,8 +270,8 @@ def found_in(said: str, bench: Bench) -> Seen:
     """What the run says in the lines that it alone can say."""
     lines = [line.split()[1:] for line in lines_of(said) if line.startswith(f"{bench.nonce} ")]
     if not lines:
-        last = (lines_of(said.strip()) or [""])[0]
-        raise Unclocked(f"the run in GHDL did not end: {shown(last)}", 1)
+        told = [line for line in lines_of(said.strip()) if "(report note): at " not in line]
+        raise Unclocked(f"the run in GHDL did not end: {shown((told or [''])[0])}", 1)
     if lines[0][0] == "differs":
         _, number, cycle, got, due = lines[0]
         raise Differs("GHDL", bench.outputs[int(number)].name, int(cycle), got, due)

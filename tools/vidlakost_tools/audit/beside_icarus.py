@@ -81,6 +81,8 @@ class Beside:
     cycles: int = CYCLES
     test: Whole | None = None
     seed: int = 1
+    # a register in a cell of Yosys' own has no name in the sources
+    is_set: bool = True
     nonce: str = dataclasses.field(default_factory=lambda: f"s{secrets.token_hex(8)}")
 
     def known(self) -> str:
@@ -118,7 +120,7 @@ class Beside:
         these. A signal of which some bits are no registers is set where no other has its bits, and is said to have
         none."""
         bits: dict[str, dict[int, str]] = {}
-        for register in self.plain.registers:
+        for register in self.plain.registers if self.is_set else ():
             for index, origin in enumerate(self.plain.origins.get(register.name, [])):
                 made = f"{made_in}{register.name}[{index}]" if register.width > 1 else f"{made_in}{register.name}"
                 for name, at in origin:
@@ -227,6 +229,19 @@ def refuse_sources(files: list[str]) -> None:
             raise Unclocked(f"{shown(file)}:{line}: {found[0]} would reach out of the simulation", 1)
 
 
+ASKS = re.compile(r"\b__ICARUS(?:__|_SYNTH__)\b")
+
+
+def refuse_asking(files: list[str]) -> None:
+    """Believes nothing of sources that ask whether Icarus reads them, since no other tool reads what it does then."""
+    for file, source in with_included(files):
+        found = next((match for text in blanked(source) for match in ASKS.finditer(text)), None)
+        if found:
+            line = source.count(chr(10), 0, found.start()) + 1
+            why = "it asks whether Icarus reads it, so other tools read something else"
+            raise Unclocked(f"{shown(file)}:{line}: {why}", 1)
+
+
 def how_far(out: pathlib.Path) -> str:
     """The cycle at which a run is."""
     found = re.findall(r"^at (\d+)$", out.read_text(encoding="utf-8", errors="replace"), re.MULTILINE)
@@ -292,6 +307,7 @@ def beside(asked: Beside) -> Seen:
     if shutil.which("iverilog") is None or shutil.which("vvp") is None:
         raise Unclocked("Icarus (iverilog and vvp) is not on the PATH", 1)
     refuse_sources(asked.files)
+    refuse_asking(asked.files)
     with bounded.folder_of_its_own() as folder:
         made = dataclasses.replace(asked.plain, name="vidlakost_made")
         (folder / "made.v").write_text(made.text(), encoding="utf-8")

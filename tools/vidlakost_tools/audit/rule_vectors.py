@@ -1,5 +1,5 @@
 """What comes to a controller in each cycle, and what its ports have to be by the rule of the ports, for simulators that
-set no registers: tests from a reset on, whole ones and ones that another reset ends, with right and with wrong answers."""
+set no registers: tests from a reset on, whole ones and ones that another reset ends, with right and wrong answers."""
 from __future__ import annotations
 
 import dataclasses

@@ -16,7 +16,7 @@ from vidlakost_tools.audit.rule_vectors import Rule
 from vidlakost_tools.audit.stretches import Whole
 from vidlakost_tools.texts.memory import Memory
 from vidlakost_tools.tool import ToolError, tell
-from vidlakost_tools.verilog import known_cells, source_texts
+from vidlakost_tools.verilog import known_cells, source_texts, yosys
 from vidlakost_tools.verilog.front_end import Plain
 from vidlakost_tools.verilog.vhdl import is_vhdl
 
@@ -82,13 +82,13 @@ def clocked(asked: Asked) -> Seen:
     if vhdl:
         nonce = f"s{secrets.token_hex(8)}"
         return beside_ghdl.beside(BesideVhdl(asked.files, asked.plain, asked.pins, asked.rule), nonce)
-    if asked.options.get("--liberty"):
-        raise Unclocked("the cells of a library have no Verilog", 1)
     if shutil.which("iverilog") is None:
         raise Unclocked("Icarus (iverilog and vvp) is not on the PATH", 1)
     texts = [source for _, source in source_texts.with_included(asked.files)]
-    cells = known_cells.cells_of(asked.options, texts)
-    return beside_icarus.beside(Beside(asked.files, asked.plain, asked.pins, asked.memory, cells, test=asked.test))
+    generic = known_cells.generic(texts)
+    cells = known_cells.cells_of(asked.options, texts) + generic + yosys.library_models(asked.options, texts)
+    beside = Beside(asked.files, asked.plain, asked.pins, asked.memory, cells, test=asked.test)
+    return beside_icarus.beside(dataclasses.replace(beside, is_set="\\$_" not in generic or "reg" not in generic))
 
 
 def outcome(asked: Asked, told: str, usual: str, witnesses: dict[str, str]) -> Outcome:

@@ -185,7 +185,9 @@ class Bench:
     def disturbed(self, inverted: str) -> str:
         """In test the chip has another value at a pin than the one that the pin has to have."""
         pins = [pin for pin in self.macro.of("pass") if pin.value]
-        return "".join(f"      #1 {self.inside(pin)} = {inverted}{pin.value};\n" for pin in pins)
+        # all of them at once, so that their number moves nothing onto an edge of the clock
+        moved = "".join(f"      {self.inside(pin)} = {inverted}{pin.value};\n" for pin in pins)
+        return f"      #1;\n{moved}" if pins else ""
 
     def tasks(self) -> str:
         """A write and a read through each port that has them."""

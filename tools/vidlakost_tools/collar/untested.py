@@ -58,6 +58,15 @@ def untested(macro: Macro, word: Word, is_theirs: bool = False) -> list[Untested
     return [Untested(name, why) for name, why in found if why]
 
 
+def beyond(macro: Macro, word: Word) -> list[Untested]:
+    """The address pins that count further than the words of the description, which a larger macro may have."""
+    words, width = word.first.words, word.first.width
+    if words == 1 << width:
+        return []
+    told = f"from {words} to {(1 << width) - 1}, if the macro has these words"
+    return [Untested(pin.name, told) for pin in macro.pins if pin.kind in ADDRESSES]
+
+
 def told_pins(left: list[Untested]) -> str:
     """The pins of each reason."""
     reasons = dict.fromkeys(one.why for one in left)

@@ -2,7 +2,7 @@
 
 usage: vidlakost access MEMORY|CHIPFILE FOLDER [--apb] [--jtag [--sib] [--idcode HEX]] [--log N] [--march MARCH]
                         [--mhz F]
-       vidlakost access LIST|CHIPFILE PINS.. FOLDER [--in-place | [--each] [--log N]] [--apb]
+       vidlakost access LIST|CHIPFILE PINS.. FOLDER [--in-place [--under-tap] | [--each] [--log N]] [--apb]
                         [--jtag [--sib] [--idcode HEX]] [--mhz F]
        vidlakost access --help
 
@@ -44,7 +44,9 @@ register for each word of each memory.
 With --in-place the files are for the memories that `vidlakost top --in-place` left in their places. NAME_access is
 there, and the modules of the bus and of the TAP have its ports to_I and of_I, too. After done, each change of ignore
 shows the first failure of another memory, without a new run. These testbenches have no memories at the bundles; the
-testbench of `vidlakost places` has them."""
+testbench of `vidlakost places` has them. With --under-tap NAME_register.v is for a chip that has a TAP already: the
+register with select, capture, shift, update, tck, tdi and tdo (the host interface of IEEE 1687), with NAME_register.icl
+and NAME_register.pdl. NAME_register_tb.sv tries it with a TAP of its own."""
 from __future__ import annotations
 
 import dataclasses
@@ -63,6 +65,7 @@ from vidlakost_tools.access import (
     standards,
     stil,
     tap,
+    under_tap,
     wgl,
 )
 from vidlakost_tools.access.logs import log_depth
@@ -128,7 +131,7 @@ def texts(target: Target, options: dict[str, Any]) -> dict[str, str]:
         made.update(fail_log.blocks(target, depth))
         if not target.is_chip:
             made[f"{name}_log_tb.sv"] = fail_log.bench(target, depth)
-    if "--apb" in options or "--jtag" in options:
+    if {"--apb", "--jtag", "--under-tap"} & set(options):
         made[f"{name}_cross.v"] = access_block.cross(target)
     if "--apb" in options:
         made[f"{name}_apb.v"] = apb.block(target)
@@ -138,6 +141,8 @@ def texts(target: Target, options: dict[str, Any]) -> dict[str, str]:
             tell(f"access: {name} is no name in SystemRDL, so {name}_apb.rdl is left out")
         else:
             made[f"{name}_apb.rdl"] = apb.system_rdl(target)
+    if "--under-tap" in options:
+        made.update(under_tap.texts(target, megahertz(options["--mhz"]) if "--mhz" in options else None))
     return {**made, **of_tap(target, options)} if "--jtag" in options else made
 
 
@@ -205,7 +210,7 @@ def of_whole(path: str, pins: list[str], out: pathlib.Path, options: dict[str, A
         beside = system_access.files_of(out, target)
         system_access.refuse_inner_names(target, made)
         system_access.refuse_log_names(target)
-    for kind in [kind for kind in ("access", "apb", "tap") if f"{target.name}_{kind}.v" in made]:
+    for kind in [kind for kind in ("access", "apb", "tap", "register") if f"{target.name}_{kind}.v" in made]:
         between = [f"{target.name}_cross.v"] if kind != "access" else []
         between += [f"{target.name}_sib.v"] if kind == "tap" and "--sib" in options else []
         own = [
@@ -230,9 +235,12 @@ def main(arguments: list[str]) -> int:
         "--sib": 0,
         "--idcode": 1,
         "--in-place": 0,
+        "--under-tap": 0,
         "--each": 0,
     }
     (path, *pins, folder), options = words_of(__doc__, arguments, allowed, 2, None)
+    if "--under-tap" in options and "--in-place" not in options:
+        raise ToolError(f"--under-tap needs --in-place\n{usage_of(__doc__)}")
     alone = [name for name in ("--sib", "--idcode") if name in options and "--jtag" not in options]
     if alone:
         raise ToolError(f"{alone[0]} needs --jtag\n{usage_of(__doc__)}")

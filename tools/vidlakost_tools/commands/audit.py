@@ -28,14 +28,15 @@ audit reports in this order:
                              with each bit of each answer as the first wrong one.
                              Three values lose that two open values depend on each other. Then audit splits what fail
                              depends on into its numbers. If that is too much, it asks Yosys' model checker
+    simulator                if all is right as Yosys reads the sources: a simulator of their language clocks the
+                             sources themselves beside the module that Yosys makes of them. It clocks random cycles,
+                             with random resets and registers, and the whole test from two seeds, with right and with
+                             wrong answers; of a test of more than 300,000 cycles the beginning, the end, each border of
+                             elements, and random stretches. audit refuses a port that differs. The cells of a
+                             library are clocked as Yosys reads their functions
 --vcd writes the run of `check` to FILE, beside the ports that are due. Every register is open at first, and so is
 every word on rdata. A save file for GTKWave comes with it, at the cycle that was found, unless one of yours is there.
 --limit ends the look at `fail` after so many seconds (600); the verdict is then no yes.
-    simulator                if all is right as Yosys reads the sources: a simulator of their language clocks the sources
-                             themselves beside the module that Yosys makes of them. It clocks random cycles, with random
-                             resets and registers, and the whole test from two seeds, with right and with wrong
-                             answers; of a test of more than 300,000 cycles the beginning, the end, each border of
-                             elements, and random stretches. audit refuses a port that differs
 --no-simulate has no simulator clock the sources.
 --json writes to FILE, for scripts: the verdict, each witness with its version and what it saw, the cycle and the port
 with what is due there and what it is, and the SHA-256 of each input.

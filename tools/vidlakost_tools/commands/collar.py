@@ -70,7 +70,7 @@ from vidlakost_tools.collar.names import MARK
 from vidlakost_tools.collar.pin_lines import read_macro
 from vidlakost_tools.collar.pins import Macro, Word, alike
 from vidlakost_tools.collar.text import collar
-from vidlakost_tools.collar.untested import told_pins, untested
+from vidlakost_tools.collar.untested import beyond, told_pins, untested
 from vidlakost_tools.collar.vendor import file_with, files_of, refuse_other_ports, undriven
 from vidlakost_tools.files import is_own, refuse_twins, write_own
 from vidlakost_tools.text import shown
@@ -138,7 +138,7 @@ def tell_left(macro: Macro, word: Word, theirs: str | None) -> None:
         tell(f"collar: {told}")
     if chosen_clocks(macro) and macro.clock_cell is None:
         tell(f"collar: `? :` chooses the clock of {', '.join(chosen_clocks(macro))}: name a cell by --clock-mux")
-    left = told_pins(untested(macro, word, theirs is not None))
+    left = told_pins([*untested(macro, word, theirs is not None), *beyond(macro, word)])
     if left:
         tell(f"collar: not tested: {left}")
     if alike(word):

@@ -10,7 +10,8 @@ usage: vidlakost formal                                    a dozen marches and m
 Every register is open in cycle 0, the cycle of the reset. Every word on `rdata` is open in every cycle. In each cycle
 to the end of the test, and in three cycles after it, all ports have to be as the list of `vectors` says, and `fail` as
 these words say. Of modules that the program wrote formal shares only that list with the program. A module of yours is
-read by Yosys, as `audit` reads it. So formal, too, has a simulator clock the sources beside what Yosys makes of them.
+read by Yosys (VHDL by GHDL first), as `audit` reads it. So formal, too, has a simulator clock the sources beside what
+Yosys makes of them.
 With --resets the reset may come again in any cycle, and each reset begins the test anew. That takes longer, and is for
 the smallest memories. formal judges the first of the dozen so too.
 What nothing drives is open in every cycle. formal ignores initial values. It refuses a signal with two drivers, a
@@ -48,6 +49,7 @@ from vidlakost_tools.verilog.front_end import Plain, plain_of
 from vidlakost_tools.verilog.model_checker import differs_within
 from vidlakost_tools.verilog.port_judge import Cycle
 from vidlakost_tools.verilog.replayed import Case
+from vidlakost_tools.verilog.vhdl import verilog_of
 
 # so many more cycles, if resets may come at any time
 AFTER = 8
@@ -181,7 +183,7 @@ def judge(
     options = options or {}
     with tempfile.TemporaryDirectory() as name:
         folder, resets = pathlib.Path(name), "--resets" in options
-        sources = yosys.read(list(map(str, files)), options, folder)
+        sources = yosys.read(*verilog_of(list(map(str, files)), options, folder), folder)
         pins = read_pins(options["--pins"]).complete(sources.module["ports"]) if options.get("--pins") else None
         refuse_ports(sources.module, memory, pins)
         begin, clock = clock_tree.settled(sources, pins, folder)

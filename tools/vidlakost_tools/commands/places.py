@@ -11,11 +11,16 @@ each of these (`#` begins a comment):
     before FILE                    a source of the chip as it was, with its macros
     at MEMORY PATH [was PATH]      the instance of a memory, from the top on, as core.bank.words; was, if the instance
                                    of its macro had another name
-    access PATH                    the instance of NAME_access; in NAME_tap or NAME_apb its name is tested
+    access PATH [CLOCK]            the instance of NAME_access; in NAME_tap or NAME_apb its name is tested. CLOCK is the
+                                   port whose clock it has, which is compared if it is named
     clock PORT NANOSECONDS         a clock of the chip, with its period
     set PORT VALUE                 an input that keeps a value; all others are 0 in use, and unknown in test
     start PORT, done PORT, fail PORT           the ports that start the test and show its state, a line for each; or
-    tap TCK TMS TDI TRST_N TDO     those of the TAP that `vidlakost access --in-place --jtag` writes
+    tap TCK TMS TDI TRST_N TDO [TDO_EN]
+                                   those of the TAP that `vidlakost access --in-place --jtag` writes. Without TDO_EN TDO
+                                   has to be off outside scans
+    under BITS CODE                the TAP is the chip's own: so many bits has its instruction, and CODE, in hexadecimal
+                                   digits, that by which it selects NAME_register of `access --in-place --under-tap`
 The lines source, before, at, clock and set may come many times. places writes to FOLDER
     NAME_places_tb.sv   a testbench of the chip. First it compares both ends of each bit of each bundle, one bit at a
                         time. Then it runs the test by the ports of the chip, and compares it with what the sequencer
@@ -24,12 +29,12 @@ The lines source, before, at, clock and set may come many times. places writes t
                         first failure. +planted=MEMORY plants at that memory alone
     NAME_places.f       what a simulator has to read
 If PLACES has lines `before`, Yosys proves that in use each pin of each memory, each flip-flop and each output of the
-chip has what it had before. places prints each one that differs; the status is then 1. Where all is proved Icarus clocks
-both chips, for 20,000 random cycles of use, with memories that answer random words; places refuses a pin of a memory or
-an output that differs, since the sources then mean two things. The last line is `places: right`, `wrong`, `unknown` or
-`refused`, and what was seen. Without Icarus it is `places: unknown: right as Yosys reads it, not simulated`, with the
-status 1; with --no-simulate it is `places: right as Yosys reads it, not simulated`, with the status 0. --json writes the
-verdict to FILE, for scripts. Without Yosys places says that nothing was proved.
+chip has what it had before. places prints each one that differs; the status is then 1. Where all is proved Icarus
+clocks both chips, for 20,000 random cycles of use, with memories that answer random words; places refuses a pin of a
+memory or an output that differs, since the sources then mean two things. The last line is `places: right`, `wrong`,
+`unknown` or `refused`, and what was seen. Without Icarus it is `places: unknown: right as Yosys reads it, not
+simulated`, with the status 1; with --no-simulate it is `places: right as Yosys reads it, not simulated`, with the
+status 0. --json writes the verdict to FILE, for scripts. Without Yosys places says that nothing was proved.
     cd FOLDER && iverilog -g2012 -o tb -c NAME_places.f && vvp -n tb && vvp -n tb +planted"""
 from __future__ import annotations
 
@@ -63,9 +68,11 @@ def listed(folder: pathlib.Path, target: PlaceTarget, places: Places) -> list[st
         told = f"{folder} has no {target.name}_access.v in its files.f"
         raise ToolError(f"{told}: give the folder that `vidlakost top --in-place` wrote")
     own = [line for line in lines_of(read_described(files)) if line and not line.startswith("//")]
-    reach = [f"{target.name}_{what}.v" for what in ("tap", "apb", "cross")]
-    if places.has_tap and not (folder / reach[0]).is_file():
-        raise ToolError(f"{folder} has no {reach[0]}: `vidlakost access --in-place --jtag` writes it")
+    own_tap, *others = (f"{target.name}_{what}.v" for what in ("tap", "register", "apb", "cross"))
+    reach, needed = [own_tap, *others], others[0] if places.under[0] else own_tap
+    if places.has_tap and not (folder / needed).is_file():
+        way = "--under-tap" if places.under[0] else "--jtag"
+        raise ToolError(f"{folder} has no {needed}: `vidlakost access --in-place {way}` writes it")
     found = [name for name in reach if (folder / name).is_file()]
     sources = [os.path.relpath(os.path.realpath(file), os.path.realpath(folder)) for file in places.sources]
     odd = next((name for name in sources if any(letter in name for letter in " \t\"#")), None)
@@ -108,6 +115,8 @@ def judged(target: PlaceTarget, places: Places, is_alone: bool) -> Outcome:
     with bounded.folder_of_its_own() as folder:
         proof = places_proof.Proof(target, places, folder)
         found = proof.differences()
+        if places.under[0]:
+            tell(f"places: what stands before {places.start['tdo']} is not compared, since the register leaves by it")
         print("\n".join([f"{target.name}: in use {line}" for line in found or [USUAL]]))
         by_yosys = {"Yosys": found[0] if found else USUAL}
         if found:

@@ -65,7 +65,7 @@ from vidlakost_tools.collar.model import boxes, model
 from vidlakost_tools.collar.names import MARK
 from vidlakost_tools.collar.pins import Macro, alike
 from vidlakost_tools.collar.text import collar
-from vidlakost_tools.collar.untested import Untested, told_pins, untested
+from vidlakost_tools.collar.untested import Untested, beyond, told_pins, untested
 from vidlakost_tools.collar.vendor import files_by_module, files_of, refuse_other_ports, undriven
 from vidlakost_tools.files import is_own, refuse_twins, write_own
 from vidlakost_tools.in_place import files as in_place_files
@@ -202,7 +202,10 @@ def tell_untested(system: System, texts: dict[str, str]) -> None:
     left = [
         Untested(f"{name}.{one.pin}", one.why)
         for name, placed in words.items()
-        for one in untested(placed.macro, placed.word, f"{placed.macro.name}.v" not in texts)
+        for one in (
+            *untested(placed.macro, placed.word, f"{placed.macro.name}.v" not in texts),
+            *beyond(placed.macro, placed.word),
+        )
     ]
     if left:
         tell(f"top: not tested: {told_pins(left)}")

@@ -23,13 +23,14 @@ FORMS = {
     "source": "source FILE",
     "before": "before FILE",
     "at": "at MEMORY PATH [was PATH]",
-    "access": "access PATH",
+    "access": "access PATH [CLOCK]",
     "clock": "clock PORT NANOSECONDS",
     "set": "set PORT VALUE",
     "start": "start PORT",
     "done": "done PORT",
     "fail": "fail PORT",
-    "tap": "tap TCK TMS TDI TRST_N TDO",
+    "under": "under BITS CODE",
+    "tap": "tap TCK TMS TDI TRST_N TDO [TDO_EN]",
 }
 MANY = ("source", "before", "at", "clock", "set")
 TAP_PINS = ("tck", "tms", "tdi", "trst_n", "tdo")
@@ -54,12 +55,16 @@ class Places:
     before: list[str] = dataclasses.field(default_factory=list)
     places: dict[str, Place] = dataclasses.field(default_factory=dict)
     access: str = ""
+    # the chip's clock of the sequencer, if that is named
+    access_clock: str = ""
     # the period of each clock, in nanoseconds
     clocks: dict[str, int] = dataclasses.field(default_factory=dict)
     values: dict[str, str] = dataclasses.field(default_factory=dict)
     # the ports by which the test is started: start, done and fail, or those of a TAP
     start: dict[str, str] = dataclasses.field(default_factory=dict)
     ports: list[Found] = dataclasses.field(default_factory=list)
+    # of a TAP that the chip had before the bits of an instruction, and the one of the register; (0, 0) of ours
+    under: tuple[int, int] = (0, 0)
 
     def refuse(self, line: int, why: str) -> ToolError:
         return ToolError(f"{self.path}:{line}: {why}" if line else f"{self.path}: {why}")
@@ -79,8 +84,10 @@ class Places:
             self.places[rest[0]] = Place(rest[1], rest[3] if rest[3:] else rest[1], line)
             return True
         if word == "tap":
-            self.start.update(zip(TAP_PINS, rest))
-            return len(rest) == 5 and all(map(is_name, rest))
+            self.start.update(zip((*TAP_PINS, "tdo_en"), rest))
+            return len(rest) in (5, 6) and all(map(is_name, rest))
+        if word == "under":
+            return self.is_under(rest)
         if word == "clock":
             if len(rest) != 2 or not re.fullmatch("[1-9][0-9]{0,5}", rest[1]):
                 return False
@@ -93,9 +100,18 @@ class Places:
             self.refuse_twice(line, rest[0], self.values)
             self.values[rest[0]] = rest[1]
             return is_name(rest[0])
+        if word == "access" and len(rest) == 2:
+            self.access_clock = rest.pop()
         if len(rest) != 1:
             return False
         return self.named(word, rest[0])
+
+    def is_under(self, rest: list[str]) -> bool:
+        """The instruction by which the chip's own TAP selects the register."""
+        if len(rest) != 2 or not re.fullmatch("[1-9][0-9]?", rest[0]) or not re.fullmatch("[0-9a-fA-F]{1,16}", rest[1]):
+            return False
+        self.under = (int(rest[0]), int(rest[1], 16))
+        return not self.under[1] >> self.under[0]
 
     def refuse_twice(self, line: int, port: str, told: Mapping[str, object]) -> None:
         """A port has one clock, or one value."""
@@ -137,6 +153,8 @@ def read_places(path: str, system: System) -> Places:
     if missing:
         raise found.refuse(0, f"no line for {', '.join(missing)}")
     refuse_starts(found, seen)
+    if found.access_clock and found.access_clock not in found.clocks:
+        raise found.refuse(seen["access"], f"no line 'clock' is for {found.access_clock}")
     refuse_names(found, system)
     found.ports = ports_of(found)
     refuse_widths(found, len(system.collars))
@@ -148,6 +166,8 @@ def refuse_starts(places: Places, seen: dict[str, int]) -> None:
     signals = [word for word in ("start", "done", "fail") if word in seen]
     if ("tap" in seen) == bool(signals) or signals and len(signals) < 3:
         raise places.refuse(0, "write either the lines start, done and fail, or the line tap")
+    if "under" in seen and "tap" not in seen:
+        raise places.refuse(seen["under"], "the line under needs the line tap")
 
 
 def refuse_names(places: Places, system: System) -> None:
@@ -188,7 +208,7 @@ def ports_of(places: Places) -> list[Found]:
     unknown = next((port.name for port in ports if not port.width or port.way == "inout"), None)
     if unknown:
         raise places.refuse(0, f"{unknown} of {places.chip} is an inout, or its width is not a number")
-    outputs = [places.start[word] for word in ("done", "fail", "tdo") if word in places.start]
+    outputs = [places.start[word] for word in ("done", "fail", "tdo", "tdo_en") if word in places.start]
     inputs = [*places.clocks, *places.values, *(name for name in places.start.values() if name not in outputs)]
     for names, way in ((inputs, "input"), (outputs, "output")):
         for name in names:

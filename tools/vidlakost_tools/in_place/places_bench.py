@@ -18,6 +18,19 @@ from vidlakost_tools.verilog.bench_end import FINISH, over, progress
 from vidlakost_tools.verilog.syntax import ranged
 
 
+IDENTIFIED = """      heard = {length}'d0;
+      shift(32, {length}'d0);
+      if (heard[31:0] !== 32'h{identity:08x}) $fatal(1, "{name}: the identity is %h", heard[31:0]);
+"""
+OWN_CLOCK = """  // the sequencer has the clock of the chip's that is named
+  always @(c_{clock} or dut.{access}.clk) begin
+    #0.01;
+    if (!is_probed && in_test === 1'b1 && dut.{access}.clk !== c_{clock})
+      $fatal(1, "{name}: the clock of the sequencer is %b while {clock} is %b", dut.{access}.clk, c_{clock});
+  end
+"""
+
+
 class ChipBench:
     """The testbench that is being written."""
 
@@ -100,8 +113,35 @@ class ChipBench:
             loads="\n".join(loads),
             budget=self.system.budget,
             order="\n".join(order),
+            own_clock=self.own_clock(),
             clocks=f"{{dut.{access}.clk, {self.joined(self.clock)}}}",
         )
+
+    def own_clock(self) -> str:
+        """Whether the clock of the sequencer is that of the chip's which is named."""
+        name = self.places.access_clock
+        if not name:
+            return ""
+        return OWN_CLOCK.format(name=self.system.name, clock=name, access=self.places.access)
+
+    def instruction(self) -> dict[str, Any]:
+        """By which instruction the register is reached, and what is looked at before: our own TAP has an identity."""
+        bits, code = self.places.under
+        if bits:
+            return {"ir_top": bits - 1, "instruction": f"{bits}'h{code:x}", "identified": ""}
+        told = IDENTIFIED.format(name=self.system.name, length=tap.length(self.target), identity=self.target.identity)
+        return {"ir_top": tap.IR_BITS - 1, "instruction": "4'h8", "identified": told}
+
+    def driven(self) -> tuple[str, str]:
+        """In a scan TDO is driven, and outside it is off, or the chip tells so by a port."""
+        name, start = self.system.name, self.places.start
+        port = start.get("tdo_en")
+        if port is None:
+            told = f"{start.get('tdo')} is driven outside scans: name the port of tdo_en behind it in the line tap"
+            return "", f'      if (c_{start.get("tdo")} !== 1\'bz) $fatal(1, "{name}: {told}");\n'
+        scan, rest = (f"{port} is not {bit} {where} a scan" for bit, where in ((1, "in"), (0, "outside")))
+        inside = f'        if (c_{port} !== 1\'b1) $fatal(1, "{name}: {scan}");\n'
+        return inside, f'      if (c_{port} !== 1\'b0) $fatal(1, "{name}: {rest}");\n'
 
     # ---- the ways to start
 
@@ -145,12 +185,13 @@ class ChipBench:
                 f"            $fatal(1, {read});",
                 "        end",
             ]
+        values["in_scan"], values["at_rest"] = self.driven()
         way = TAP if places.has_tap else SIGNALS
         values["whose"] = extended(f"dut.{places.access}.unit", target.unit_bits, 32)
         if places.has_tap:
             at = {part.name: part.bits for part in tap.parts(target)}
             size = tap.length(target)
-            values.update(last=size - 1, length=size, rest=size - self.count, identity=target.identity)
+            values.update(last=size - 1, length=size, rest=size - self.count, **self.instruction())
             values.update({name: at[name] for name in ("failing", "cycle")})
             values.update(wanted=at["expected"], got=at["returned"])
             values["whose"] = extended(f"heard{at['unit']}", target.unit_bits, 32)

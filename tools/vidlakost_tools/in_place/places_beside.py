@@ -1,5 +1,5 @@
-"""Both chips in Icarus, as they were and as they are, in random use: each pin of a memory and each output has to have the
-same in both. The memories answer random words, and nothing starts a test, as in the proof."""
+"""Both chips in Icarus, as they were and as they are, in random use: each pin of a memory and each output has to have
+the same in both. The memories answer random words, and nothing starts a test, as in the proof."""
 from __future__ import annotations
 
 import dataclasses

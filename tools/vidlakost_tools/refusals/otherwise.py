@@ -151,7 +151,8 @@ def of_compiled(name: str, memory: Memory, report: Report) -> list[str]:
     if not missed:
         return []
     return [
-        f"{name}: warning: the background 0 is not the first, and the run before it goes on into it without an idle cycle:"
+        f"{name}: warning: the background 0 is not the first, and the run before it goes on into it without an idle"
+        " cycle:"
         f" the module need not find {' '.join(missed)}, which the march covers"
     ]
 

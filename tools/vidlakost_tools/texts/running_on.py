@@ -1,5 +1,5 @@
-"""Where the test of a memory finds less than its march: a run of another background goes on into that of the background 0
-without an idle cycle, so its last operation and the first there can be the two of a dynamic primitive."""
+"""Where the test of a memory finds less than its march: a run of another background goes on into that of the background
+0 without an idle cycle, so its last operation and the first there can be the two of a dynamic primitive."""
 from __future__ import annotations
 
 from vidlakost_tools.texts.faults import Primitive
@@ -18,14 +18,14 @@ def acts_of(primitive: Primitive) -> list[str]:
 
 
 def same_word(elements: list[Element]) -> bool:
-    """Whether a run ends at the word at which the next begins; where it begins or ends with a pause none is at a word."""
+    """Whether a run ends at the word at which the next begins; where it begins or ends with a pause none is at one."""
     first, last = elements[0], elements[-1]
     return not first.is_pause and not last.is_pause and (first.order == "down") != (last.order == "down")
 
 
 def runs_on(primitive: Primitive, elements: list[Element], memory: Memory, background: int) -> bool:
-    """Whether the last operation of a run in this background and the first of one in the background 0 are the two of the
-    primitive, at some bit of one word."""
+    """Whether the last operation of a run in this background and the first of one in the background 0 are the two of
+    the primitive, at some bit of one word."""
     if not same_word(elements):
         return False
     last, first = elements[-1].operations[-1], elements[0].operations[0]

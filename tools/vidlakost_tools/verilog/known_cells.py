@@ -16,6 +16,7 @@ from vidlakost_tools.verilog.conditions import taken
 FAMILIES = {"ice40": ("ice40/cells_sim.v", "SB_LUT4|SB_CARRY|SB_GB|SB_DFFN?E?(?:S|R|SS|SR)?")}
 KNOWN = "SB_LUT4, SB_CARRY, SB_GB, and SB_DFF with N, E, S, R, SS and SR behind it"
 MODULE = re.compile(r"^module\s+(\w+)\b.*?^endmodule\b", re.MULTILINE | re.DOTALL)
+GENERIC = re.compile(r"^module\s+\\(\$_\w+_)\s.*?^endmodule\b", re.MULTILINE | re.DOTALL)
 DEFINE = re.compile(r"\s*`define\s+(\w+)(?:\((\w+)\))?[ \t]*(.*)")
 MACRO = re.compile(r"`(\w+)(?:\(([^()]*)\))?")
 
@@ -49,6 +50,16 @@ def models(text: str) -> dict[str, str]:
 
     whole = MACRO.sub(written, "\n".join(lines))
     return {match[1]: match[0] for match in MODULE.finditer(whole)}
+
+
+def generic(texts: list[str]) -> str:
+    """Yosys' own models of its generic cells that texts name, for a simulator."""
+    named = {name for text in texts for name in re.findall(r"\\(\$_\w+_)\s", text)}
+    path = share() / "simcells.v" if named else None
+    if path is None or not path.is_file():
+        return ""
+    text = read_bytes(path, LARGE_BYTES).decode("utf-8", "replace")
+    return "\n\n".join(match[0] for match in GENERIC.finditer(text) if match[1] in named) + "\n"
 
 
 def family_of(options: Mapping[str, Any]) -> str | None:

@@ -46,6 +46,9 @@ class Block:
     waits: set[str] | None
     is_clocked: bool
     events: list[Event]
+    # the edges that it waits for, as `posedge clk`, and where it ends
+    edges: set[str] = dataclasses.field(default_factory=set)
+    end: int = 0
 
     def first_read(self) -> dict[str, int]:
         """The names that are read and not set before, each with the place."""
@@ -92,7 +95,10 @@ class Reader:
             )
             is_clocked = bool(waited) and ("posedge" in waited or "negedge" in waited) or word == "always_ff"
             events = [event for event in self.events if event.name not in self.locals]
-            yield Block(at, names if word == "always" else None, is_clocked, events)
+            pairs = zip(waited or [], (waited or [])[1:])
+            edges = {f"{edge} {name}" for edge, name in pairs if edge in ("posedge", "negedge")}
+            end = self.places[min(self.here, self.last)]
+            yield Block(at, names if word == "always" else None, is_clocked, events, edges, end)
 
     def waited(self) -> list[str]:
         """What stands behind the `@` of a block."""
@@ -243,12 +249,6 @@ def of_blocks(text: str) -> Iterator[tuple[int, str]]:
         early = [name for name in first if name in block.sets(True)]
         if early:
             yield first[early[0]], f"the block reads {told(early)} before it sets it"
-    clocked = [(block, block.first_read()) for block in blocks if block.is_clocked]
-    for block, own in clocked:
-        names = sorted(block.sets(True))
-        raced = [name for name in names if any(other is not own and name in other for _, other in clocked)]
-        if raced:
-            yield block.at, f"the block sets {told(raced)} with =, and another block reads it at the same edge"
 
 
 def warnings_of(file: str, source: str, text: str) -> list[str]:

@@ -14,6 +14,8 @@ from vidlakost_tools.verilog.vhdl_source import refuse_reaching
 
 # what names and the commas between them are of
 IN_NAMES = string.ascii_letters + string.digits + "_ ,"
+# what GHDL makes of an assertion, which is for simulations
+ASSERTED = re.compile(r'^ *always @\*\n *if \([^\n]*\)\n *\$(?:fatal|error|warning)\([^\n]*\);\n', re.MULTILINE)
 # how long GHDL may take
 SECONDS = 600
 
@@ -46,7 +48,7 @@ def verilog_of(files: list[str], options: dict[str, Any], folder: pathlib.Path) 
     entity = entities[-1] if is_mixed and top.lower() not in map(str.lower, entities) else top
     names = [str(pathlib.Path(file).resolve()) for file in vhdl]
     text = with_defaults(synthesized("verilog", names, entity, folder), synthesized("vhdl", names, entity, folder))
-    text = placed(text, dict(zip(vhdl, texts)))
+    text = placed(ASSERTED.sub("", text), dict(zip(vhdl, texts)))
     modules = [name for name in re.findall(r"^module (\w+)", text, re.MULTILINE) if name.lower() == top.lower()]
     made = folder / "vhdl.v"
     made.write_text(text, encoding="utf-8")

@@ -12,7 +12,7 @@ from typing import Any, Mapping
 from vidlakost_tools import bounded
 from vidlakost_tools.text import LARGE_BYTES, Path, beside, lines_of, read_bytes, shown, template
 from vidlakost_tools.tool import ToolError, identifier
-from vidlakost_tools.verilog import known_cells, simulation, two_meanings, unread
+from vidlakost_tools.verilog import known_cells, misread, simulation, two_meanings, unread
 from vidlakost_tools.verilog.rtlil import driven_constant, driven_twice, without_initial, written_contents
 from vidlakost_tools.verilog.source_texts import OPENED, Sources, asked, blanked, opened, with_included, with_members
 
@@ -47,6 +47,20 @@ def sources_of(files: list[str]) -> str:
 def libraries_of(options: Mapping[str, Any]) -> str:
     """The script that reads the libraries of cells that `--liberty` names."""
     return "".join(f"read_liberty -ignore_miss_func {sources_of([file])}\n" for file in options.get("--liberty", []))
+
+
+MODEL = re.compile(r"^module (\w+)\(.*?^endmodule$", re.MULTILINE | re.DOTALL)
+
+
+def library_models(options: Mapping[str, Any], texts: list[str]) -> str:
+    """The cells of the libraries that texts name, in Verilog, as Yosys reads their functions."""
+    if not options.get("--liberty"):
+        return ""
+    with bounded.folder_of_its_own() as folder:
+        run(f"{libraries_of(options)}write_verilog -noattr {quoted(folder / 'cells.v')}\n", folder, "-q")
+        written = (folder / "cells.v").read_text(encoding="utf-8", errors="replace")
+    named = set(re.findall(r"\w+", " ".join(texts)))
+    return "\n\n".join(match[0] for match in MODEL.finditer(written) if match[1] in named) + "\n"
 
 
 class Slow(ToolError):
@@ -152,6 +166,7 @@ DIVISIONS = ("$div", "$mod", "$divfloor", "$modfloor")
 def read(files: list[str], options: Mapping[str, Any], folder: pathlib.Path) -> Sources:
     """The sources; a signal with two drivers is refused."""
     asks = asked(files)
+    misread.refuse((file, blanked(source)[0]) for file, source in with_included(files) if not is_in(folder, file))
     given, raw, plain, first, parts = (
         folder / name for name in ("given.il", "raw.il", "plain.il", "first.il", "first.json")
     )
