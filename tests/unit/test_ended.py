@@ -62,20 +62,6 @@ class Ended(unittest.TestCase):
             self.assertIn(tool.wait(timeout=20), (130, 128 + number))
             self.assertTrue(is_gone(int(said.read_text())), number)
 
-    def test_signal_that_comes_while_a_program_is_begun(self) -> None:
-        """The program that was begun ends, and only then the signal is answered."""
-        started: list[subprocess.Popen[bytes]] = []
-        whole = subprocess.Popen
-
-        def begun(*words: Any, **how: Any) -> subprocess.Popen[bytes]:
-            started.append(whole(*words, **how))
-            os.kill(os.getpid(), signal.SIGINT)
-            return started[-1]
-
-        with mock.patch.object(subprocess, "Popen", begun), self.assertRaises(KeyboardInterrupt):
-            bounded.heard(["sleep", "300"], os.environ, None)
-        self.assertEqual(started[0].returncode, -signal.SIGKILL)
-
     def test_program_ends_with_its_launcher(self) -> None:
         program = self.folder / "program"
         program.write_text("#!/bin/sh\necho $$ >\"$2\"\nexec sleep 300\n")
@@ -104,6 +90,20 @@ class Ended(unittest.TestCase):
         environment = {**os.environ, "VIDLAKOST_PROGRAM": str(program)}
         subprocess.run(words, env=environment, stdout=subprocess.DEVNULL, check=True)
         self.assertEqual(sorted(os.listdir(folder)), [f".vidlakost-{number}-{number}", f".vidlakost-notes-{number}"])
+
+    def test_signal_that_comes_while_a_program_is_begun(self) -> None:
+        """The program that was begun ends, and only then the signal is answered."""
+        started: list[subprocess.Popen[bytes]] = []
+        whole = subprocess.Popen
+
+        def begun(*words: Any, **how: Any) -> subprocess.Popen[bytes]:
+            started.append(whole(*words, **how))
+            os.kill(os.getpid(), signal.SIGINT)
+            return started[-1]
+
+        with mock.patch.object(subprocess, "Popen", begun), self.assertRaises(KeyboardInterrupt):
+            bounded.heard(["sleep", "300"], os.environ, None)
+        self.assertEqual(started[0].returncode, -signal.SIGKILL)
 
 
 class Left(unittest.TestCase):

@@ -18,7 +18,7 @@ import time
 from typing import Any, Callable, Iterator, Mapping, Sequence
 
 from vidlakost_tools.text import lines_of
-from vidlakost_tools.tool import ToolError, telling
+from vidlakost_tools.tool import ENDS, ToolError, telling
 
 CHILD = pathlib.Path(__file__).with_name("confined.py")
 # the ways by which a program is held to a folder, of which the first that the system has is taken
@@ -143,7 +143,7 @@ def begun(words: Sequence[str], **how: Any) -> subprocess.Popen[bytes]:
     came: list[int] = []
     before: dict[int, Any] = {}
     if threading.current_thread() is threading.main_thread():
-        for number in (signal.SIGTERM, signal.SIGINT, signal.SIGHUP):
+        for number in ENDS:
             handler = signal.getsignal(number)
             if callable(handler):
                 before[number] = handler

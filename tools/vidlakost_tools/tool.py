@@ -43,8 +43,10 @@ def usage_of(doc: str | None) -> str:
 
 
 # the signals that end a process which doesn't hear them, but those of a fault and the one that no process hears; Python
-# hears INT itself, and passes over PIPE and XFSZ
-ENDS = ("TERM", "HUP", "QUIT", "USR1", "USR2", "ALRM", "VTALRM", "PROF", "XCPU", "POLL", "PWR", "STKFLT")
+# passes over PIPE and XFSZ
+NAMES = ("TERM", "INT", "HUP", "QUIT", "USR1", "USR2", "ALRM", "VTALRM", "PROF", "XCPU", "POLL", "PWR", "STKFLT")
+# an older Python does not know all of them
+ENDS: list[int] = [getattr(signal, f"SIG{name}") for name in NAMES if hasattr(signal, f"SIG{name}")]
 # a mark in front of each word with one dash, while argparse reads the words
 PLAIN = "\0"
 
@@ -134,8 +136,7 @@ def start(main: Callable[[], int | None]) -> None:
     if sys.stdout is None:
         tell(f"{name}: standard output is closed")
         sys.exit(8)
-    numbers: list[signal.Signals] = [getattr(signal, f"SIG{end}") for end in ENDS if hasattr(signal, f"SIG{end}")]
-    for number in numbers:
+    for number in ENDS:
         if signal.getsignal(number) == signal.SIG_DFL:
             signal.signal(number, stop)
     # bytes that are not UTF-8, as in the name of a folder, go out as they came
