@@ -91,7 +91,7 @@ def unpack(files: Mapping[str, tuple[bytes, bool]], home: pathlib.Path) -> None:
 def parts_of(package: pathlib.Path) -> dict[str, tuple[str, int, str]]:
     """What a Debian package holds: for each member of both its archives the sum of its bytes or where a link leads, its
     kind and mode, and its owner. Nothing of it runs."""
-    found = {}
+    found: dict[str, tuple[str, int, str]] = {}
     for part in ("--ctrl-tarfile", "--fsys-tarfile"):
         done = subprocess.run(["dpkg-deb", part, str(package)], stdout=subprocess.PIPE, check=False)
         if done.returncode != 0:
@@ -101,7 +101,10 @@ def parts_of(package: pathlib.Path) -> dict[str, tuple[str, int, str]]:
                 file = archive.extractfile(entry) if entry.isreg() else None
                 content = sum_of(file.read(MOST)) if file else entry.linkname
                 kind = f"{entry.type!r} {entry.uid} {entry.gid}"
-                found[f"{part[2:6]} {entry.name}"] = (content, entry.mode, kind)
+                name = f"{part[2:6]} {entry.name}"
+                if name in found:
+                    raise Tampered(f"{shown(entry.name)} is twice in {package.name}")
+                found[name] = (content, entry.mode, kind)
     return found
 
 
