@@ -11,6 +11,7 @@ import time
 import unittest
 from unittest import mock
 
+from tests.unit.signals import as_at_a_terminal
 from vidlakost_tools import bounded
 from vidlakost_tools.bounded import Bounds, Call, Stopped
 from vidlakost_tools.program import ROOT
@@ -129,6 +130,7 @@ class Left(unittest.TestCase):
         return left(self.mark)
 
     def test_nothing_is_left_behind_a_signal(self) -> None:
+        as_at_a_terminal(self)
         for number in (signal.SIGTERM, signal.SIGINT):
             self.assertEqual((self.ended_by(number), os.listdir(self.folder)), ([], []))
 

@@ -12,6 +12,7 @@ import unittest
 from typing import Any
 from unittest import mock
 
+from tests.unit.signals import as_at_a_terminal
 from vidlakost_tools import bounded
 from vidlakost_tools.explorer import left
 from vidlakost_tools.program import ROOT
@@ -44,6 +45,7 @@ class Ended(unittest.TestCase):
         made = tempfile.TemporaryDirectory()
         self.addCleanup(made.cleanup)
         self.folder = pathlib.Path(made.name)
+        as_at_a_terminal(self)
 
     def test_program_ends_with_its_tool(self) -> None:
         program = self.folder / "program"
@@ -102,7 +104,7 @@ class Ended(unittest.TestCase):
             return started[-1]
 
         with mock.patch.object(subprocess, "Popen", begun), self.assertRaises(KeyboardInterrupt):
-            bounded.heard(["sleep", "300"], os.environ, None)
+            bounded.heard(["sleep", "30"], os.environ, None)
         self.assertEqual(started[0].returncode, -signal.SIGKILL)
 
 
