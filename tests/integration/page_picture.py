@@ -1,4 +1,5 @@
-"""The picture of the page of `vidlakost explore` in README and in docs/guide: two marches, and an escape where its fault acts.
+"""The picture of the page of `vidlakost explore` in README and in docs/guide: two marches, and an escape where its
+fault acts.
 
 usage: python3 -m tests.integration.page_picture ADDRESS docs/explore.png
 

@@ -252,9 +252,8 @@ def without_kit(folder: pathlib.Path) -> dict[str, str]:
     if not own.exists():
         own.mkdir()
         (own / "python3").symlink_to(sys.executable)
-    kept = [
-        place for place in os.environ.get("PATH", os.defpath).split(os.pathsep) if not os.access(os.path.join(place, "rt"), os.X_OK)
-    ]
+    places = os.environ.get("PATH", os.defpath).split(os.pathsep)
+    kept = [place for place in places if not os.access(os.path.join(place, "rt"), os.X_OK)]
     return {"PATH": os.pathsep.join([str(own), *kept, "/usr/bin", "/bin"]), "LC_ALL": "C.UTF-8", "HOME": "/nonexistent"}
 
 
