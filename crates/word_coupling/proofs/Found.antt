@@ -10,8 +10,8 @@ use Rattle.word_coupling.specs.declared.reading.Readings.{Readings}
 use Rattle.word_coupling.specs.declared.reading.Readings.TheVariants.{BeforeAlone, BehindAlone, Both}
 use Rattle.word_coupling.specs.declared.judging.WordEscape.{WordEscape}
 use Rattle.word_coupling.specs.Words.{DetectsBy, DetectsInWord}
-use Rattle.word_coupling.specs.Escapes.{IsLeastWordEscape, EscapesBy, is_among, IsVerdictBy, IsWordVerdict}
-use Rattle.word_coupling.specs.inner.Searching.{found_of}
+use Rattle.word_coupling.specs.Escapes.{IsLeastWordEscape, EscapesBy, is_among, IsWordVerdict}
+use Rattle.word_coupling.specs.inner.Searching.{IsVerdictBy, found_of}
 
 escapes : (r : Reading) (march : List MarchElement) (d : Description) (p : Primitive) (e : WordEscape)
     → IsLeastWordEscape r march d p e × (DetectsBy r march d p → ⊥) → EscapesBy r march d p

@@ -86,9 +86,9 @@ some_lacks_it march d p f h detects = go f.readings h.each
 
 line_one : (march : List MarchElement) (d : Description) (p : Primitive) (s t : List ℕ) → IsCouplingLine march d p s → IsCouplingLine march d p t → s ≡ t
 line_one march d p s t (inl (here, is)) (inl (also, it)) = is ∙ sym it
-line_one march d p s t (inl (here, is)) (inr (never, f, g, it)) = absurd (never here)
-line_one march d p s t (inr (never, e, h, is)) (inl (here, it)) = absurd (never here)
-line_one march d p s t (inr (never, e, h, is)) (inr (nor, f, g, it)) =
+line_one march d p s t (inl (here, is)) (inr (f, g, it)) = absurd (some_lacks_it march d p f g here)
+line_one march d p s t (inr (e, h, is)) (inl (here, it)) = absurd (some_lacks_it march d p e h here)
+line_one march d p s t (inr (e, h, is)) (inr (f, g, it)) =
     is ∙ first_escape_line march d p e f h g ∙ sym it
 
 pub one_in_word_text : (march : List MarchElement) (d : Description) (items : List Item) (text other : List ℕ)
@@ -108,7 +108,7 @@ tells march d p (Some f) h = some_lacks_it march d p f h
 
 line_is : (march : List MarchElement) (d : Description) (p : Primitive) (o : Option FoundEscape) → IsWordVerdict march d p o → IsCouplingLine march d p (verdict_line p o)
 line_is march d p None h = inl (h, refl)
-line_is march d p (Some f) h = inr (some_lacks_it march d p f h, f, h, refl)
+line_is march d p (Some f) h = inr (f, h, refl)
 
 module _ (march : List MarchElement) (d : Description) (items : List Item) (js : List JudgedCoupling) (h : AreJudgedInWord march d items js) where
   size : length js ≡ length (judged_in d items)

@@ -40,11 +40,6 @@ pub record IsLeastWordEscape (reading : Reading) (march : List MarchElement) (d 
   pub escape : IsWordEscape reading march d p e
   pub least : (f : WordEscape) → IsWordEscape reading march d p f → IsNoGreater e f
 
--- in one reading: nothing exactly where the test catches the primitive at every two bits of every word; else the least escape
-abbrev pub IsVerdictBy : Reading → List MarchElement → Description → Primitive → Option WordEscape → Type 0
-IsVerdictBy reading march d p None = DetectsBy reading march d p
-IsVerdictBy reading march d p (Some e) = IsLeastWordEscape reading march d p e × (DetectsBy reading march d p → ⊥)
-
 -- in a reading the primitive has an escape, and so the test doesn't detect it
 pub record EscapesBy (reading : Reading) (march : List MarchElement) (d : Description) (p : Primitive) : Type 0 where
   pub escape : WordEscape

@@ -50,7 +50,7 @@ escape_line p f = codes "escape " ++ prim_text p ++ word_escape_text f.at ++ rea
 abbrev pub IsCouplingLine : List MarchElement → Description → Primitive → List ℕ → Type 0
 IsCouplingLine march d p line =
     (DetectsInWord march d p × (line ≡ covered_line p))
-    ⊎ ((DetectsInWord march d p → ⊥) × (f : FoundEscape) × IsFirstEscape march d p f × (line ≡ escape_line p f))
+    ⊎ ((f : FoundEscape) × IsFirstEscape march d p f × (line ≡ escape_line p f))
 
 -- how many primitives of the list are no couplings
 abbrev pub apart_line : ℕ → List ℕ

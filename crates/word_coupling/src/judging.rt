@@ -1,8 +1,8 @@
 ghost use Rattle.std.specs.Prelude.{◌≡◌, ◌≢◌, ◌<◌, MatchOption, false, IsTrue};
 ghost use Rattle.cell_machine.specs.declared.pair.Pair.{Pair};
 ghost use Rattle.fault_core.specs.Primitive.{has_aggressor};
-ghost use Rattle.word_coupling.specs.Escapes.{IsVerdictBy, IsWordVerdict, content_number};
-ghost use Rattle.word_coupling.specs.inner.Searching.{end_in, run_by, passes_by, IsLeastContent, NoneAt, IsLeastAt, NoneBeside, IsLeastBeside, found_of};
+ghost use Rattle.word_coupling.specs.Escapes.{IsWordVerdict, content_number};
+ghost use Rattle.word_coupling.specs.inner.Searching.{end_in, run_by, passes_by, IsLeastContent, NoneAt, IsLeastAt, NoneBeside, IsLeastBeside, IsVerdictBy, found_of};
 
 use crate::couple::bits_at;
 use crate::ends::{EndTable, end_in, table_of};

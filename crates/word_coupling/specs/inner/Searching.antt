@@ -1,9 +1,10 @@
--- Inner. For proofs and private contracts alone: where a march leads in each background, and what passes by that.
+-- Inner. For proofs and private contracts alone: where a march leads in each background, what passes by that, and the verdict of one reading.
 use Rattle.std.specs.Prelude.{◌≡◌, ◌≢◌, ◌<◌, ◌≤◌, ◌⊎◌, ℕ, Bool, true, if◌then◌else◌, Option, Some, None, is_some, List, [], ◌∷◌}
 use Rattle.fault_core.specs.Primitive.{Primitive}
 use Rattle.cell_machine.specs.declared.pair.Pair.{Pair}
 use Rattle.cell_machine.specs.Pairs.{pair_close}
 use Rattle.march_core.specs.March.{MarchElement}
+use Rattle.memory_desc.specs.Descriptions.{Description}
 use Rattle.word_coupling.specs.declared.reading.Reading.{Reading}
 use Rattle.word_coupling.specs.declared.reading.Readings.TheVariants.{BeforeAlone, BehindAlone, Both}
 use Rattle.word_coupling.specs.declared.judging.WordEscape.{WordEscape}
@@ -11,7 +12,8 @@ use Rattle.word_coupling.specs.declared.judging.FoundEscape.{FoundEscape}
 use Rattle.word_coupling.specs.declared.ends.Ends.{Ends}
 use Rattle.word_coupling.specs.declared.ends.EndTable.{EndTable}
 use Rattle.word_coupling.specs.inner.Couples.{bits_at, behind, run_march}
-use Rattle.word_coupling.specs.Escapes.{content_number}
+use Rattle.word_coupling.specs.Words.{DetectsBy}
+use Rattle.word_coupling.specs.Escapes.{content_number, IsLeastWordEscape}
 
 -- ---- where a march leads
 
@@ -78,6 +80,11 @@ pub record IsLeastBeside (run : Pair → Pair → Option Pair) (p : Primitive) (
   pub least : (f : WordEscape) → PassesBy run p bits backgrounds f → f.vic ≡ vic → IsNoGreaterBeside e f
 
 -- ---- what is found by the verdicts of both readings
+
+-- in one reading: nothing exactly where the test catches the primitive at every two bits of every word; else the least escape
+abbrev pub IsVerdictBy : Reading → List MarchElement → Description → Primitive → Option WordEscape → Type 0
+IsVerdictBy reading march d p None = DetectsBy reading march d p
+IsVerdictBy reading march d p (Some e) = IsLeastWordEscape reading march d p e × (DetectsBy reading march d p → ⊥)
 
 abbrev pub found_of : Option WordEscape → Option WordEscape → Option FoundEscape
 found_of None None = None
