@@ -19,7 +19,7 @@ use Rattle.word_device.proofs.Wholes.{whole_stepped, settles_of, whole_planted}
 use Rattle.word_coupling.specs.declared.reading.Reading.{Reading}
 use Rattle.word_coupling.specs.declared.reading.Reading.TheVariants.{Before, Behind}
 use Rattle.word_coupling.specs.Words.{in_word, AreBits, found_in, words_by, is_wrong, is_caught, DetectsBy}
-use Rattle.word_coupling.specs.Memories.{read_by, InWordWrong, BeforeIsPlanted}
+use Rattle.word_coupling.specs.Memories.{read_by, InWordWrong, EachInWordWrong, BeforeIsPlanted}
 use Rattle.word_coupling.proofs.Failing.{wrong_differs}
 
 pub before_planted : BeforeIsPlanted
@@ -101,3 +101,7 @@ in_word_wrong march d m p r is detects memory word agg vic has bits =
     answers_wrong (read_by r i) (IsWhole d (Some i)) (λ s. Unit {0}) march d
     (from_any (read_by r i) (IsWhole d (Some i)) march d (in_word_caught march d p r is detects word agg vic bits)) m
     (record memory { state = closed_words i memory.state }) (whole_planted d i memory.state is bits.word_within has.words)
+
+pub each_in_word_wrong : (march : List MarchElement) (d : Description) → InWordWrong march d → EachInWordWrong march d
+each_in_word_wrong march d wrong p r is detects words pending idle size way word agg vic bits =
+    wrong p r is detects (record { state = words; pending = pending; idle = idle }) word agg vic (record { words = size; under_way = way }) bits

@@ -1,5 +1,5 @@
 -- Trusted. A memory of words with an instance of a primitive at two bits of one word, in a reading.
-use Rattle.std.specs.Prelude.{◌≡◌, ℕ, Some, List}
+use Rattle.std.specs.Prelude.{◌≡◌, ◌+◌, ℕ, Some, List, length}
 use Rattle.fault_core.specs.Primitive.{Primitive, IsPrimitive}
 use Rattle.march_core.specs.March.{MarchElement}
 use Rattle.memory_desc.specs.Descriptions.{Description}
@@ -29,6 +29,14 @@ OfDetectedInWord Says march d = (p : Primitive) (reading : Reading) → IsPrimit
 -- each such memory answers some read wrong
 abbrev pub InWordWrong : List MarchElement → Description → Type 0
 InWordWrong march d = OfDetectedInWord (AnswersWrong march d) march d
+
+-- so each of them does: whatever its words hold, whatever answers are under way, and however long it was idle
+abbrev pub EachInWordWrong : List MarchElement → Description → Type 0
+EachInWordWrong march d =
+    (p : Primitive) (reading : Reading) → IsPrimitive p → DetectsBy reading march d p → (words pending : List ℕ) (idle : ℕ) → length words ≡ d.words
+    → length pending + 1 ≡ d.latency → (word agg vic : ℕ) → AreBits d word agg vic
+    → AnswersWrong march d (List ℕ) (read_by reading (in_word p word agg vic))
+    (record { state = closed_words (in_word p word agg vic) words; pending = pending; idle = idle })
 
 -- in the reading before it is a memory with the instance
 pub record IsPlantedSo (i : Planted) (words : List ℕ) : Type 0 where

@@ -1,7 +1,7 @@
 ghost use Rattle.word_coupling.specs.Alike.{AreAlike, Forgets};
 ghost use Rattle.word_coupling.specs.Digits.{DigitsAreOfPlaces};
 ghost use Rattle.word_coupling.specs.Joint.{AreDetectedChips, FailsInWord, JointFailsInWord, AreEscapeChips, JointPassesInWord};
-ghost use Rattle.word_coupling.specs.Memories.{InWordWrong, BeforeIsPlanted};
+ghost use Rattle.word_coupling.specs.Memories.{InWordWrong, EachInWordWrong, BeforeIsPlanted};
 ghost use Rattle.word_coupling.specs.Report.{OneInWordText};
 
 use march_core::March;
@@ -18,10 +18,11 @@ pub fn planted_in_word_fails(march: &March, memory: &Memory)
     memory.known();
 }
 
-/// A memory with an instance at two bits of one word, of a primitive that the test detects there in a reading, answers some read wrong in that reading.
-/// In the reading before it is a memory with the planted instance.
+/// A memory with an instance at two bits of one word, of a primitive that the test detects there in a reading, answers some read wrong in that reading:
+/// whatever it holds, and whatever answers are under way. In the reading before it is a memory with the planted instance.
 pub fn in_word_answers_wrong(march: &March, memory: &Memory)
     ensures wrong { InWordWrong march.now memory.now }
+    ensures each { EachInWordWrong march.now memory.now }
     ensures before { BeforeIsPlanted }
 {
     memory.known();

@@ -6,3 +6,4 @@ pub mod Linked
 pub mod Dynamic
 pub mod Alike
 pub mod There
+pub mod Reached

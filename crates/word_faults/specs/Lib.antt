@@ -4,4 +4,5 @@ pub mod Dynamic
 pub mod Cells
 pub mod Alike
 pub mod There
+pub mod Reached
 pub mod Laws

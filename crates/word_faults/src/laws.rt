@@ -1,5 +1,6 @@
 ghost use Rattle.word_faults.specs.Alike.{LinkedAsOne, DecodedByBits, DecodedPlainly, DynamicByCells, DynamicInPlace, DynamicAnswers, DynamicRests};
 ghost use Rattle.word_faults.specs.There.{AreThere};
+ghost use Rattle.word_faults.specs.Reached.{EachAnswersWrong};
 ghost use Rattle.word_faults.specs.Laws.{LinkedWrong, DecoderWrong, DynamicWrong};
 
 use march_core::March;
@@ -46,5 +47,14 @@ pub fn memories_do_as_known()
 pub fn memories_are_there(memory: &Memory)
     ensures { AreThere memory.now }
 {
+    memory.known();
+}
+
+/// Each memory with an instance of a detected primitive, static, linked or dynamic, or with a detected fault of the decoder, answers some read wrong:
+/// from each content, with each count of answers under way and of idle cycles, at each place.
+pub fn each_memory_answers_wrong(march: &March, memory: &Memory)
+    ensures { EachAnswersWrong march.now memory.now }
+{
+    march.known();
     memory.known();
 }

@@ -5,6 +5,6 @@
 mod laws;
 
 pub use laws::{
-    decoder_answers_wrong, dynamic_answers_wrong, linked_answers_wrong, memories_are_there,
-    memories_do_as_known,
+    decoder_answers_wrong, dynamic_answers_wrong, each_memory_answers_wrong, linked_answers_wrong,
+    memories_are_there, memories_do_as_known,
 };

@@ -1,5 +1,9 @@
-use Rattle.word_coupling.proofs.Memories.{in_word_wrong, before_planted}
+use Rattle.word_coupling.proofs.Memories.{in_word_wrong, each_in_word_wrong, before_planted}
 use Rattle.word_coupling.proofs.laws.in_word_answers_wrong.Goals as goal
 
 pub returns : goal.returns
-returns c = record { wrong = in_word_wrong c.args.march.now c.args.memory.now c.known.ensures; before = before_planted }
+returns c =
+    let march = c.args.march.now in
+    let d = c.args.memory.now in
+    let wrong = in_word_wrong march d c.known.ensures in
+    record { wrong = wrong; each = each_in_word_wrong march d wrong; before = before_planted }
