@@ -1,3 +1,4 @@
 pub mod EverySize
 pub mod Seen
 pub mod Judged
+pub mod Tables

@@ -73,7 +73,7 @@ none_so_far march p placement number content two is before none c size low word 
     eq_or_lt m n h = eq-or-lt_of_le (omega arith)
 
 -- an escape in a placement is let through there
-lets_through : (march : List MarchElement) (e : EscapeArray) (escape : IsEscape march e) (placement : Placement) → places_of_escape e ≡ places_in placement
+pub lets_through : (march : List MarchElement) (e : EscapeArray) (escape : IsEscape march e) (placement : Placement) → places_of_escape e ≡ places_in placement
     → LetsThrough march e.prim placement e.content e.directions
 lets_through march e escape placement places = (
   pair_in placement (cells_after march (directions_of e.directions (length march)) e.prim (places_in placement) e.content),

@@ -28,7 +28,7 @@ passes_where_none march ds p q at to content miss passes same there is caught =
     unless C (Some m) true e h = cc
     unless C (Some m) false e h = (λ passes c. cc, λ none. absurd (none (h.0 refl)))
 
-placement_fits : (p : Primitive) (placement : Placement) → FitsPlacement p placement → FitsPlace p (places_in placement) 2
+pub placement_fits : (p : Primitive) (placement : Placement) → FitsPlacement p placement → FitsPlace p (places_in placement) 2
 placement_fits p Alone h = record { victim = omega arith; aggressor = subst (λ s. FitsAgg s None 0 2) (sym h) tt }
 placement_fits p Below h = record { victim = omega arith; aggressor = given p.agg h }
   where

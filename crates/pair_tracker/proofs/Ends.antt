@@ -47,7 +47,7 @@ ends_same P Q f g found are = record { each = each found are.each; all = λ fina
     each (s ∷ ss) all = (record { leads = f s.pair s.directions all.0.leads; least = λ w way. all.0.least w (g s.pair w way) }, each ss all.1)
 
 -- the pair that is wanted
-same_pair : (q r : Pair) → is_wanted (Some q) r ≡ true → r ≡ q
+pub same_pair : (q r : Pair) → is_wanted (Some q) r ≡ true → r ≡ q
 same_pair q r e =
     let t = and_parts (same_bit r.a q.a) (same_bit r.v q.v) e in
     ap (λ x. pair_of x r.v) (same r.a q.a t.0) ∙ ap (pair_of q.a) (same r.v q.v t.1)
@@ -58,7 +58,7 @@ same_pair q r e =
     same false true e = cc
     same false false e = refl
 
-wants_itself : (q : Pair) → is_wanted (Some q) q ≡ true
+pub wants_itself : (q : Pair) → is_wanted (Some q) q ≡ true
 wants_itself q = at_each_pair (λ q. is_wanted (Some q) q ≡ true) refl refl refl refl q
 
 -- the pairs with the words of their searches are the ends of the elements

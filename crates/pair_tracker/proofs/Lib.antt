@@ -10,4 +10,5 @@ pub mod LeastWords
 pub mod Passing
 pub mod Found
 pub mod Ends
+pub mod Tables
 pub mod Through

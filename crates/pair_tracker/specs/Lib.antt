@@ -5,6 +5,7 @@ pub mod Survivors
 pub mod Legs
 pub mod Tracking
 pub mod Ways
+pub mod Tables
 pub mod Reached
 pub mod DeadEnds
 pub mod inner

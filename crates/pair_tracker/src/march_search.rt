@@ -1,9 +1,10 @@
 //! A search through some elements of a march, for the few cells of a fault.
-ghost use Rattle.std.specs.Prelude.{◌≡◌, ◌≤◌, ◌<◌, length, true, None};
+ghost use Rattle.std.specs.Prelude.{◌≡◌, ◌≤◌, ◌<◌, length, map, true, None, MatchOption};
 ghost use Rattle.march_core.specs.March.{MarchElement, IsMarch};
 ghost use Rattle.pair_tracker.specs.DeadEnds.{is_dead, StaysDead};
 ghost use Rattle.pair_tracker.specs.Few.{end_of};
 ghost use Rattle.pair_tracker.specs.Legs.{elements_between};
+ghost use Rattle.pair_tracker.specs.Tables.{table_of, LeadsNowhere, LeadsSomewhere};
 ghost use Rattle.pair_tracker.specs.Reached.{word_to, AreDeadEnds, IsWithin};
 
 use crate::element_step::{FewCells, end_of};
@@ -81,6 +82,7 @@ pub(crate) fn word_between<F: FewCells>(
 }
 
 /// The least direction word of a whole march that leads from a state, where there is one, to an end that is wanted.
+/// There is one exactly where the tables of the elements, one after another, lead from the state to such an end.
 /// Searches from other states share what is found out of dead ends.
 pub fn word_through<F: FewCells>(
     few: &F,
@@ -91,6 +93,9 @@ pub fn word_through<F: FewCells>(
     requires fits { F.Fits few.now }
     requires dead { AreDeadEnds F.number (F.wanted few.now) (F.machine few.now) (F.order few.now) march.now (length march.now) dead_ends.old }
     ensures word { result ≡ word_to (F.wanted few.now) (F.machine few.now) (F.order few.now) march.now 0 (length march.now) start }
+    ensures tables { MatchOption result
+        (LeadsNowhere (F.wanted few.now) (map (table_of (F.machine few.now) (F.order few.now)) march.now) start)
+        (λ word. LeadsSomewhere (F.wanted few.now) (map (table_of (F.machine few.now) (F.order few.now)) march.now) start) }
     ensures dead { AreDeadEnds F.number (F.wanted few.now) (F.machine few.now) (F.order few.now) march.now (length march.now) dead_ends.new }
 {
     word_between(few, march, dead_ends, 0, march.len(), start)

@@ -1,12 +1,14 @@
-ghost use Rattle.std.specs.Prelude.{◌≡◌, ◌+◌, ◌<◌, length, true, None};
+ghost use Rattle.std.specs.Prelude.{◌≡◌, ◌↔◌, ◌+◌, ◌<◌, length, true, None};
 ghost use Rattle.fault_core.specs.Primitive.{IsPrimitive};
 ghost use Rattle.march_core.specs.March.{IsMarch};
+ghost use Rattle.cell_machine.specs.declared.pair.Pair.{Pair};
 ghost use Rattle.cell_machine.specs.Pairs.{pair_close};
 ghost use Rattle.pair_tracker.specs.Placements.{FitsPlacement, pair_in};
 ghost use Rattle.pair_tracker.specs.Tracking.{is_below};
 ghost use Rattle.pair_tracker.specs.Survivors.{AreSurvivors, IsLeastWord, pair_number};
-ghost use Rattle.pair_tracker.specs.Legs.{SumsUp, AreLegEnds, ends_from};
+ghost use Rattle.pair_tracker.specs.Legs.{SumsUp, AreLegEnds, ends_from, elements_between};
 ghost use Rattle.pair_tracker.specs.Pairs.{machine_of, sides_in};
+ghost use Rattle.pair_tracker.specs.Tables.{tables_at, AreComposed, AreJoined, Composed};
 ghost use Rattle.pair_tracker.specs.Reached.{is_wanted, word_to, AreDeadEnds, KnowsOf};
 ghost use Rattle.pair_tracker.specs.DeadEnds.{is_dead, StaysDead};
 
@@ -109,13 +111,18 @@ impl<'a> Summary<'a> {
         }
     }
 
-    /// The summary of these elements and of those of `next`, which come next.
+    /// The summary of these elements and of those of `next`, which come next. Its tables are those of these elements and
+    /// then those of the others.
     pub fn then(&self, next: &Summary<'_>) -> Summary<'a>
         requires march { next.now.march ≡ self.now.march }
         requires prim { next.now.prim ≡ self.now.prim }
         requires placement { next.now.placement ≡ self.now.placement }
         requires behind { next.now.first ≡ self.now.end }
-        ensures { SumsUp self.now.march self.now.prim self.now.placement self.now.first next.now.end result }
+        ensures sum { SumsUp self.now.march self.now.prim self.now.placement self.now.first next.now.end result }
+        ensures joined { (start final : Pair)
+            → Composed (tables_at self.now.prim self.now.placement (elements_between self.now.march self.now.first next.now.end)) start final
+            ↔ AreJoined (tables_at self.now.prim self.now.placement (elements_between self.now.march self.now.first self.now.end))
+            (tables_at self.now.prim self.now.placement (elements_between self.now.march self.now.end next.now.end)) start final }
     {
         Summary {
             march: self.march,
@@ -147,10 +154,11 @@ impl<'a> Summary<'a> {
 
     /// The final pairs that the elements lead to from this start with no read that differs: each once, with the least
     /// direction word that leads there, in the order of the pairs (`a` first, 0 before 1). The start isn't closed
-    /// first, and the bits of other elements are 0.
+    /// first, and the bits of other elements are 0. They are the pairs that the tables of the elements lead to.
     pub fn ends(&self, start: Pair) -> ArrayVec<Survivor, 4>
         ensures value { result.items ≡ ends_from self.now start }
         ensures ends { AreLegEnds self.now.march self.now.prim self.now.placement self.now.first self.now.end start result.items }
+        ensures tables { AreComposed (tables_at self.now.prim self.now.placement (elements_between self.now.march self.now.first self.now.end)) start result.items }
     {
         self.march.known();
         self.prim.known();
@@ -169,7 +177,9 @@ impl<'a> Summary<'a> {
     pub fn survivors(&self, content: [bool; 2]) -> ArrayVec<Survivor, 4>
         requires first { self.now.first ≡ 0 }
         requires last { self.now.end ≡ length self.now.march }
-        ensures { AreSurvivors self.now.march self.now.prim self.now.placement content result.items }
+        ensures value { AreSurvivors self.now.march self.now.prim self.now.placement content result.items }
+        ensures tables { AreComposed (tables_at self.now.prim self.now.placement self.now.march)
+            (pair_close self.now.prim (pair_in self.now.placement content)) result.items }
     {
         self.ends(close(&self.prim, start_of(self.placement, content)))
     }

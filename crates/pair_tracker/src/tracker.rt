@@ -1,4 +1,6 @@
-ghost use Rattle.pair_tracker.specs.Placements.{FitsPlacement};
+ghost use Rattle.cell_machine.specs.Pairs.{pair_close};
+ghost use Rattle.pair_tracker.specs.Placements.{FitsPlacement, pair_in};
+ghost use Rattle.pair_tracker.specs.Tables.{tables_at, AreComposed};
 ghost use Rattle.pair_tracker.specs.Survivors.{AreSurvivors};
 
 use crate::placement::{Placement, Survivor};
@@ -9,7 +11,8 @@ use march_core::March;
 
 /// Each final pair of an array of two cells that some fitting direction word reaches with no read that
 /// differs: once, with the least such word, in the order of the pairs (`a` first, 0 before 1). The content is
-/// that of cell 0 and then of cell 1, before closing. The choices of direction are not walked one by one.
+/// that of cell 0 and then of cell 1, before closing. These are the pairs that the tables of the march lead to. The choices of
+/// direction are not walked one by one.
 pub fn survivors(
     march: &March,
     prim: &Prim,
@@ -17,7 +20,8 @@ pub fn survivors(
     content: [bool; 2],
 ) -> ArrayVec<Survivor, 4>
     requires { FitsPlacement prim.now placement }
-    ensures { AreSurvivors march.now prim.now placement content result.items }
+    ensures value { AreSurvivors march.now prim.now placement content result.items }
+    ensures tables { AreComposed (tables_at prim.now placement march.now) (pair_close prim.now (pair_in placement content)) result.items }
 {
     Summary::whole(march, prim, placement).survivors(content)
 }
