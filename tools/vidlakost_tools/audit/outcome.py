@@ -40,10 +40,12 @@ class Outcome:
     due: str | None = None
     got: str | None = None
     witnesses: dict[str, str] = dataclasses.field(default_factory=dict)
+    # the status of the program, which has one for each kind of refusal
+    ended: int | None = None
 
     @property
     def status(self) -> int:
-        return 0 if self.verdict == "right" else 1
+        return self.ended if self.ended is not None else 0 if self.verdict == "right" else 1
 
     def line(self) -> str:
         """The last line, which begins with the verdict."""
@@ -76,6 +78,13 @@ class Outcome:
     def write(self, file: str | None, inputs: Iterable[str]) -> None:
         if file is not None:
             write_whole(file, self.json(inputs))
+
+
+def of_check(status: int, line: str) -> Outcome:
+    """The verdict of `check`, from its status and its line."""
+    words = {"conforms": "right", "differs": "wrong", "unknown": "unknown"}
+    verdict = words.get(line.split(" ")[0], "refused") if status <= 1 else "refused"
+    return Outcome("check", verdict, line, witnesses={"check": line}, ended=status).at(line)
 
 
 def version_of(name: str) -> str | None:

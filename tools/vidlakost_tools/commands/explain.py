@@ -6,6 +6,7 @@ usage: vidlakost explain                                   every refusal, on one
                                                            from the literature, as CFin; or a status, as 13
        vidlakost explain caught                            an answer of the program: the sentences that describe it
        vidlakost explain --said STATUS LINE -- WORD..      what this refusal means in the call with these words
+       vidlakost explain --json FILE STATUS LINE -- WORD.. writes the verdict of this call of check, for scripts
        vidlakost explain --warn WORD..                     what other tools may read otherwise in the files of this call
        vidlakost explain --commands [COMMAND]              the commands and the tools, or one of them in full
        vidlakost explain --help"""
@@ -20,7 +21,7 @@ from vidlakost_tools.refusals.finding import close_to
 from vidlakost_tools.tasks import by_task, line_of, tools
 from vidlakost_tools.text import cut, read_text, visible
 from vidlakost_tools.texts import decoder, linked, old_names
-from vidlakost_tools.tool import ToolError, usage_of
+from vidlakost_tools.tool import ToolError, refuse_inputs, usage_of
 
 # what a letter of a line stands for
 VALUES = {
@@ -204,6 +205,14 @@ def tell_command(name: str) -> None:
     print(re.sub(r"\n{3,}", "\n\n", command.does.replace("`", "").replace("**", "")))
 
 
+def write_verdict(file: str, status: int, line: str, inputs: list[str]) -> None:
+    """Writes what `check` said of its module, march and memory."""
+    from vidlakost_tools.audit.outcome import of_check
+
+    refuse_inputs(file, list(zip(("the module", "the march", "the memory"), inputs)))
+    of_check(status, line).write(file, inputs)
+
+
 def main(arguments: list[str]) -> int:
     arguments = arguments
     if arguments == ["--help"]:
@@ -217,6 +226,11 @@ def main(arguments: list[str]) -> int:
             raise ToolError(usage_of(__doc__))
         for line in diagnose.lines(arguments[4:], arguments[2], int(arguments[1])):
             print(cut(line))
+        return 0
+    if arguments[:1] == ["--json"]:
+        if arguments[4:6] != ["--", "check"] or len(arguments) != 9 or not re.fullmatch(r"\d+", arguments[2]):
+            raise ToolError(usage_of(__doc__))
+        write_verdict(arguments[1], int(arguments[2]), arguments[3], arguments[6:])
         return 0
     if arguments[:1] == ["--warn"]:
         for line in otherwise.warnings_of(arguments[1:]):
