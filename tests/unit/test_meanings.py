@@ -322,6 +322,25 @@ class Unread(unittest.TestCase):
         )
         self.assertIsNone(unread.reason([("m.sv", "module m; endmodule\n")], "m.sv:1: ERROR: x"))
 
+    def test_errors_that_have_no_line(self) -> None:
+        asserted = "yosys refuses it: ERROR: Assert `arg->is_signed == sig.as_wire()->is_signed' failed in genrtlil.cc:1"
+        part = "module m;\n  wire a = f($signed(b));\n  sub s(.a($signed(b)), .y(c));\nendmodule\n"
+        said = str(unread.reason([("m.v", part)], asserted))
+        self.assertTrue(said.startswith("'m.v':3: Yosys takes no $signed at a port of a part; a signed wire"), said)
+        # by its place in the list of ports, and not where Yosys finds something else
+        self.assertIn("'m.v':1: ", str(unread.reason([("m.v", "sub s($signed(b), c);")], asserted)))
+        self.assertIsNone(unread.reason([("m.v", part)], "m.v:3: ERROR: another"))
+        together = "always @(posedge c)\n  if (r) q <= 0; else {y, w[p]} <= d;\n"
+        for error in (
+            "m.v:0 (m.v:0 and m.v:2): it has two drivers; only one may",
+            "ERROR: incompatible mix of lookahead and non-lookahead IDs in LHS expression.",
+        ):
+            said = str(unread.without_line([("m.v", together)], error))
+            self.assertTrue(said.startswith("'m.v':2: Yosys sets no word {y, w[p]} together"), said)
+        # a comparison and a choice set nothing
+        for text in ("if ({a, b[i]} <= c) x = 1;", "assign y = s ? {a, b[i]} : c;"):
+            self.assertIsNone(unread.without_line([("m.v", text)], "it has two drivers"), text)
+
     def test_names_that_only_look_so(self) -> None:
         for text in (
             "count c(.first(first), .last(l));",
@@ -330,6 +349,7 @@ class Unread(unittest.TestCase):
             "assign y = 4'(x);",
             "x = (a == b) ? c : d;",
             "xor x (a[0], b);",
+            "assert (a); if (b) c = 1; else c = 0;",
         ):
             self.assertEqual(list(unread.reasons(text)), [], text)
         for text in (
@@ -340,6 +360,7 @@ class Unread(unittest.TestCase):
             "x = a ==? b;",
             "assign (weak1, weak0) f = b;",
             "xor x [1:0] (a, b, c);",
+            'assert (a != 3) else $error("bad");',
         ):
             self.assertEqual(len(list(unread.reasons(text))), 1, text)
 

@@ -119,7 +119,7 @@ class Refused(unittest.TestCase):
 
     def test_clock_that_is_a_bit_of_several(self) -> None:
         wide = changed(("input clk,", "input [1:0] ck,"), ("posedge clk", "posedge ck[0]"))
-        self.refused("^the clock is one bit of ck, which has several$", wide)
+        self.refused(r"^the clock is one bit of ck \(\S+:\d+\), which has several; give it a port of its own$", wide)
 
     def test_clock_that_is_made(self) -> None:
         self.refused(

@@ -262,7 +262,7 @@ def run_in(asked: BesideVhdl, folder: pathlib.Path, nonce: str) -> str:
     if status:
         raise Unclocked(f"GHDL refuses the sources: {(lines_of(said) or ['no reason is given'])[0]}", 1)
     top = f"vidlakost_{nonce}"
-    status, said = call(["ghdl", "--elab-run", *own, top, "--ieee-asserts=disable"], folder)
+    status, said = call(["ghdl", "--elab-run", *own, top, "--ieee-asserts=disable", "--assert-level=none"], folder)
     return said
 
 

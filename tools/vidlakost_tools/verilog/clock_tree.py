@@ -11,7 +11,7 @@ from typing import Any
 from vidlakost_tools.audit.pins import Pins
 from vidlakost_tools.tool import ToolError
 from vidlakost_tools.verilog import source_texts, yosys
-from vidlakost_tools.verilog.yosys_cells import is_refused, live_cells, place_of, refuse_cells
+from vidlakost_tools.verilog.yosys_cells import is_refused, live_cells, place_of, refuse_cells, short
 
 INVERTERS = ("$not", "$logic_not", "$_NOT_")
 BUFFERS = ("$pos", "$_BUF_", "$reduce_or", "$reduce_and", "$reduce_bool", "$reduce_xor")
@@ -227,7 +227,9 @@ def clock_of(tree: Tree, registers: dict[str, Edge], pins: Pins | None) -> str |
             f"the registers' clock is {chosen}, and clk is another port: name both in a file of pins (--pins)", 1
         )
     if chosen and len(ports[chosen]["bits"]) != 1:
-        raise ToolError(f"the clock is one bit of {chosen}, which has several", 1)
+        source = tree.module["netnames"].get(chosen, {}).get("attributes", {}).get("src", "no place")
+        said = f"{chosen} ({short(source)})"
+        raise ToolError(f"the clock is one bit of {said}, which has several; give it a port of its own", 1)
     return chosen
 
 

@@ -54,6 +54,10 @@ FORMS = [
         r"\b(?:assert|assume|cover)\s+property\s*\(\s*@",
         "Yosys reads no property of a clock; `ifndef SYNTHESIS round it leaves it to a simulator",
     ),
+    (
+        r"\b(?:assert|assume|cover)\b(?=\s*\([^;]*\)[^;]*\belse\b)",
+        "Yosys reads no else of `{0}`; `ifndef SYNTHESIS round it leaves it to a simulator",
+    ),
     (r"\b(?:real|realtime|shortreal|string|event|chandle)\b", "Yosys doesn't read `{0}`, of which no hardware is made"),
     (r"\b(?:fork|wait|deassign|force|release|final)\b", "Yosys doesn't read `{0}`, of which no hardware is made"),
     (r"\buwire\b", "Yosys doesn't read `{0}`; a `wire` is the same"),
@@ -74,10 +78,41 @@ def reasons(text: str) -> Iterator[tuple[int, str]]:
 def reason(sources: Iterable[tuple[str, str]], error: str) -> str | None:
     """What there is to say of an error, of sources without comments: the form on the line that it names, or else the
     first of all."""
+    sources = list(sources)
+    known = without_line(sources, error)
+    if known:
+        return known
     found = [(pathlib.Path(file), line, why) for file, text in sources for line, why in reasons(text)]
     at = re.search(r"([^\s:/]+):(\d+): ERROR", error)
     there = [one for one in found if at and (one[0].name, str(one[1])) == (at[1], at[2])]
     return next((f"{shown(str(file))}:{line}: {why}" for file, line, why in there or found), None)
+
+
+# what is said of errors that Yosys gives no line: the words of the error, the form in the text, and what says the same
+SIGNED = "Yosys takes no {0} at a port of a part; a signed wire that is set to the word, named there, says the same"
+WITHOUT_LINE = [
+    # a port by its name is told before one by its place, which looks as a call does
+    (r"Assert .*is_signed", r"\.\s*\w+\s*\(\s*(?P<form>\$(?:un)?signed)\b", SIGNED),
+    (r"Assert .*is_signed", r"[(,]\s*(?P<form>\$(?:un)?signed)\b", SIGNED),
+    (
+        r"mix of lookahead and non-lookahead|has two drivers",
+        r"(?:[;)]|\b(?:begin|else)\b|:)\s*(?P<form>\{[^{};=]*\})\s*<?=(?!=)",
+        "Yosys sets no word {0} together of which a part is set at an open index; an assignment to each says the same",
+    ),
+]
+
+
+def without_line(sources: Iterable[tuple[str, str]], error: str) -> str | None:
+    """What there is to say of an error for which Yosys names no line, of sources without comments: the first place of
+    the form that brings it."""
+    for said, form, why in WITHOUT_LINE:
+        if re.search(said, error):
+            for file, text in sources:
+                match = re.search(form, text)
+                if match:
+                    line = text.count("\n", 0, match.start("form")) + 1
+                    return f"{shown(file)}:{line}: {why.format(' '.join(match['form'].split()))}"
+    return None
 
 
 def latch(error: str) -> str | None:

@@ -207,7 +207,13 @@ def read(files: list[str], options: Mapping[str, Any], folder: pathlib.Path) -> 
     except ToolError as error:
         raise ToolError(unread.latch(str(error)) or str(error), error.status) from error
     name, module = top_module(parts)
-    two_meanings.refuse_two_blocks(module)
+    try:
+        two_meanings.refuse_two_blocks(module)
+    except ToolError as error:
+        # a driver without a line is one that Yosys made of a form that it reads otherwise
+        texts = [(file, blanked(source)[0]) for file, source in with_included(files)]
+        why = unread.without_line(texts, str(error)) if re.search(r":0\b", str(error)) else None
+        raise ToolError(f"{why}\n{error}" if why else str(error), error.status) from error
     if "--top" not in options:
         refuse_other_top(given.read_bytes().decode("utf-8", "replace"), name)
     twice = driven_twice(first.read_bytes().decode("utf-8", "replace")) or driven_constant(module)
