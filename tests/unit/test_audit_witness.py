@@ -166,6 +166,15 @@ class Ghdl(unittest.TestCase):
             self.seen(ENTITY + late)
 
     @needs("ghdl", "yosys")
+    def test_assert_of_the_sources_ends_no_run(self) -> None:
+        begin = "begin\n  assert step /= 3 report \"three\" severity failure;\n  en <="
+        right = BODY.replace("begin\n  en <=", begin)
+        self.assertEqual(self.seen(ENTITY + right).cycles, self.seen(ENTITY + BODY).cycles)
+        wrong = right.replace("fail <= bad and not reset;", "fail <= bad and not reset after 300 ns;")
+        with self.assertRaisesRegex(Differs, "fail is . in cycle .* by GHDL"):
+            self.seen(ENTITY + wrong)
+
+    @needs("ghdl", "yosys")
     def test_what_counts_and_has_no_number(self) -> None:
         weak = BODY.replace("fail <= bad and not reset;", "fail <= 'H' when bad = '1' and reset = '0' else 'L';")
         self.assertEqual(self.seen(ENTITY + weak).doubt, ("fail", 0))
