@@ -137,7 +137,8 @@ def commands_found(audit: Audit) -> Verdict:
         tell(f"audit: {warning}")
     refuse_ports(audit, plain)
     found = Verdict(checked(audit, plain), plain)
-    print(f"check: {found.line}")
+    # whoever reads this by a pipe has it now: what follows may take minutes
+    print(f"check: {found.line}", flush=True)
     if found.line.startswith("unknown "):
         gates = audit.module(ALL_GATES)
         line = checked(audit, gates)
