@@ -2,6 +2,7 @@
 
 usage: vidlakost design LIST [OUT] [--behind MARCH] [--any] [--operations K] [--elements K] [--decoder] [--linked]
                         [--inword MEMORY [--backgrounds K]] [--time MHZ MEMORY] [--width N] [--prove]
+                        [--seconds N] [--seed N]
        vidlakost design --help
 
 LIST is a list as for `judge`. design prints the march, its length and the program's verdict, and writes the march to
@@ -10,21 +11,24 @@ Else it says `shortest found`, and a lower bound of the length. The program alon
 march is shorter is tested, not proved. If the march leaves something uncovered, design gives the reason, and ends with
 1.
 
---behind MARCH    extend MARCH: begin with its elements, and add as few operations as the search finds --any
-of the marches of the least length, take one with as many elements of order any as the search finds --operations K
-an element has at most K operations
+--behind MARCH    extend MARCH: begin with its elements, and add as few operations as the search finds
+--any             of the marches of the least length, take one with as many elements of order any as the search finds
+--operations K    an element has at most K operations
 --elements K      the march has at most K elements, with its pauses
 --decoder         cover the faults of the address decoder too
 --linked          cover the linked faults too
---inword MEMORY   between two bits of a word of MEMORY, cover as much of the list as March SS does --backgrounds K
-look for at most K backgrounds with which the march covers the most of the list there --time MHZ MEMORY say how long
-the test of MEMORY takes at so many MHz
---width N         keep N marches of each length (300); more take longer, and may find a shorter one --prove
-try all shorter marches, however long that takes
+--inword MEMORY   between two bits of a word of MEMORY, cover as much of the list as March SS does
+--backgrounds K   look for at most K backgrounds with which the march covers the most of the list there
+--time MHZ MEMORY say how long the test of MEMORY takes at so many MHz
+--width N         keep N marches of each length (300); more take longer, and may find a shorter one
+--prove           try all shorter marches, however long that takes
+--seconds N       look N seconds (60) on all processors for a shorter march by random changes; 0 leaves that out
+--seed N          other random changes (1); the same number finds the same marches, as far as the seconds reach
 
 Standard error shows the best march so far. Ctrl-C ends the search with that one."""
 from __future__ import annotations
 
+import os
 import sys
 
 from vidlakost_tools.design.answers import Answers
@@ -46,6 +50,8 @@ OPTIONS = {
     "--time": 2,
     "--width": 1,
     "--prove": 0,
+    "--seconds": 1,
+    "--seed": 1,
 }
 
 
@@ -58,7 +64,8 @@ def main(arguments: list[str]) -> int:
     shown = Shown(sys.stderr, words.clock)
     finder = Finder(wish, shown)
     try:
-        finder.run(None if "--prove" in options else TRIED)
+        processors = len(os.sched_getaffinity(0))
+        finder.run(None if "--prove" in options else TRIED, words.seconds, processors, words.seed)
     except KeyboardInterrupt:
         if finder.best is None:
             raise

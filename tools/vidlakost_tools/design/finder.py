@@ -11,8 +11,10 @@ from vidlakost_tools.design.beam import Beam
 from vidlakost_tools.design.blocks import Blocks
 from vidlakost_tools.design.bound import Bound
 from vidlakost_tools.design.instances import DecoderInstance, Instance
+from vidlakost_tools.design.one_cell import OneCell, parted
 from vidlakost_tools.design.parts import Limits, Part, Parts, is_complete, length, opened, pauses, trimmed, with_pauses
 from vidlakost_tools.design.survivors import Survivors
+from vidlakost_tools.design.workers import Search, Walks
 
 # the most operations of a search, and the most that a march may have
 LONGEST, MOST = 160, 256
@@ -150,20 +152,53 @@ class Finder:
                 return
         self.bounded(most + 1)
 
+    def one_cell(self) -> None:
+        """Raises the bound by the primitives of one cell, if some have two operations. If they are the whole list, this
+        finds a shortest march."""
+        chosen = [it for it in self.wish.instances if is_of_one_cell(it)]
+        if self.wish.behind or all(is_static(it) for it in chosen):
+            return
+        search = OneCell(chosen, self.bounded, self.progress.at)
+        parts = search.shortest(length(self.best or []) - 1)
+        if parts is not None:
+            parts = parted(self.survivors, parts, self.limits.operations)
+            if is_complete(self.survivors, parts):
+                self.take(parts)
+
+    def walk(self, workers: int, seconds: float, seed: int) -> None:
+        """Looks for a shorter march by random changes."""
+
+        def told(parts: Parts) -> Parts:
+            self.take(parts)
+            return self.best or parts
+
+        walks = Walks(self.survivors, self.limits, self.wish.behind, workers, seconds, seed, self.wish.fits)
+        Search(walks, told, self.progress.at).run(self.best or [], self.least)
+
     def bounded(self, operations: int) -> None:
         if operations > self.least:
             self.least = operations
             self.progress.bounded(self.given + operations)
 
-    def run(self, tried: Optional[int] = TRIED) -> None:
-        """The whole search. The last part ends after a number of elements."""
+    def run(self, tried: Optional[int] = TRIED, seconds: float = 0, workers: int = 1, seed: int = 1) -> None:
+        """The whole search. The search of all shorter marches ends after a number of elements, and that by random
+        changes after so many seconds."""
         self.progress.begin()
         self.regular()
-        for seed in (1, 2, 3) if self.wish.is_open else (1,):
-            self.free(seed)
+        for order in (1, 2, 3) if self.wish.is_open else (1,):
+            self.free(order)
         if self.best is not None:
+            # no bound of links is known, so the walks for them come first
+            is_linked = any(len(it.links) > 1 for it in self.wish.instances)
+            if seconds and is_linked:
+                self.walk(workers, seconds, seed)
             with contextlib.suppress(TimeoutError):
                 self.exhaust(tried)
+            if not self.is_shortest:
+                with contextlib.suppress(TimeoutError):
+                    self.one_cell()
+            if seconds and not is_linked and not self.is_shortest:
+                self.walk(workers, seconds, seed)
 
     @property
     def is_shortest(self) -> bool:
@@ -174,6 +209,14 @@ def is_static(instance: Instance) -> bool:
     """Whether an instance has one primitive, of at most one operation."""
     acts = instance.links[0].acts
     return len(instance.links) == 1 and len(acts) < 2 and acts != ["t"]
+
+
+def is_of_one_cell(instance: Instance) -> bool:
+    """Whether an instance is of one cell. Of a primitive of two operations it is the one with other cells below and
+    above."""
+    acts = instance.links[0].acts
+    is_alone = len(instance.links) == 1 and instance.links[0].aggressor is None and acts != ["t"]
+    return is_alone and (len(acts) < 2 or instance.below and instance.above)
 
 
 def rank(parts: Sequence[Part]) -> tuple[int, int, int, int]:

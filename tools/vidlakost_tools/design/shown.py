@@ -68,7 +68,9 @@ def length_told(answers: Answers) -> str:
         return f"{told}: the search found no march that covers all of this"
     if finder.is_shortest:
         return f"{told}, shortest: a search of all shorter ones finds none"
-    return f"{told}, shortest found: at least {finder.given + finder.least}n are needed"
+    # every march has an operation
+    known = f": at least {finder.given + finder.least}n are needed" if finder.least > 1 else ""
+    return f"{told}, shortest found{known}"
 
 
 def why(answers: Answers, said: Said, name: str) -> str:

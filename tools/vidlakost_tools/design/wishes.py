@@ -49,6 +49,9 @@ class Words:
     timed: Optional[str] = None
     clock: Optional[Clock] = None
     width: int = 300
+    # of the search by random changes: how long it takes, and what decides its chances
+    seconds: int = 60
+    seed: int = 1
 
     @classmethod
     def of(cls, faults: str, options: Dict[str, Any]) -> "Words":
@@ -57,6 +60,8 @@ class Words:
         made.limits = Limits(operations, number(options, "--elements", MOST_ELEMENTS, MOST_ELEMENTS))
         made.decoder, made.linked = "--decoder" in options, "--linked" in options
         made.in_word, made.width = options.get("--inword"), number(options, "--width", 300, 100_000)
+        made.seconds = number_of(options.get("--seconds", "60"), "--seconds")
+        made.seed = number_of(options.get("--seed", "1"), "--seed")
         if "--backgrounds" in options:
             if made.in_word is None:
                 raise ToolError("--backgrounds needs --inword, which names the memory")
