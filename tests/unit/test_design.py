@@ -3,13 +3,14 @@ from __future__ import annotations
 
 import itertools
 import random
+import time
 import unittest
 import unittest.mock
 from typing import List, Sequence, Tuple
 
 from vidlakost_tools.design.bound import Bound
 from vidlakost_tools.design.changes import Changes
-from vidlakost_tools.design.finder import Finder, Progress, Wish
+from vidlakost_tools.design.finder import Finder, Wish
 from vidlakost_tools.design.instances import Instance, decoder_instances, instances_of, linked_instances
 from vidlakost_tools.design.one_cell import OneCell, parted
 from vidlakost_tools.design.parts import (
@@ -25,6 +26,7 @@ from vidlakost_tools.design.parts import (
     text_of,
     trimmed,
 )
+from vidlakost_tools.design.progress import Progress
 from vidlakost_tools.design.reach import can_cover
 from vidlakost_tools.design.survivors import Survivors
 from vidlakost_tools.design.walk import Place
@@ -310,7 +312,10 @@ class Walking(unittest.TestCase):
                 told.append(text_of(parts))
                 return parts
 
-            Search(Walks(survivors, limits, [], workers, 60, 7), tell, lambda text: None).run(long, 14)
+            def is_short() -> bool:
+                return bool(told) and length(parts_of(elements_of(told[-1]))) <= 14
+
+            Search(Walks(survivors, limits, [], workers, 60, 7), tell, lambda text: None, is_short).run(long)
             found.append(told)
         self.assertEqual(found[0], found[1])
         self.assertTrue(is_complete(survivors, parts_of(elements_of(found[0][-1]))))
@@ -333,7 +338,7 @@ class Walking(unittest.TestCase):
         for is_open in (False, True):
             wish.is_open = is_open
             finder, seeds = Finder(wish, Progress()), []  # type: Finder, List[int]
-            with unittest.mock.patch.object(Finder, "walk", lambda _, workers, seconds, seed: seeds.append(seed)):
+            with unittest.mock.patch.object(Finder, "at_once", lambda _, tried, walks: seeds.append(walks.seed)):
                 finder.run(seconds=1, seed=7)
             self.assertEqual(seeds, [7])
 
@@ -362,6 +367,13 @@ class Finding(unittest.TestCase):
     def test_one_primitive(self) -> None:
         finder = self.find(["<0w1/0/->"])
         self.assertEqual((length(finder.best or []), finder.is_shortest), (3, True))
+
+    def test_a_bound_that_is_shown_ends_the_walks(self) -> None:
+        wish = Wish([it for text in TRANSITIONS for it in instances_of(text)], [], Limits(), [], 40)
+        finder, begun = Finder(wish, Progress()), time.monotonic()
+        finder.run(seconds=300, workers=2)
+        self.assertEqual((length(finder.best or []), finder.is_shortest), (5, True))
+        self.assertLess(time.monotonic() - begun, 100)
 
     def test_pauses(self) -> None:
         finder = self.find([*TRANSITIONS, "<0t/1/->", "<1t/0/->"])

@@ -4,15 +4,16 @@ from __future__ import annotations
 
 import contextlib
 import dataclasses
-import time
 from typing import Callable, Optional, Sequence
 
 from vidlakost_tools.design.beam import Beam
+from vidlakost_tools.design.beside import Beside
 from vidlakost_tools.design.blocks import Blocks
 from vidlakost_tools.design.bound import Bound
 from vidlakost_tools.design.instances import DecoderInstance, Instance
 from vidlakost_tools.design.one_cell import OneCell, parted
 from vidlakost_tools.design.parts import Limits, Part, Parts, is_complete, length, opened, pauses, trimmed, with_pauses
+from vidlakost_tools.design.progress import Progress
 from vidlakost_tools.design.survivors import Survivors
 from vidlakost_tools.design.workers import Search, Walks
 
@@ -39,23 +40,20 @@ class Wish:
     fits: Optional[Callable[[Parts], bool]] = None
 
 
-class Progress:
-    """Receives the progress of the search."""
+class Showing(Progress):
+    """Takes over what the searches in another process show."""
 
-    def begin(self) -> None:
-        self.started = time.monotonic()
-
-    def seconds(self) -> float:
-        return time.monotonic() - self.started
+    def __init__(self, finder: "Finder"):
+        self.finder = finder
 
     def better(self, parts: Parts) -> None:
-        """The search found a march that is shorter than those before."""
+        self.finder.take(parts)
 
     def bounded(self, operations: int) -> None:
-        """No march has fewer operations."""
+        self.finder.bounded(operations - self.finder.given)
 
-    def at(self, text: str) -> None:
-        """What the search is doing."""
+    def look(self) -> None:
+        self.finder.progress.look()
 
 
 class Finder:
@@ -165,15 +163,29 @@ class Finder:
             if is_complete(self.survivors, parts):
                 self.take(parts)
 
-    def walk(self, workers: int, seconds: float, seed: int) -> None:
-        """Looks for a shorter march by random changes."""
+    def all_shorter(self, tried: Optional[int]) -> None:
+        """Raises the bound by each search of all shorter marches."""
+        with contextlib.suppress(TimeoutError):
+            self.exhaust(tried)
+        if not self.is_shortest:
+            with contextlib.suppress(TimeoutError):
+                self.one_cell()
+
+    def at_once(self, tried: Optional[int], walks: Walks) -> None:
+        """Looks for a shorter march by random changes, beside the searches of all shorter ones."""
+
+        def exact(progress: Progress) -> None:
+            self.progress = progress
+            self.all_shorter(tried)
 
         def told(parts: Parts) -> Parts:
             self.take(parts)
             return self.best or parts
 
-        walks = Walks(self.survivors, self.limits, self.wish.behind, workers, seconds, seed, self.wish.fits)
-        Search(walks, told, self.progress.at).run(self.best or [], self.least)
+        with Beside(exact, Showing(self)) as beside:
+            Search(walks, told, self.progress.at, lambda: self.is_shortest, beside).run(self.best or [])
+            while not beside.is_over and not self.is_shortest:
+                beside.hear()
 
     def bounded(self, operations: int) -> None:
         if operations > self.least:
@@ -187,18 +199,13 @@ class Finder:
         self.regular()
         for order in (1, 2, 3) if self.wish.is_open else (1,):
             self.free(order)
-        if self.best is not None:
-            # no bound of links is known, so the walks for them come first
-            is_linked = any(len(it.links) > 1 for it in self.wish.instances)
-            if seconds and is_linked:
-                self.walk(workers, seconds, seed)
-            with contextlib.suppress(TimeoutError):
-                self.exhaust(tried)
-            if not self.is_shortest:
-                with contextlib.suppress(TimeoutError):
-                    self.one_cell()
-            if seconds and not is_linked and not self.is_shortest:
-                self.walk(workers, seconds, seed)
+        if self.best is None:
+            return
+        if seconds:
+            walks = Walks(self.survivors, self.limits, self.wish.behind, workers, seconds, seed, self.wish.fits)
+            self.at_once(tried, walks)
+        else:
+            self.all_shorter(tried)
 
     @property
     def is_shortest(self) -> bool:

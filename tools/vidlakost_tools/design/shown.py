@@ -4,8 +4,8 @@ from __future__ import annotations
 from typing import Iterator, Optional, TextIO
 
 from vidlakost_tools.design.answers import Answers, Said
-from vidlakost_tools.design.finder import Progress
 from vidlakost_tools.design.parts import Parts, elements_from, text_of
+from vidlakost_tools.design.progress import Progress
 from vidlakost_tools.design.wishes import Clock
 from vidlakost_tools.texts.march import Element, length_of
 from vidlakost_tools.tool import tell

@@ -10,22 +10,20 @@ import dataclasses
 import multiprocessing
 import multiprocessing.connection
 import os
-import signal
 import time
-from typing import Any, Callable, Dict, List, Optional, Sequence, Tuple
+from typing import Any, Callable, Dict, Iterator, List, Optional, Sequence, Tuple
 
+from vidlakost_tools.design.beside import Beside, answer_signals, end
 from vidlakost_tools.design.changes import March
 from vidlakost_tools.design.parts import Limits, Part, Parts, length
 from vidlakost_tools.design.survivors import Survivors
 from vidlakost_tools.design.walk import LOOKS, TURNS, Walk
-from vidlakost_tools.tool import ENDS, ToolError, stop
+from vidlakost_tools.tool import ToolError
 
 # a number that is greater than that of each walk
 NONE = 1 << 30
 # how often a process that waits looks whether the search is still there, and how often the search tells how far it is
 SECONDS = 0.5
-# how long a process that is told to end may take, until it is killed
-LAST_SECONDS = 2
 # a walk: its number, and the best march so far
 Task = Tuple[int, March]
 
@@ -60,19 +58,13 @@ class Worker:
         self.connection.send(task)
 
     def end(self) -> None:
-        """Ends the process. It is told to first, since the program may be answering it."""
-        self.process.terminate()
-        self.process.join(LAST_SECONDS)
-        self.process.kill()
-        self.process.join()
+        end(self.process)
         self.connection.close()
 
 
 def work(walks: Walks, shared: Any, connection: Any, parent: int) -> None:
-    """What a process does. Ctrl-C is the search's own matter, and it ends this process. Another signal ends it with the
-    program that it asks."""
-    for number in ENDS:
-        signal.signal(number, signal.SIG_IGN if number == signal.SIGINT else stop)
+    """What a process does."""
+    answer_signals()
     walk = Walk(walks.survivors, walks.limits, walks.behind)
     with contextlib.suppress(EOFError, OSError):
         while os.getppid() == parent:
@@ -111,26 +103,32 @@ def result(worker: Worker) -> Tuple[int, Optional[March]]:
 
 class Search:
     """The search. `told` learns each shorter march and says which is the best one then, `watch` learns how far the
-    search is."""
+    search is, `is_shown` says whether the best one is shown to be shortest. `beside` may show that meanwhile."""
 
-    def __init__(self, walks: Walks, told: Callable[[Parts], Parts], watch: Callable[[str], None]):
-        self.walks, self.told, self.watch = walks, told, watch
+    def __init__(
+        self,
+        walks: Walks,
+        told: Callable[[Parts], Parts],
+        watch: Callable[[str], None],
+        is_shown: Callable[[], bool],
+        beside: Optional[Beside] = None,
+    ):
+        self.walks, self.told, self.watch, self.is_shown, self.beside = walks, told, watch, is_shown, beside
         context = multiprocessing.get_context("fork")
         # the standard library's types differ between its versions here too
         self.won: Any = context.Value("l", NONE)
         self.tried: Any = context.Value("q", 0)
         self.workers: List[Worker] = []
 
-    def run(self, best: Parts, least: int) -> None:
-        """Looks for shorter and shorter marches, down to `least` operations behind the given march, until the time is
-        over."""
+    def run(self, best: Parts) -> None:
+        """Looks for shorter and shorter marches, until the time is over or no march is shorter."""
         until = time.monotonic() + self.walks.seconds
         try:
             # one after the other, so that those that have begun are known if a signal comes
             for _ in range(self.walks.workers):
                 self.workers.append(Worker(self.walks, (self.won, self.tried)))
             march = self.free(best)
-            while length(march) > max(least, 1):
+            while length(march) > 1:
                 found = self.shorter(march, until)
                 if found is None:
                     return
@@ -153,14 +151,11 @@ class Search:
         for worker in self.workers:
             number += 1
             worker.give((number, best))
-        while time.monotonic() < until:
+        while time.monotonic() < until and not self.is_shown():
             self.watch(f"walk {number}, {self.tried.value:,} changes")
-            waiting: Any = {worker.connection: worker for worker in self.workers if worker.task is not None}
-            if not waiting:
-                return found[min(found)]
-            wait = min(SECONDS, max(0.0, until - time.monotonic()))
-            for connection in multiprocessing.connection.wait(list(waiting), wait):
-                worker = waiting[connection]
+            if all(worker.task is None for worker in self.workers):
+                break
+            for worker in self.ready(until):
                 done, march = result(worker)
                 worker.task = None
                 if march is not None:
@@ -169,3 +164,14 @@ class Search:
                     number += 1
                     worker.give((number, best))
         return found[min(found)] if found else None
+
+    def ready(self, until: float) -> Iterator[Worker]:
+        """The processes whose walks are over. It also hears what is shown beside them."""
+        waiting: Any = {worker.connection: worker for worker in self.workers if worker.task is not None}
+        heard = [] if self.beside is None or self.beside.is_over else [self.beside.connection]
+        wait = min(SECONDS, max(0.0, until - time.monotonic()))
+        for connection in multiprocessing.connection.wait([*waiting, *heard], wait):
+            if connection in waiting:
+                yield waiting[connection]
+            elif self.beside is not None:
+                self.beside.hear()

@@ -13,8 +13,9 @@ import sys
 from typing import Any, List
 
 from vidlakost_tools.design.answers import Answers
-from vidlakost_tools.design.finder import TRIED, Finder, Progress
+from vidlakost_tools.design.finder import TRIED, Finder
 from vidlakost_tools.design.parts import Parts, elements_from, text_of
+from vidlakost_tools.design.progress import Progress
 from vidlakost_tools.design.shown import told
 from vidlakost_tools.design.wishes import Words, wish_of
 from vidlakost_tools.program import settle
@@ -47,11 +48,14 @@ class Said(Progress):
         say(least=operations)
 
     def at(self, text: str) -> None:
-        if taken_kib() > MEMORY_KIB:
-            raise MemoryError
+        self.look()
         if self.seconds() - self.last > TOLD_SECONDS:
             self.last = self.seconds()
             say(doing=text)
+
+    def look(self) -> None:
+        if taken_kib() > MEMORY_KIB:
+            raise MemoryError
 
 
 def taken_kib() -> int:
