@@ -4,7 +4,7 @@ from __future__ import annotations
 
 import contextlib
 import dataclasses
-from typing import Callable, Optional, Sequence
+from typing import Callable, Optional, Sequence, Tuple
 
 from vidlakost_tools.design.beam import Beam
 from vidlakost_tools.design.beside import Beside
@@ -192,18 +192,44 @@ class Finder:
             self.least = operations
             self.progress.bounded(self.given + operations)
 
+    def walks(self, workers: int, seconds: float, seed: int, part: Optional[Tuple[int, int]] = None) -> Walks:
+        wish = self.wish
+        return Walks(self.survivors, self.limits, wish.behind, workers, seconds, seed, wish.fits, part)
+
+    def part(self, begin: Optional[Parts], walks: Walks) -> Optional[Search]:
+        """A part of the walks for the next march that is shorter than `begin`, or than the one that the beams find.
+        What came of it stands in the search."""
+        self.progress.begin()
+        if begin is None:
+            self.beams()
+        elif is_complete(self.survivors, begin):
+            self.take(begin)
+        if self.best is None:
+            return None
+
+        def told(parts: Parts) -> Parts:
+            self.take(parts)
+            return self.best or parts
+
+        search = Search(walks, told, self.progress.at, lambda: False)
+        search.run(self.best)
+        return search
+
+    def beams(self) -> None:
+        """The searches that find a first march."""
+        self.regular()
+        for order in (1, 2, 3) if self.wish.is_open else (1,):
+            self.free(order)
+
     def run(self, tried: Optional[int] = TRIED, seconds: float = 0, workers: int = 1, seed: int = 1) -> None:
         """The whole search. The search of all shorter marches ends after a number of elements, and that by random
         changes after so many seconds."""
         self.progress.begin()
-        self.regular()
-        for order in (1, 2, 3) if self.wish.is_open else (1,):
-            self.free(order)
+        self.beams()
         if self.best is None:
             return
         if seconds:
-            walks = Walks(self.survivors, self.limits, self.wish.behind, workers, seconds, seed, self.wish.fits)
-            self.at_once(tried, walks)
+            self.at_once(tried, self.walks(workers, seconds, seed))
         else:
             self.all_shorter(tried)
 

@@ -39,6 +39,8 @@ class Walks:
     seconds: float
     seed: int
     fits: Optional[Callable[[Parts], bool]] = None
+    # a part of the walks for the next shorter march alone: the first number and the last one
+    part: Optional[Tuple[int, int]] = None
 
 
 class Worker:
@@ -119,6 +121,8 @@ class Search:
         self.won: Any = context.Value("l", NONE)
         self.tried: Any = context.Value("q", 0)
         self.workers: List[Worker] = []
+        # of a part: the number of the walk that came to a march (0: none), and the last one of those that are over
+        self.number, self.done = 0, 0
 
     def run(self, best: Parts) -> None:
         """Looks for shorter and shorter marches, until the time is over or no march is shorter."""
@@ -133,7 +137,7 @@ class Search:
                 if found is None:
                     return
                 before, march = march, self.free(self.told([*self.walks.behind, *found]))
-                if length(march) >= length(before):
+                if length(march) >= length(before) or self.walks.part is not None:
                     return
         finally:
             for worker in self.workers:
@@ -147,8 +151,9 @@ class Search:
     def shorter(self, best: March, until: float) -> Optional[March]:
         """A shorter march, or none in the time."""
         self.won.value = NONE
-        number, found = 0, {}  # type: int, Dict[int, March]
-        for worker in self.workers:
+        first, last = self.walks.part or (1, NONE - 1)
+        number, found = first - 1, {}  # type: int, Dict[int, March]
+        for worker in self.workers[: last - number]:
             number += 1
             worker.give((number, best))
         while time.monotonic() < until and not self.is_shown():
@@ -160,10 +165,13 @@ class Search:
                 worker.task = None
                 if march is not None:
                     found[done] = march
-                if not found:
+                if not found and number < last:
                     number += 1
                     worker.give((number, best))
-        return found[min(found)] if found else None
+        self.number = min(found, default=0)
+        # what is over is told only where each smaller number is over too
+        self.done = min([worker.task[0] - 1 for worker in self.workers if worker.task], default=self.number or number)
+        return found[self.number] if found else None
 
     def ready(self, until: float) -> Iterator[Worker]:
         """The processes whose walks are over. It also hears what is shown beside them."""

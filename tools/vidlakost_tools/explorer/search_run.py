@@ -24,6 +24,8 @@ from vidlakost_tools.tool import ToolError
 
 # how long a search may take, and after it the program with its march
 SECONDS, LAST_SECONDS = 60, 60
+# how long the walks of a search may take; the searches of all shorter marches may go on behind them
+WALK_SECONDS = 50
 # how much memory it may take; this is no limit of the system's, since the program reserves more than it uses
 MEMORY_KIB = 2 << 20
 # the name of the list in the folder, as answers have it
@@ -77,7 +79,7 @@ def bounded() -> None:
 def searched(finder: Finder) -> None:
     """Searches to the end, or until it is ended."""
     try:
-        finder.run(TRIED)
+        finder.run(TRIED, WALK_SECONDS, len(os.sched_getaffinity(0)))
     except KeyboardInterrupt:
         if finder.best is None:
             raise ToolError("the search was ended before it found a march") from None
