@@ -2,12 +2,15 @@
 from __future__ import annotations
 
 import os
+import re
+import shutil
 import signal
 import subprocess
 import time
 from typing import Dict, List, Tuple
 
 from tests.integration.bench import Bench
+from vidlakost_tools.program import ROOT
 
 FILES: Dict[str, str] = {
     "none.list": "# nothing\n",
@@ -67,8 +70,13 @@ ROWS: List[Tuple[List[str], int, str, str]] = [
         "",
         "design: --backgrounds is a number from 1 to 8, and not 9",
     ),
+    (["tf.list", "--walks", "2-1"], 2, "", "design: --walks takes two numbers from 1 on, as 1-50, and not '2-1'"),
+    (["tf.list", "--from", "c.m"], 2, "", "design: --from needs --walks, which names the part of the walks"),
+    (["tf.list", "--walks", "1-3"], 0, "\nwalks 1 to 3: no shorter march", "design: 5n after"),
+    (["wide.list", "--walks", "1-3", "--from", "long.m"], 1, "", "design: long.m does not cover all of this"),
+    (["tf.list", "--seconds", "ten"], 2, "", "design: --seconds is a number of at least 0, and not 'ten'"),
     (["wide.list", "--elements", "1"], 1, "<0;0/1/-> CFst: the search found no march that covers it too", ""),
-    (["two.list", "--operations", "3"], 0, "judge total 1 covered 1 escapes 0", "design: "),
+    (["two.list", "--operations", "3", "--seconds", "0"], 0, "judge total 1 covered 1 escapes 0", "design: "),
     (
         ["two.list", "--operations", "2"],
         2,
@@ -118,8 +126,28 @@ def large(bench: Bench) -> None:
     """A list of 1,024 items, each of whose primitives is looked at once."""
     (bench.folder / "thousand.list").write_text(FILES["thousand.list"])
     bench.look(
-        ["tools/design", "thousand.list", "--width", "20"], 0, "judge total 1024 covered 1024 escapes 0", "design: "
+        ["tools/design", "thousand.list", "--width", "20", "--seconds", "0"],
+        0,
+        "judge total 1024 covered 1024 escapes 0",
+        "design: ",
     )
+
+
+def parts(bench: Bench) -> None:
+    """Two parts of the walks and the whole of them come to one march; the least number decides."""
+    (bench.folder / "long.list").write_text(FILES["stuck.list"] + "TF\nWDF\nCFst\n")
+    shutil.copy(ROOT / "examples" / "marches" / "march_ss.m", bench.folder)
+    made = {}
+    for part in ("1-4", "1-2", "3-4"):
+        words = ["tools/design", "long.list", "--walks", part, "--from", "march_ss.m"]
+        done = subprocess.run(
+            words, cwd=bench.folder, env=bench.environment, text=True, capture_output=True, check=False
+        )
+        lines = done.stdout.splitlines()
+        found = re.match(r"walk (\d+) of ", lines[-1]) if lines else None
+        made[part] = (int(found[1]) if found else 1 << 30, lines[:1])
+    bench.is_so(made["1-4"] == min(made["1-2"], made["3-4"]), f"the parts of a search come to {made}")
+    bench.is_so(made["1-4"][0] < 1 << 30, "four walks come to no shorter march")
 
 
 def ended(bench: Bench) -> None:
@@ -152,4 +180,4 @@ def ended(bench: Bench) -> None:
             (bench.folder / "ended.m").unlink()
 
 
-PARTS = [calls, large, ended]
+PARTS = [calls, large, parts, ended]

@@ -2,15 +2,35 @@
 from __future__ import annotations
 
 import itertools
+import random
+import time
 import unittest
-from typing import List, Sequence
+import unittest.mock
+from typing import List, Sequence, Tuple
 
 from vidlakost_tools.design.bound import Bound
-from vidlakost_tools.design.finder import Finder, Progress, Wish
+from vidlakost_tools.design.changes import Changes
+from vidlakost_tools.design.finder import Finder, Wish
 from vidlakost_tools.design.instances import Instance, decoder_instances, instances_of, linked_instances
-from vidlakost_tools.design.parts import Limits, Part, Parts, length, opened, parts_of, shorter, text_of, trimmed
+from vidlakost_tools.design.one_cell import OneCell, parted
+from vidlakost_tools.design.parts import (
+    Limits,
+    Part,
+    Parts,
+    elements_from,
+    is_complete,
+    length,
+    opened,
+    parts_of,
+    shorter,
+    text_of,
+    trimmed,
+)
+from vidlakost_tools.design.progress import Progress
 from vidlakost_tools.design.reach import can_cover
 from vidlakost_tools.design.survivors import Survivors
+from vidlakost_tools.design.walk import Place
+from vidlakost_tools.design.workers import Search, Walks
 from vidlakost_tools.texts.decoder import NAMES, DecoderVerdict
 from vidlakost_tools.texts.faults import Array, read_primitive
 from vidlakost_tools.texts.linked import LinkVerdict
@@ -203,6 +223,126 @@ class Bounds(unittest.TestCase):
         self.assertEqual(bound.search(1), [Part("up", ("r",))])
 
 
+class OneCells(unittest.TestCase):
+    """The search over the states of a cell alone, beside a search of all marches."""
+
+    def least(self, texts: Sequence[str], most: int = 40) -> int:
+        every = [it for text in texts for it in instances_of(text)]
+        chosen = [it for it in every if it.below == it.above]
+        bounds: List[int] = []
+        parts = OneCell(chosen, bounds.append, lambda text: None).shortest(most)
+        if parts is None:
+            return 0
+        self.assertEqual(max(bounds), length(parts))
+        self.assertTrue(is_complete(Survivors(every), parted(Survivors(every), parts, 16)))
+        return length(parts)
+
+    def plainly(self, texts: Sequence[str], most: int) -> int:
+        """Each march of single directions, one operation after the other; a state is looked at once."""
+        survivors = Survivors([it for text in texts for it in instances_of(text)])
+        layer: List[Parts] = [[Part("up", (write,))] for write in ("w0", "w1")]
+        seen = set()
+        for operations in range(1, most + 1):
+            if any(is_complete(survivors, parts) for parts in layer):
+                return operations
+            longer = []
+            for parts in layer:
+                for operation in ("w0", "w1", "r"):
+                    for made in (
+                        [*parts[:-1], Part(parts[-1].order, (*parts[-1].operations, operation))],
+                        [*parts, Part("up", (operation,))],
+                    ):
+                        before = survivors.run(elements_from(made[:-1])) if len(made) > 1 else None
+                        key = (before, made[-1], survivors.run(elements_from(made)))
+                        if key not in seen:
+                            seen.add(key)
+                            longer.append(made)
+            layer = longer
+        return 0
+
+    def test_against_all_marches(self) -> None:
+        for texts in (["<0w1r1/0/1>"], ["<0r0w0/1/->"], ["<1w1w0/1/->"], TRANSITIONS, ["<0w0/1/->", "<0r0r0/1/0>"]):
+            self.assertEqual(self.least(texts), self.plainly(texts, 7), texts)
+
+    def test_none_is_so_short(self) -> None:
+        self.assertEqual(self.least(TRANSITIONS, 4), 0)
+
+
+class Walking(unittest.TestCase):
+    def test_what_is_left_as_survivors_say(self) -> None:
+        """Marches at random and their changes, with links, pauses, a wrong decoder and a march in front."""
+        pairs = [
+            linked_instances("LF3", "<0w1;0/1/->", "<1;1r1/0/1>"),
+            linked_instances("LF1", "<0w1/0/->", "<0r0/1/1>"),
+        ]
+        cases: List[Tuple[List[Instance], Parts]] = [
+            ([it for text in SOME for it in instances_of(text)], []),
+            ([it for pair in pairs for it in pair], []),
+            ([it for text in SOME for it in instances_of(text)], parts_of(elements_of(C_MINUS))),
+        ]
+        for instances, behind in cases:
+            survivors = Survivors(instances, decoder_instances())
+            chance = random.Random(1)
+            changes = Changes(chance, Limits(pauses=survivors.pauses), not behind, 64)
+            place, march = Place(survivors, behind), changes.any(10)
+            place.take(march)
+            for _ in range(200):
+                made = changes.one(march)
+                if made is None:
+                    continue
+                state = survivors.run(elements_from([*behind, *made]))[0]
+                self.assertEqual(place.left(made), state[0] | state[1] | state[2] | state[3], made)
+                self.assertEqual(length(made), 10)
+                if chance.random() < 0.5:
+                    march = made
+                    place.take(march)
+
+    def test_processors_do_not_matter(self) -> None:
+        """Each number of processes finds the same marches, one after the other."""
+        instances = [it for text in SOME[:8] for it in instances_of(text)]
+        survivors = Survivors(instances)
+        limits = Limits(pauses=survivors.pauses)
+        long = [Part("up", ("w0",)), *[Part("up", ("r", "w1", "r", "r", "w0", "r")) for _ in range(4)]]
+        long += [Part("del"), Part("down", ("r", "w1", "w1", "r", "r", "w0", "w0", "r"))]
+        found: List[List[str]] = []
+        for workers in (1, 3):
+            told: List[str] = []
+
+            def tell(parts: Parts) -> Parts:
+                told.append(text_of(parts))
+                return parts
+
+            def is_short() -> bool:
+                return bool(told) and length(parts_of(elements_of(told[-1]))) <= 14
+
+            Search(Walks(survivors, limits, [], workers, 60, 7), tell, lambda text: None, is_short).run(long)
+            found.append(told)
+        self.assertEqual(found[0], found[1])
+        self.assertTrue(is_complete(survivors, parts_of(elements_of(found[0][-1]))))
+
+    def test_limits(self) -> None:
+        """No change makes a march that may not be."""
+        for limits in (Limits(operations=2), Limits(elements=4), Limits(3, 5, 1)):
+            changes = Changes(random.Random(3), limits, True, limits.elements)
+            march = changes.any(8)
+            for _ in range(300):
+                made = changes.one(march)
+                if made is not None:
+                    march = made
+                    self.assertTrue(limits.allow(list(made)), made)
+                    self.assertEqual((length(made), made[0].operations[0][0]), (8, "w"))
+
+    def test_the_seed_reaches_the_walks(self) -> None:
+        """Also where marches with open orders are asked for, which take the beams several times."""
+        wish = Wish([it for text in TRANSITIONS for it in linked_instances("LF1", text, STUCK[0])], [], Limits(), [], 4)
+        for is_open in (False, True):
+            wish.is_open = is_open
+            finder, seeds = Finder(wish, Progress()), []  # type: Finder, List[int]
+            with unittest.mock.patch.object(Finder, "at_once", lambda _, tried, walks: seeds.append(walks.seed)):
+                finder.run(seconds=1, seed=7)
+            self.assertEqual(seeds, [7])
+
+
 class Reach(unittest.TestCase):
     def test_two_operations_of_one_cell_ask_for_an_element_of_two(self) -> None:
         for text, operations, is_covered in (
@@ -227,6 +367,13 @@ class Finding(unittest.TestCase):
     def test_one_primitive(self) -> None:
         finder = self.find(["<0w1/0/->"])
         self.assertEqual((length(finder.best or []), finder.is_shortest), (3, True))
+
+    def test_a_bound_that_is_shown_ends_the_walks(self) -> None:
+        wish = Wish([it for text in TRANSITIONS for it in instances_of(text)], [], Limits(), [], 40)
+        finder, begun = Finder(wish, Progress()), time.monotonic()
+        finder.run(seconds=300, workers=2)
+        self.assertEqual((length(finder.best or []), finder.is_shortest), (5, True))
+        self.assertLess(time.monotonic() - begun, 100)
 
     def test_pauses(self) -> None:
         finder = self.find([*TRANSITIONS, "<0t/1/->", "<1t/0/->"])

@@ -7,7 +7,8 @@ from typing import List, Optional
 from vidlakost_tools.design import backgrounds
 from vidlakost_tools.design.finder import Finder
 from vidlakost_tools.design.parts import Part, elements_from, text_of
-from vidlakost_tools.design.wishes import Clock, Words
+from vidlakost_tools.design.table import Entry, bound_of
+from vidlakost_tools.design.wishes import Clock, Words, names_of
 from vidlakost_tools.program import with_text
 from vidlakost_tools.text import read_described
 from vidlakost_tools.texts.decoder import decoded
@@ -46,6 +47,8 @@ class Answers:
     finder: Finder
     beyond: List[str]
     said: List[Said]
+    # a line of the file with the shortest marches whose bound holds for this list
+    filed: Optional[Entry] = None
 
     @property
     def clock(self) -> Optional[Clock]:
@@ -66,7 +69,15 @@ class Answers:
         elements = elements_from(parts)
         if words.backgrounds:
             said.append(with_text(march, lambda path: with_found(path, elements, words)))
-        return cls(march, elements, words, finder, beyond, said)
+        return cls(march, elements, words, finder, beyond, said, filed(words))
+
+
+def filed(words: Words) -> Optional[Entry]:
+    """The bound that another program showed for this list, or for a part of it. It is of whole marches."""
+    if words.behind is not None:
+        return None
+    beside = {name for name, is_asked in (("decoder", words.decoder), ("linked", words.linked)) if is_asked}
+    return bound_of(set(names_of(words.faults)), beside)
 
 
 def commands(words: Words) -> List[str]:

@@ -4,15 +4,18 @@ from __future__ import annotations
 
 import contextlib
 import dataclasses
-import time
-from typing import Callable, Optional, Sequence
+from typing import Callable, Optional, Sequence, Tuple
 
 from vidlakost_tools.design.beam import Beam
+from vidlakost_tools.design.beside import Beside
 from vidlakost_tools.design.blocks import Blocks
 from vidlakost_tools.design.bound import Bound
 from vidlakost_tools.design.instances import DecoderInstance, Instance
+from vidlakost_tools.design.one_cell import OneCell, parted
 from vidlakost_tools.design.parts import Limits, Part, Parts, is_complete, length, opened, pauses, trimmed, with_pauses
+from vidlakost_tools.design.progress import Progress
 from vidlakost_tools.design.survivors import Survivors
+from vidlakost_tools.design.workers import Search, Walks
 
 # the most operations of a search, and the most that a march may have
 LONGEST, MOST = 160, 256
@@ -37,23 +40,20 @@ class Wish:
     fits: Optional[Callable[[Parts], bool]] = None
 
 
-class Progress:
-    """Receives the progress of the search."""
+class Showing(Progress):
+    """Takes over what the searches in another process show."""
 
-    def begin(self) -> None:
-        self.started = time.monotonic()
-
-    def seconds(self) -> float:
-        return time.monotonic() - self.started
+    def __init__(self, finder: "Finder"):
+        self.finder = finder
 
     def better(self, parts: Parts) -> None:
-        """The search found a march that is shorter than those before."""
+        self.finder.take(parts)
 
     def bounded(self, operations: int) -> None:
-        """No march has fewer operations."""
+        self.finder.bounded(operations - self.finder.given)
 
-    def at(self, text: str) -> None:
-        """What the search is doing."""
+    def look(self) -> None:
+        self.finder.progress.look()
 
 
 class Finder:
@@ -150,20 +150,88 @@ class Finder:
                 return
         self.bounded(most + 1)
 
+    def one_cell(self) -> None:
+        """Raises the bound by the primitives of one cell, if some have two operations. If they are the whole list, this
+        finds a shortest march."""
+        chosen = [it for it in self.wish.instances if is_of_one_cell(it)]
+        if self.wish.behind or all(is_static(it) for it in chosen):
+            return
+        search = OneCell(chosen, self.bounded, self.progress.at)
+        parts = search.shortest(length(self.best or []) - 1)
+        if parts is not None:
+            parts = parted(self.survivors, parts, self.limits.operations)
+            if is_complete(self.survivors, parts):
+                self.take(parts)
+
+    def all_shorter(self, tried: Optional[int]) -> None:
+        """Raises the bound by each search of all shorter marches."""
+        with contextlib.suppress(TimeoutError):
+            self.exhaust(tried)
+        if not self.is_shortest:
+            with contextlib.suppress(TimeoutError):
+                self.one_cell()
+
+    def at_once(self, tried: Optional[int], walks: Walks) -> None:
+        """Looks for a shorter march by random changes, beside the searches of all shorter ones."""
+
+        def exact(progress: Progress) -> None:
+            self.progress = progress
+            self.all_shorter(tried)
+
+        def told(parts: Parts) -> Parts:
+            self.take(parts)
+            return self.best or parts
+
+        with Beside(exact, Showing(self)) as beside:
+            Search(walks, told, self.progress.at, lambda: self.is_shortest, beside).run(self.best or [])
+            while not beside.is_over and not self.is_shortest:
+                beside.hear()
+
     def bounded(self, operations: int) -> None:
         if operations > self.least:
             self.least = operations
             self.progress.bounded(self.given + operations)
 
-    def run(self, tried: Optional[int] = TRIED) -> None:
-        """The whole search. The last part ends after a number of elements."""
+    def walks(self, workers: int, seconds: float, seed: int, part: Optional[Tuple[int, int]] = None) -> Walks:
+        wish = self.wish
+        return Walks(self.survivors, self.limits, wish.behind, workers, seconds, seed, wish.fits, part)
+
+    def part(self, begin: Optional[Parts], walks: Walks) -> Optional[Search]:
+        """A part of the walks for the next march that is shorter than `begin`, or than the one that the beams find.
+        What came of it stands in the search."""
         self.progress.begin()
+        if begin is None:
+            self.beams()
+        elif is_complete(self.survivors, begin):
+            self.take(begin)
+        if self.best is None:
+            return None
+
+        def told(parts: Parts) -> Parts:
+            self.take(parts)
+            return self.best or parts
+
+        search = Search(walks, told, self.progress.at, lambda: False)
+        search.run(self.best)
+        return search
+
+    def beams(self) -> None:
+        """The searches that find a first march."""
         self.regular()
-        for seed in (1, 2, 3) if self.wish.is_open else (1,):
-            self.free(seed)
-        if self.best is not None:
-            with contextlib.suppress(TimeoutError):
-                self.exhaust(tried)
+        for order in (1, 2, 3) if self.wish.is_open else (1,):
+            self.free(order)
+
+    def run(self, tried: Optional[int] = TRIED, seconds: float = 0, workers: int = 1, seed: int = 1) -> None:
+        """The whole search. The search of all shorter marches ends after a number of elements, and that by random
+        changes after so many seconds."""
+        self.progress.begin()
+        self.beams()
+        if self.best is None:
+            return
+        if seconds:
+            self.at_once(tried, self.walks(workers, seconds, seed))
+        else:
+            self.all_shorter(tried)
 
     @property
     def is_shortest(self) -> bool:
@@ -174,6 +242,14 @@ def is_static(instance: Instance) -> bool:
     """Whether an instance has one primitive, of at most one operation."""
     acts = instance.links[0].acts
     return len(instance.links) == 1 and len(acts) < 2 and acts != ["t"]
+
+
+def is_of_one_cell(instance: Instance) -> bool:
+    """Whether an instance is of one cell. Of a primitive of two operations it is the one with other cells below and
+    above."""
+    acts = instance.links[0].acts
+    is_alone = len(instance.links) == 1 and instance.links[0].aggressor is None and acts != ["t"]
+    return is_alone and (len(acts) < 2 or instance.below and instance.above)
 
 
 def rank(parts: Sequence[Part]) -> tuple[int, int, int, int]:

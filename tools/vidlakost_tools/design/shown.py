@@ -4,8 +4,8 @@ from __future__ import annotations
 from typing import Iterator, Optional, TextIO
 
 from vidlakost_tools.design.answers import Answers, Said
-from vidlakost_tools.design.finder import Progress
-from vidlakost_tools.design.parts import Parts, elements_from, text_of
+from vidlakost_tools.design.parts import Parts, elements_from, length, text_of
+from vidlakost_tools.design.progress import Progress
 from vidlakost_tools.design.wishes import Clock
 from vidlakost_tools.texts.march import Element, length_of
 from vidlakost_tools.tool import tell
@@ -68,7 +68,14 @@ def length_told(answers: Answers) -> str:
         return f"{told}: the search found no march that covers all of this"
     if finder.is_shortest:
         return f"{told}, shortest: a search of all shorter ones finds none"
-    return f"{told}, shortest found: at least {finder.given + finder.least}n are needed"
+    if answers.filed is not None and answers.filed.least > finder.least:
+        least, by = answers.filed.least, f"as {answers.filed.shown_by} shows (examples/shortest)"
+        if length(finder.best) == least:
+            return f"{told}, shortest: none is shorter, {by}"
+        return f"{told}, shortest found: at least {least}n are needed, {by}"
+    # every march has an operation
+    known = f": at least {finder.given + finder.least}n are needed" if finder.least > 1 else ""
+    return f"{told}, shortest found{known}"
 
 
 def why(answers: Answers, said: Said, name: str) -> str:

@@ -4,7 +4,7 @@ from __future__ import annotations
 import dataclasses
 import functools
 import pathlib
-from typing import Iterator, List, Sequence, Set
+from typing import Iterator, List, Optional, Sequence, Set
 
 from vidlakost_tools.program import ROOT, with_text
 from vidlakost_tools.text import beside, lines_of, read_text
@@ -27,18 +27,20 @@ SAME = beside(__file__, "table_same.md")
 
 @dataclasses.dataclass
 class Entry:
-    """A march: the words of its list (or `as` and the file of a march that covers the same), what it covers beside
-    that, the lower bound by a search of all shorter ones, and its text."""
+    """A march: the words of its list (`-`: none; or `as` and the file of a march that covers the same), what it covers
+    beside that, the lower bound, its text, and what showed the bound (nothing: a search of all shorter ones by
+    `design`)."""
 
     words: List[str]
     beside: str
     least: int
     march: str
+    shown_by: str = ""
 
     @property
     def file(self) -> str:
         """The march that covers the same; None if the words name a list."""
-        return self.words[1] if self.words[0] == "as" else ""
+        return self.words[1] if self.words[:1] == ["as"] else ""
 
     @property
     def length(self) -> str:
@@ -50,8 +52,9 @@ class Entry:
 
     @property
     def at_least(self) -> str:
+        by = f", by `{self.shown_by}`" if self.shown_by else ""
         # every march has an operation, so the table leaves that out
-        return "shortest" if self.is_shortest else f"{self.least}n" if self.least > 1 else ""
+        return f"shortest{by}" if self.is_shortest else f"{self.least}n{by}" if self.least > 1 else ""
 
     def names(self) -> List[str]:
         """The primitives that it covers, as the program reads the list or judges the other march."""
@@ -105,12 +108,20 @@ def entries() -> List[Entry]:
     for number, line in enumerate(lines_of(read_text(FILE)), 1):
         if line and not line.startswith("#"):
             parts = [part.strip() for part in line.split("|")]
-            if len(parts) != 4 or parts[1] not in BESIDE or not parts[2].isdecimal():
+            least, _, shown_by = parts[2].partition(" ") if len(parts) == 4 else ("", "", "")
+            if len(parts) != 4 or parts[1] not in BESIDE or not least.isdecimal():
                 raise ToolError(
                     f"{FILE}:{number}: the line needs a list, `-`, `decoder` or `linked`, then a number and a march"
                 )
-            made.append(Entry(parts[0].split(), parts[1], int(parts[2]), parts[3]))
+            words = [] if parts[0] == "-" else parts[0].split()
+            made.append(Entry(words, parts[1], int(least), parts[3], shown_by))
     return made
+
+
+def bound_of(names: Set[str], beside: Set[str]) -> Optional[Entry]:
+    """The line with the greatest bound of those that another program showed, whose faults are all among these."""
+    known = [it for it in entries() if it.shown_by and it.beside in ("-", *beside) and set(it.names()) <= names]
+    return max(known, key=lambda it: it.least) if known else None
 
 
 def listed(found: Sequence[Entry], marches: Sequence[Published]) -> Iterator[str]:

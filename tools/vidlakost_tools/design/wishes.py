@@ -22,6 +22,8 @@ from vidlakost_tools.tool import ToolError, number_of
 PLAIN = "any(w0)"
 # a march that covers as much inside a word as any march of the gallery
 INSIDE = ROOT / "examples" / "marches" / "march_ss.m"
+# a search without an end in time
+FOREVER = 10**9
 MOST_OPERATIONS, MOST_ELEMENTS, MOST_BACKGROUNDS = 16, 64, 8
 
 
@@ -49,6 +51,12 @@ class Words:
     timed: Optional[str] = None
     clock: Optional[Clock] = None
     width: int = 300
+    # of the search by random changes: how long it takes, and what decides its chances
+    seconds: int = 60
+    seed: int = 1
+    # a part of the walks, and the march that it begins with
+    walks: Optional[Tuple[int, int]] = None
+    begin: Optional[str] = None
 
     @classmethod
     def of(cls, faults: str, options: Dict[str, Any]) -> "Words":
@@ -57,6 +65,13 @@ class Words:
         made.limits = Limits(operations, number(options, "--elements", MOST_ELEMENTS, MOST_ELEMENTS))
         made.decoder, made.linked = "--decoder" in options, "--linked" in options
         made.in_word, made.width = options.get("--inword"), number(options, "--width", 300, 100_000)
+        made.seconds = number_of(options.get("--seconds", "60"), "--seconds")
+        made.seed = number_of(options.get("--seed", "1"), "--seed")
+        if "--walks" in options:
+            made.walks, made.begin = part_of(options["--walks"]), options.get("--from")
+            made.seconds = made.seconds if "--seconds" in options else FOREVER
+        elif "--from" in options:
+            raise ToolError("--from needs --walks, which names the part of the walks")
         if "--backgrounds" in options:
             if made.in_word is None:
                 raise ToolError("--backgrounds needs --inword, which names the memory")
@@ -74,6 +89,7 @@ class Words:
         named = [
             ("the list itself", self.faults),
             ("the march itself", self.behind),
+            ("the march itself", self.begin),
             ("the memory itself", self.in_word),
         ]
         return [(what, name) for what, name in [*named, ("the memory itself", self.timed)] if name is not None]
@@ -84,6 +100,19 @@ def number(options: Dict[str, Any], option: str, usual: int, most: int) -> int:
     if value > most:
         raise ToolError(f"{option} is a number from 1 to {most:,}, and not {value}")
     return value
+
+
+def part_of(text: str) -> Tuple[int, int]:
+    """The first number of a part of the walks, and the last one."""
+    found = re.fullmatch(r"([1-9]\d{0,7})-([1-9]\d{0,7})", text)
+    if found is None or int(found[1]) > int(found[2]):
+        raise ToolError(f"--walks takes two numbers from 1 on, as 1-50, and not {shown(text)}")
+    return int(found[1]), int(found[2])
+
+
+def begin_of(words: Words) -> Optional[Parts]:
+    """The march that a part of the walks begins with."""
+    return None if words.begin is None else parts_of(march_of(words.begin)[1])
 
 
 def names_of(faults: str) -> List[str]:

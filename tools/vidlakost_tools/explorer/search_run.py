@@ -13,8 +13,9 @@ import sys
 from typing import Any, List
 
 from vidlakost_tools.design.answers import Answers
-from vidlakost_tools.design.finder import TRIED, Finder, Progress
+from vidlakost_tools.design.finder import TRIED, Finder
 from vidlakost_tools.design.parts import Parts, elements_from, text_of
+from vidlakost_tools.design.progress import Progress
 from vidlakost_tools.design.shown import told
 from vidlakost_tools.design.wishes import Words, wish_of
 from vidlakost_tools.program import settle
@@ -23,6 +24,8 @@ from vidlakost_tools.tool import ToolError
 
 # how long a search may take, and after it the program with its march
 SECONDS, LAST_SECONDS = 60, 60
+# how long the walks of a search may take; the searches of all shorter marches may go on behind them
+WALK_SECONDS = 50
 # how much memory it may take; this is no limit of the system's, since the program reserves more than it uses
 MEMORY_KIB = 2 << 20
 # the name of the list in the folder, as answers have it
@@ -47,11 +50,14 @@ class Said(Progress):
         say(least=operations)
 
     def at(self, text: str) -> None:
-        if taken_kib() > MEMORY_KIB:
-            raise MemoryError
+        self.look()
         if self.seconds() - self.last > TOLD_SECONDS:
             self.last = self.seconds()
             say(doing=text)
+
+    def look(self) -> None:
+        if taken_kib() > MEMORY_KIB:
+            raise MemoryError
 
 
 def taken_kib() -> int:
@@ -73,7 +79,7 @@ def bounded() -> None:
 def searched(finder: Finder) -> None:
     """Searches to the end, or until it is ended."""
     try:
-        finder.run(TRIED)
+        finder.run(TRIED, WALK_SECONDS, len(os.sched_getaffinity(0)))
     except KeyboardInterrupt:
         if finder.best is None:
             raise ToolError("the search was ended before it found a march") from None
