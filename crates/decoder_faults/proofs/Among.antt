@@ -18,8 +18,8 @@ use Rattle.cell_machine.specs.declared.pair.Side.{Side}
 use Rattle.cell_machine.specs.declared.pair.Side.TheVariants.{A, V}
 use Rattle.cell_machine.specs.Seen.{place_of}
 use Rattle.pair_tracker.proofs.Tags.{kept, side_at, side_is, pair_ordered}
-use Rattle.decoder_faults.specs.declared.fault.Wired.{Wired}
-use Rattle.decoder_faults.specs.declared.fault.Wired.TheVariants.{And, Or, Own}
+use Rattle.decoder_faults.specs.declared.fault.WiredRead.{WiredRead}
+use Rattle.decoder_faults.specs.declared.fault.WiredRead.TheVariants.{And, Or, Own}
 use Rattle.decoder_faults.specs.declared.fault.DecoderFault.{DecoderFault}
 use Rattle.decoder_faults.specs.declared.fault.DecoderFault.TheVariants.{NoCell, OtherCell, BothCells, TakenCell}
 use Rattle.decoder_faults.specs.Conditions.{read_first, later, written_last, turned, is_bit, does_tell, has_read, does_show, catches, some_element, meets}
@@ -301,11 +301,11 @@ some_of : (o : Option Bool) → is_some o ≡ true → (bit : Bool) × (o ≡ So
 some_of None some = cc
 some_of (Some bit) some = (bit, refl)
 
-shown : (wired : Wired) (x_first : Bool) (o : Option Bool) → does_show wired x_first o ≡ true → (bit : Bool) × (o ≡ Some bit) × ((x_first || does_tell wired bit) ≡ true)
+shown : (wired : WiredRead) (x_first : Bool) (o : Option Bool) → does_show wired x_first o ≡ true → (bit : Bool) × (o ≡ Some bit) × ((x_first || does_tell wired bit) ≡ true)
 shown wired x_first None shows = cc
 shown wired x_first (Some bit) shows = (bit, refl, shows)
 
-told : (wired : Wired) (own bit : Bool) → does_tell wired bit ≡ true → wired_bit wired own (not bit) ≡ not bit
+told : (wired : WiredRead) (own bit : Bool) → does_tell wired bit ≡ true → wired_bit wired own (not bit) ≡ not bit
 told And true true tells = refl
 told And false true tells = refl
 told And own false tells = cc

@@ -7,7 +7,7 @@ use Rattle.march_core.specs.declared.operation.Op.TheVariants.{W0, W1, R0, R1}
 use Rattle.march_core.specs.declared.operation.Order.{Order}
 use Rattle.march_core.specs.declared.operation.Order.TheVariants.{Up, Down, Any}
 use Rattle.march_core.specs.March.{MarchElement, order_of, ops_of}
-use Rattle.decoder_faults.specs.declared.fault.Wired.{Wired}
+use Rattle.decoder_faults.specs.declared.fault.WiredRead.{WiredRead}
 use Rattle.decoder_faults.specs.declared.fault.DecoderFault.{DecoderFault}
 use Rattle.decoder_faults.specs.declared.fault.DecoderFault.TheVariants.{NoCell, OtherCell, BothCells, TakenCell}
 use Rattle.decoder_faults.specs.declared.escape.DecoderEscape.{DecoderEscape}
@@ -27,13 +27,13 @@ some_more f g more (e ∷ es) some = go (f e) (g e) (some_element f es) (some_el
         or_true false = refl
     go false b false d here rest h = cc
 
-up_shows : (wired : Wired) (bit : Bool) (order : Order) (t : Option Bool) → is_up order && is_bit bit t ≡ true → does_show wired (is_x_first true order) t ≡ true
+up_shows : (wired : WiredRead) (bit : Bool) (order : Order) (t : Option Bool) → is_up order && is_bit bit t ≡ true → does_show wired (is_x_first true order) t ≡ true
 up_shows wired bit Up None h = cc
 up_shows wired bit Up (Some other) h = refl
 up_shows wired bit Down t h = cc
 up_shows wired bit Any t h = cc
 
-down_shows : (wired : Wired) (bit : Bool) (order : Order) (t : Option Bool) → is_down order && is_bit bit t ≡ true → does_show wired (is_x_first false order) t ≡ true
+down_shows : (wired : WiredRead) (bit : Bool) (order : Order) (t : Option Bool) → is_down order && is_bit bit t ≡ true → does_show wired (is_x_first false order) t ≡ true
 down_shows wired bit Down None h = cc
 down_shows wired bit Down (Some other) h = refl
 down_shows wired bit Up t h = cc

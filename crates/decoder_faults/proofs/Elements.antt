@@ -13,8 +13,8 @@ use Rattle.cell_machine.specs.declared.pair.Side.TheVariants.{A, V}
 use Rattle.cell_machine.specs.Pairs.{pair_of}
 use Rattle.pair_tracker.specs.Few.{ops_run, cells_run}
 use Rattle.pair_tracker.proofs.Few.{right_first}
-use Rattle.decoder_faults.specs.declared.fault.Wired.{Wired}
-use Rattle.decoder_faults.specs.declared.fault.Wired.TheVariants.{And, Or, Own}
+use Rattle.decoder_faults.specs.declared.fault.WiredRead.{WiredRead}
+use Rattle.decoder_faults.specs.declared.fault.WiredRead.TheVariants.{And, Or, Own}
 use Rattle.decoder_faults.specs.declared.fault.DecoderFault.{DecoderFault}
 use Rattle.decoder_faults.specs.declared.fault.DecoderFault.TheVariants.{NoCell, OtherCell, BothCells, TakenCell}
 use Rattle.decoder_faults.specs.declared.pair.SideReach.{SideReach}
@@ -233,7 +233,7 @@ other_ends (Some s) left (Some bit) q reads held =
     (other_read q.a q.v s left (held ∙ same))
 
 -- both cells at x, and cell y at y
-both_x_first : (wired : Wired) (s : Bool) (left : Option Bool)
+both_x_first : (wired : WiredRead) (s : Bool) (left : Option Bool)
     → Ends (BothCells wired) (later (Some s) left) (in_turn (tested (Both A wired) (Some s) left) (tested (One V) (Some s) left) (pair_of s s)) (does_show wired true (turned (Some s) left))
 both_x_first And true None = (refl, refl)
 both_x_first And true (Some true) = (refl, refl)
@@ -254,7 +254,7 @@ both_x_first Own false None = (refl, refl)
 both_x_first Own false (Some true) = tt
 both_x_first Own false (Some false) = (refl, refl)
 
-both_y_first : (wired : Wired) (s : Bool) (left : Option Bool)
+both_y_first : (wired : WiredRead) (s : Bool) (left : Option Bool)
     → Ends (BothCells wired) (later (Some s) left) (in_turn (tested (One V) (Some s) left) (tested (Both A wired) (Some s) left) (pair_of s s)) (does_show wired false (turned (Some s) left))
 both_y_first And true None = (refl, refl)
 both_y_first And true (Some true) = (refl, refl)
@@ -276,16 +276,16 @@ both_y_first Own false (Some true) = (refl, refl)
 both_y_first Own false (Some false) = (refl, refl)
 
 -- the reaches in the order of the visits
-abbrev both_order : Wired → Bool → Option Bool → Option Bool → Pair → Option Pair
+abbrev both_order : WiredRead → Bool → Option Bool → Option Bool → Pair → Option Pair
 both_order wired true read left q = in_turn (tested (Both A wired) read left) (tested (One V) read left) q
 both_order wired false read left q = in_turn (tested (One V) read left) (tested (Both A wired) read left) q
 
-both_read : (wired : Wired) (x_first s : Bool) (left : Option Bool)
+both_read : (wired : WiredRead) (x_first s : Bool) (left : Option Bool)
     → Ends (BothCells wired) (later (Some s) left) (both_order wired x_first (Some s) left (pair_of s s)) (does_show wired x_first (turned (Some s) left))
 both_read wired true s left = both_x_first wired s left
 both_read wired false s left = both_y_first wired s left
 
-both_unread : (wired : Wired) (x_first : Bool) (left last : Option Bool) (q : Pair) → Held (BothCells wired) last q
+both_unread : (wired : WiredRead) (x_first : Bool) (left last : Option Bool) (q : Pair) → Held (BothCells wired) last q
     → Ends (BothCells wired) (later last left) (both_order wired x_first None left q) false
 both_unread wired true None last q held = held
 both_unread wired true (Some bit) last q held = (refl, refl)
@@ -295,7 +295,7 @@ both_unread wired false (Some bit) last q held = (refl, refl)
 same_cells : (q : Pair) (s : Bool) → q.a ≡ s → q.v ≡ s → q ≡ pair_of s s
 same_cells q s e f = ap (λ x. pair_of x q.v) e ∙ ap (pair_of s) f
 
-both_ends : (wired : Wired) (x_first : Bool) (read left last : Option Bool) (q : Pair) → ReadsLast read last → Held (BothCells wired) last q
+both_ends : (wired : WiredRead) (x_first : Bool) (read left last : Option Bool) (q : Pair) → ReadsLast read last → Held (BothCells wired) last q
     → Ends (BothCells wired) (later last left) (both_order wired x_first read left q) (does_show wired x_first (turned read left))
 both_ends wired x_first None left last q reads held = both_unread wired x_first left last q held
 both_ends wired x_first (Some s) left None q reads held = cc
@@ -379,7 +379,7 @@ sweep_says (NoCell answer) x_first ops last next q scanned held = go x_first
     go false = subst (λ o. Ends (NoCell answer) (later last (written_last ops)) o (has_read (not answer) ops)) (sym (sides_are (NoCell answer) V A q ops)) (ends false)
 sweep_says (TakenCell answer wired) x_first ops last next q scanned held = go x_first
   where
-    both_same : (w : Wired) (bit : Bool) → pair_read (Both V w) (pair_of bit bit) ≡ bit
+    both_same : (w : WiredRead) (bit : Bool) → pair_read (Both V w) (pair_of bit bit) ≡ bit
     both_same And true = refl
     both_same And false = refl
     both_same Or true = refl

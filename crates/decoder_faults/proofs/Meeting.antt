@@ -16,7 +16,7 @@ use Rattle.pair_tracker.specs.Tracking.{any_end, GetsThrough}
 use Rattle.pair_tracker.specs.Ways.{holds_at, can_reach, ways_to, ways_word}
 use Rattle.pair_tracker.proofs.Few.{scan_parts}
 use Rattle.pair_tracker.proofs.Through.{least_whole}
-use Rattle.decoder_faults.specs.declared.fault.Wired.{Wired}
+use Rattle.decoder_faults.specs.declared.fault.WiredRead.{WiredRead}
 use Rattle.decoder_faults.specs.declared.fault.DecoderFault.{DecoderFault}
 use Rattle.decoder_faults.specs.declared.fault.DecoderFault.TheVariants.{NoCell, OtherCell, BothCells, TakenCell}
 use Rattle.decoder_faults.specs.Conditions.{turned_by, does_tell, is_x_first, has_read, does_show, catches, some_element}
@@ -121,7 +121,7 @@ or_false : (b : Bool) → (b || false) ≡ b
 or_false true = refl
 or_false false = refl
 
-shows_twice : (wired : Wired) (below : Bool) (order : Order) (t : Option Bool)
+shows_twice : (wired : WiredRead) (below : Bool) (order : Order) (t : Option Bool)
     → (allows order Upward && not (does_show wired (x_first_in below Upward) t)) || (allows order Downward && not (does_show wired (x_first_in below Downward) t))
     ≡ not (does_show wired (is_x_first below order) t)
 shows_twice wired below order None = none order

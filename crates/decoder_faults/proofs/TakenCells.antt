@@ -3,7 +3,7 @@ use Rattle.std.proofs.Common.{◌≡◌, ◌↔◌, ℕ, Bool, true, false, ◌&
 use Rattle.march_core.specs.March.{MarchElement, IsMarch}
 use Rattle.pair_tracker.specs.Pairs.{sides_in}
 use Rattle.pair_tracker.specs.Tracking.{GetsThrough}
-use Rattle.decoder_faults.specs.declared.fault.Wired.{Wired}
+use Rattle.decoder_faults.specs.declared.fault.WiredRead.{WiredRead}
 use Rattle.decoder_faults.specs.declared.fault.DecoderFault.{DecoderFault}
 use Rattle.decoder_faults.specs.declared.fault.DecoderFault.TheVariants.{NoCell, TakenCell}
 use Rattle.decoder_faults.specs.Conditions.{catches, some_element, meets}
@@ -29,7 +29,7 @@ met_where march fault is detects = go (some_element (catches fault true) march) 
     go false b e f = absurd (never_where march fault true is e detects)
     go true false e f = absurd (never_where march fault false is f detects)
 
-pub as_no_cell : (march : List MarchElement) (answer : Bool) (wired : Wired) → IsMarch march
+pub as_no_cell : (march : List MarchElement) (answer : Bool) (wired : WiredRead) → IsMarch march
     → DetectsDecoder march (TakenCell answer wired) ↔ DetectsDecoder march (NoCell answer)
 as_no_cell march answer wired is = (
   λ detects. met_detects march (NoCell answer) (met_where march (TakenCell answer wired) is detects),

@@ -6,8 +6,8 @@ use Rattle.march_core.specs.declared.operation.Order.{Order}
 use Rattle.march_core.specs.declared.operation.Order.TheVariants.{Up, Down}
 use Rattle.march_core.specs.March.{MarchElement, order_of, ops_of}
 use Rattle.march_core.specs.Operation.{written_by, expected_by}
-use Rattle.decoder_faults.specs.declared.fault.Wired.{Wired}
-use Rattle.decoder_faults.specs.declared.fault.Wired.TheVariants.{And, Or, Own}
+use Rattle.decoder_faults.specs.declared.fault.WiredRead.{WiredRead}
+use Rattle.decoder_faults.specs.declared.fault.WiredRead.TheVariants.{And, Or, Own}
 use Rattle.decoder_faults.specs.declared.fault.DecoderFault.{DecoderFault}
 use Rattle.decoder_faults.specs.declared.fault.DecoderFault.TheVariants.{NoCell, OtherCell, BothCells, TakenCell}
 
@@ -48,13 +48,13 @@ has_read bit [] = false
 has_read bit (op ∷ ops) = is_bit bit (expected_by op) || has_read bit ops
 
 -- whether a read of both cells shows that only the other has been turned from this bit
-abbrev pub does_tell : Wired → Bool → Bool
+abbrev pub does_tell : WiredRead → Bool → Bool
 does_tell And bit = bit
 does_tell Or bit = not bit
 does_tell Own bit = false
 
 -- whether turning a bit shows where x reaches both cells, by whether x is visited first
-abbrev pub does_show : Wired → Bool → Option Bool → Bool
+abbrev pub does_show : WiredRead → Bool → Option Bool → Bool
 does_show wired x_first None = false
 does_show wired x_first (Some bit) = x_first || does_tell wired bit
 

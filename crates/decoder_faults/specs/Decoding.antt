@@ -3,8 +3,8 @@ use Rattle.std.specs.Prelude.{◌≡◌, ◌≢◌, ◌<◌, ◌==◌, ◌&&◌,
 use Rattle.fault_core.specs.declared.primitive.Act.{Act}
 use Rattle.fault_core.specs.declared.primitive.Act.TheVariants.{Write, Read}
 use Rattle.fault_core.specs.Cells.{cell}
-use Rattle.decoder_faults.specs.declared.fault.Wired.{Wired}
-use Rattle.decoder_faults.specs.declared.fault.Wired.TheVariants.{And, Or, Own}
+use Rattle.decoder_faults.specs.declared.fault.WiredRead.{WiredRead}
+use Rattle.decoder_faults.specs.declared.fault.WiredRead.TheVariants.{And, Or, Own}
 use Rattle.decoder_faults.specs.declared.fault.DecoderFault.{DecoderFault}
 use Rattle.decoder_faults.specs.declared.fault.DecoderFault.TheVariants.{NoCell, OtherCell, BothCells, TakenCell}
 
@@ -23,7 +23,7 @@ pub record FitsPair (at : AddressPair) (size : ℕ) : Type 0 where
 pub data Reach : Type 0 where
   no_cell : Bool → Reach
   one_cell : ℕ → Reach
-  two_cells : Wired → ℕ → ℕ → Reach
+  two_cells : WiredRead → ℕ → ℕ → Reach
 
 -- which cells each address reaches
 abbrev pub Decoder : Type 0
@@ -47,7 +47,7 @@ reach_of fault at address =
     if address == at.x then reach_of_x fault at else if address == at.y then reach_of_y fault at else one_cell address
 
 -- what a read answers of two cells, of which the first is the address's own
-abbrev pub wired_bit : Wired → Bool → Bool → Bool
+abbrev pub wired_bit : WiredRead → Bool → Bool → Bool
 wired_bit And own other = own && other
 wired_bit Or own other = own || other
 wired_bit Own own other = own

@@ -1,6 +1,6 @@
 /// What a read answers that reaches two cells.
 #[derive(Clone, Copy, PartialEq, Eq)]
-pub enum Wired {
+pub enum WiredRead {
     /// 1 where both cells hold 1.
     And,
     /// 1 where either cell holds 1.
@@ -17,7 +17,7 @@ pub enum DecoderFault {
     /// Address x reaches cell y in place of its own. No address reaches cell x.
     OtherCell,
     /// Address x reaches its own cell and cell y.
-    BothCells(Wired),
+    BothCells(WiredRead),
     /// Address x reaches no cell, and a read of it answers this bit; address y reaches its own cell and cell x.
-    TakenCell(bool, Wired),
+    TakenCell(bool, WiredRead),
 }

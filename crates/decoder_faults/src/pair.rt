@@ -8,7 +8,7 @@ ghost use Rattle.pair_tracker.specs.Survivors.{pair_number};
 ghost use Rattle.pair_tracker.specs.Tracking.{any_end};
 ghost use Rattle.pair_tracker.specs.inner.Numbers.{same_number, number_below};
 
-use crate::fault::{DecoderFault, Wired};
+use crate::fault::{DecoderFault, WiredRead};
 use cell_machine::{Pair, Side};
 use fault_core::Act;
 use pair_tracker::{FewCells, number_of, sides_in};
@@ -20,7 +20,7 @@ enum SideReach {
     Neither(bool),
     One(Side),
     /// Both, of which this one is its own.
-    Both(Side, Wired),
+    Both(Side, WiredRead),
 }
 
 fn side_reach(fault: DecoderFault, on: Side) -> SideReach
@@ -42,13 +42,13 @@ fn side_reach(fault: DecoderFault, on: Side) -> SideReach
     }
 }
 
-fn wired_bit(wired: Wired, own: bool, other: bool) -> bool
+fn wired_bit(wired: WiredRead, own: bool, other: bool) -> bool
     ensures { result ≡ wired_bit wired own other }
 {
     match wired {
-        Wired::And => own && other,
-        Wired::Or => own || other,
-        Wired::Own => own,
+        WiredRead::And => own && other,
+        WiredRead::Or => own || other,
+        WiredRead::Own => own,
     }
 }
 

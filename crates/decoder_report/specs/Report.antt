@@ -1,7 +1,7 @@
 -- Trusted. The report of the faults of the address decoder: the march, a line for each fault, and the total. Every line ends with a line feed.
 use Rattle.std.specs.Prelude.{◌≡◌, ◌++◌, ℕ, true, false, List, [], ◌∷◌, length, codes, decimal}
 use Rattle.march_core.specs.March.{MarchElement}
-use Rattle.decoder_faults.specs.declared.fault.Wired.TheVariants.{And, Or, Own}
+use Rattle.decoder_faults.specs.declared.fault.WiredRead.TheVariants.{And, Or, Own}
 use Rattle.decoder_faults.specs.declared.fault.DecoderFault.{DecoderFault}
 use Rattle.decoder_faults.specs.declared.fault.DecoderFault.TheVariants.{NoCell, OtherCell, BothCells, TakenCell}
 use Rattle.decoder_faults.specs.declared.escape.DecoderEscape.{DecoderEscape}

@@ -1,7 +1,7 @@
 ghost use Rattle.std.specs.Prelude.{◌≡◌, ◌≤◌, length};
 ghost use Rattle.decoder_report.specs.inner.Judged.{AreJudged, IsJudged, covered_count, is_covered};
 
-use decoder_faults::{DecoderEscape, DecoderFault, Wired, least_decoder_escape};
+use decoder_faults::{DecoderEscape, DecoderFault, WiredRead, least_decoder_escape};
 use march_core::March;
 
 /// A fault of the address decoder with the least array of two cells that passes a march, or none where it is detected.
@@ -31,9 +31,9 @@ pub(crate) fn judge_faults(march: &March) -> [JudgedFault; 6]
         judge_one(march, DecoderFault::NoCell(false)),
         judge_one(march, DecoderFault::NoCell(true)),
         judge_one(march, DecoderFault::OtherCell),
-        judge_one(march, DecoderFault::BothCells(Wired::And)),
-        judge_one(march, DecoderFault::BothCells(Wired::Or)),
-        judge_one(march, DecoderFault::BothCells(Wired::Own)),
+        judge_one(march, DecoderFault::BothCells(WiredRead::And)),
+        judge_one(march, DecoderFault::BothCells(WiredRead::Or)),
+        judge_one(march, DecoderFault::BothCells(WiredRead::Own)),
     ]
 }
 

@@ -5,7 +5,7 @@ ghost use Rattle.decoder_report.specs.inner.Judged.{judged_line, judged_lines};
 use crate::judged::JudgedFault;
 use bist_bits::NoMemory;
 use bist_text::{put, put_between, put_number_between};
-use decoder_faults::{DecoderEscape, DecoderFault, Wired};
+use decoder_faults::{DecoderEscape, DecoderFault, WiredRead};
 use report_lines::write_passing;
 
 /// The printed name of a fault.
@@ -16,9 +16,9 @@ fn fault_name(fault: DecoderFault) -> &'static [u8]
         DecoderFault::NoCell(false) => b"none 0",
         DecoderFault::NoCell(true) => b"none 1",
         DecoderFault::OtherCell => b"other",
-        DecoderFault::BothCells(Wired::And) => b"both and",
-        DecoderFault::BothCells(Wired::Or) => b"both or",
-        DecoderFault::BothCells(Wired::Own) => b"both own",
+        DecoderFault::BothCells(WiredRead::And) => b"both and",
+        DecoderFault::BothCells(WiredRead::Or) => b"both or",
+        DecoderFault::BothCells(WiredRead::Own) => b"both own",
         DecoderFault::TakenCell(_, _) => b"taken",
     }
 }

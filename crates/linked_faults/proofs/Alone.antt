@@ -6,7 +6,7 @@ use Rattle.fault_core.specs.declared.cells.Places.{Places}
 use Rattle.fault_core.specs.Primitive.{Primitive}
 use Rattle.fault_core.specs.Cells.{has_act, states_hold, close_of, acts, acted, plain_cells, plain_answer, answer_or, step_cells, step_answer, pause_cells}
 use Rattle.linked_faults.specs.declared.link.Link.{Link}
-use Rattle.linked_faults.specs.declared.link.Spots.{Spots}
+use Rattle.linked_faults.specs.declared.link.LinkPlaces.{LinkPlaces}
 use Rattle.linked_faults.specs.Linking.{IsLinked, first_places, second_places, linked_cells, linked_answer, linked_pause}
 use Rattle.linked_faults.specs.Alone.{DoesAs, PausesAs, loses, AreAsOne}
 
@@ -15,7 +15,7 @@ never_closes : (p : Primitive) (places : Places) (cells : List Bool) → has_act
 unfolding close_of
 never_closes p places cells h = ap (λ (b : Bool). if not b && states_hold p places cells then slice_set cells places.vic p.after else cells) h
 
-module _ (link : Link) (is : IsLinked link) (at : Spots) (cells : List Bool) where
+module _ (link : Link) (is : IsLinked link) (at : LinkPlaces) (cells : List Bool) where
   abbrev one : Places
   one = first_places link at
 

@@ -13,11 +13,11 @@ use Rattle.march_core.specs.Visits.{Visit, MarchStep, pausing, visiting, Directi
 use Rattle.array_sim.specs.Run.{act_of}
 use Rattle.array_sim.specs.Differing.{SomeDiffersBy}
 use Rattle.linked_faults.specs.declared.link.Link.{Link}
-use Rattle.linked_faults.specs.declared.link.Spots.{Spots}
-use Rattle.linked_faults.specs.Linking.{IsLinked, FitsSpots, linked_cells, linked_answer, linked_pause}
+use Rattle.linked_faults.specs.declared.link.LinkPlaces.{LinkPlaces}
+use Rattle.linked_faults.specs.Linking.{IsLinked, FitsLinkPlaces, linked_cells, linked_answer, linked_pause}
 use Rattle.linked_faults.specs.Detection.{cells_behind, is_wrong_there, IsCaught}
 use Rattle.linked_faults.specs.Inversion.{TwoCells, inverted, inverted_behind, is_wrong_cell, InversionIsCaught, disturbing, both_disturbing, AreInversions}
-use Rattle.linked_faults.specs.inner.Searching.{spots_at}
+use Rattle.linked_faults.specs.inner.Searching.{link_places_at}
 use Rattle.linked_faults.proofs.Places.{third}
 
 -- ---- the two primitives
@@ -83,7 +83,7 @@ no_one : (b : Bool) → (b && false) ≡ false
 no_one true = refl
 no_one false = refl
 
-module _ (from state : Bool) (at : Spots) where
+module _ (from state : Bool) (at : LinkPlaces) where
   abbrev link : Link
   link = both_disturbing from state
 
@@ -129,8 +129,8 @@ inversions from state = record {
   verdicts = λ march. (
     λ detects size directions at content more allowed a v apart len.
         let other = third size at.agg at.vic more in
-        let spots : Spots = spots_at at.agg other.0 at.vic in
-        let fits : FitsSpots spots size = record {
+        let spots : LinkPlaces = link_places_at at.agg other.0 at.vic in
+        let fits : FitsLinkPlaces spots size = record {
           a_within = a;
           b_within = other.1.within;
           v_within = v;

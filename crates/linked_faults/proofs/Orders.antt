@@ -16,8 +16,8 @@ use Rattle.march_core.specs.Visits.{Visit, MarchStep, pausing, visiting, Directi
 use Rattle.array_sim.specs.Run.{act_of}
 use Rattle.array_sim.specs.Differing.{SomeDiffersBy}
 use Rattle.linked_faults.specs.declared.link.Link.{Link}
-use Rattle.linked_faults.specs.declared.link.Spots.{Spots}
-use Rattle.linked_faults.specs.Linking.{IsLinked, FitsSpots, good_after, beside, first_places, second_places, linked_cells, linked_answer, linked_pause}
+use Rattle.linked_faults.specs.declared.link.LinkPlaces.{LinkPlaces}
+use Rattle.linked_faults.specs.Linking.{IsLinked, FitsLinkPlaces, good_after, beside, first_places, second_places, linked_cells, linked_answer, linked_pause}
 use Rattle.linked_faults.specs.Detection.{cells_behind, is_wrong_there, IsCaught}
 use Rattle.linked_faults.specs.Alone.{loses}
 use Rattle.linked_faults.specs.Devices.{exchanged, AreOnce, AreDevices, turned_by, turned, AreOneDevice}
@@ -25,15 +25,15 @@ use Rattle.linked_faults.proofs.Both.{never_both}
 
 -- ---- the places of the exchanged link
 
-first_at : (s : Bool) (agg : Option Sense) (at : Spots) → beside agg (turned_by s at).a ≡ beside agg (if s then at.a else at.b)
+first_at : (s : Bool) (agg : Option Sense) (at : LinkPlaces) → beside agg (turned_by s at).a ≡ beside agg (if s then at.a else at.b)
 first_at true agg at = refl
 first_at false agg at = refl
 
-second_at : (s : Bool) (agg : Option Sense) (at : Spots) → beside agg (if s then (turned_by s at).a else (turned_by s at).b) ≡ beside agg at.a
+second_at : (s : Bool) (agg : Option Sense) (at : LinkPlaces) → beside agg (if s then (turned_by s at).a else (turned_by s at).b) ≡ beside agg at.a
 second_at true agg at = refl
 second_at false agg at = refl
 
-vic_at : (s : Bool) (at : Spots) → (turned_by s at).v ≡ at.v
+vic_at : (s : Bool) (at : LinkPlaces) → (turned_by s at).v ≡ at.v
 vic_at true at = refl
 vic_at false at = refl
 
@@ -53,8 +53,8 @@ pauses (Some Read) h = cc
 pauses (Some (Write b)) h = cc
 pauses (Some Pause) h = refl
 
-module _ (link : Link) (is : IsLinked link) (at : Spots) where
-  abbrev other_at : Spots
+module _ (link : Link) (is : IsLinked link) (at : LinkPlaces) where
+  abbrev other_at : LinkPlaces
   other_at = turned link at
 
   first_is : first_places (exchanged link) other_at ≡ second_places link at
@@ -124,7 +124,7 @@ module _ (link : Link) (is : IsLinked link) (at : Spots) where
 
 -- ---- verdicts
 
-turned_fits : (s : Bool) (at : Spots) (size : ℕ) → FitsSpots at size → FitsSpots (turned_by s at) size
+turned_fits : (s : Bool) (at : LinkPlaces) (size : ℕ) → FitsLinkPlaces at size → FitsLinkPlaces (turned_by s at) size
 turned_fits true at size fits = fits
 turned_fits false at size fits = record {
   a_within = fits.b_within;
@@ -135,7 +135,7 @@ turned_fits false at size fits = record {
   a_b = λ e. fits.a_b (sym e);
 }
 
-turned_twice : (s : Bool) (at : Spots) → turned_by s (turned_by s at) ≡ at
+turned_twice : (s : Bool) (at : LinkPlaces) → turned_by s (turned_by s at) ≡ at
 turned_twice true at = refl
 turned_twice false at = refl
 
@@ -149,8 +149,8 @@ one_device link is = record {
         subst (λ (T : Type 0). T) (same_caught link is at fits.a_v fits.b_v march directions content)
         (detects size more directions (turned link at) content allowed (turned_fits link.is_shared at size fits) len),
     λ detects size more directions at content allowed fits len.
-        let there : FitsSpots (turned link at) size = turned_fits link.is_shared at size fits in
-        subst (λ (s : Spots). IsCaught march directions (exchanged link) s content) (turned_twice link.is_shared at)
+        let there : FitsLinkPlaces (turned link at) size = turned_fits link.is_shared at size fits in
+        subst (λ (s : LinkPlaces). IsCaught march directions (exchanged link) s content) (turned_twice link.is_shared at)
         (subst (λ (T : Type 0). T) (sym (same_caught link is (turned link at) there.a_v there.b_v march directions content))
         (detects size more directions (turned link at) content allowed there len)),
   );

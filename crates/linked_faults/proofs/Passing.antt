@@ -7,15 +7,15 @@ use Rattle.array_sim.specs.Run.{act_of}
 use Rattle.cell_machine.proofs.Projection.{cell-plain_cells_other}
 use Rattle.pair_tracker.proofs.Few.{Sees}
 use Rattle.linked_faults.specs.declared.link.Link.{Link}
-use Rattle.linked_faults.specs.declared.link.Spots.{Spots}
+use Rattle.linked_faults.specs.declared.link.LinkPlaces.{LinkPlaces}
 use Rattle.linked_faults.specs.Linking.{linked_cells, linked_answer}
 use Rattle.linked_faults.specs.Detection.{cells_behind, is_wrong_there}
 use Rattle.linked_faults.specs.inner.Threes.{Trio, three_at, seat_index, machine_of}
 use Rattle.linked_faults.proofs.Seats.{seat_at, is_seat, no_seat, seat_within}
 use Rattle.linked_faults.proofs.Seen.{IsTrio, IsElsewhere, FitsThree, place_at, spots_from, elsewhere, three_bits, step_seen, answer_seen, pause_seen, length-linked, length-linked_pause, linked_leaves, pause_leaves, plain_there, plainly_answered}
 
-module _ (link : Link) (s : Spots) (t : Trio) (n : ℕ) (is : IsTrio t n) (fits : FitsThree s) where
-  abbrev at : Spots
+module _ (link : Link) (s : LinkPlaces) (t : Trio) (n : ℕ) (is : IsTrio t n) (fits : FitsThree s) where
+  abbrev at : LinkPlaces
   at = spots_from t s
 
   keeps : (cells : List Bool) (step : MarchStep) → length cells ≡ n → length (cells_behind link at cells step) ≡ n

@@ -5,8 +5,8 @@ use Rattle.fault_core.specs.declared.primitive.Sense.{Sense}
 use Rattle.fault_core.specs.declared.cells.Places.{Places}
 use Rattle.fault_core.specs.Cells.{FitsAgg}
 use Rattle.linked_faults.specs.declared.link.Link.{Link}
-use Rattle.linked_faults.specs.Linking.{FitsSpots, beside, HaveSpots}
-use Rattle.linked_faults.specs.inner.Searching.{spots_at}
+use Rattle.linked_faults.specs.Linking.{FitsLinkPlaces, beside, HaveSpots}
+use Rattle.linked_faults.specs.inner.Searching.{link_places_at}
 
 -- a third cell
 pub record IsThird (n x y z : ℕ) : Type 0 where
@@ -43,11 +43,11 @@ third n x y more =
 record AreCells (shared : Bool) (f g : Option Sense) (p q : Option ℕ) (v n : ℕ) : Type 0 where
   a : ℕ
   b : ℕ
-  fits : FitsSpots (spots_at a b v) n
+  fits : FitsLinkPlaces (link_places_at a b v) n
   first : beside f a ≡ p
   second : beside g (cond shared a b) ≡ q
 
-fitting : (n a b v : ℕ) → a < n → b < n → v < n → a ≢ v → b ≢ v → a ≢ b → FitsSpots (spots_at a b v) n
+fitting : (n a b v : ℕ) → a < n → b < n → v < n → a ≢ v → b ≢ v → a ≢ b → FitsLinkPlaces (link_places_at a b v) n
 fitting n a b v h i j k l m = record { a_within = h; b_within = i; v_within = j; a_v = k; b_v = l; a_b = m }
 
 with_a : (shared : Bool) (f g : Option Sense) (p q : Option ℕ) (v n a : ℕ) → 3 ≤ n → v < n → a < n → a ≢ v → beside f a ≡ p → ((b : ℕ) → beside g (cond shared a b) ≡ q)
@@ -89,7 +89,7 @@ have_spots link n p q more fits =
     let v : ℕ = p.vic in
     let second = subst (λ w. FitsAgg link.second.agg q.agg w n) (sym fits.victim) fits.second_fits.aggressor in
     let cells = cells_for link.is_shared link.first.agg link.second.agg p.agg q.agg v n more fits.first_fits.victim fits.first_fits.aggressor second fits.aggressors in (
-      spots_at cells.a cells.b v,
+      link_places_at cells.a cells.b v,
       record {
         fits = cells.fits;
         first_is = ap (λ agg. places_at agg v) cells.first;

@@ -6,7 +6,7 @@ use Rattle.march_core.specs.Visits.{Direction, Upward, Downward, addresses}
 use Rattle.pair_tracker.specs.Few.{cells_run}
 use Rattle.pair_tracker.proofs.Tags.{kept_does, Own, Stand, addresses_kept, turned}
 use Rattle.linked_faults.specs.declared.link.Link.{Link}
-use Rattle.linked_faults.specs.declared.link.Spots.{Spots}
+use Rattle.linked_faults.specs.declared.link.LinkPlaces.{LinkPlaces}
 use Rattle.linked_faults.specs.declared.three.Three.{Three}
 use Rattle.linked_faults.specs.declared.three.Seat.{Seat}
 use Rattle.linked_faults.specs.declared.three.Seat.TheVariants.{Low, Mid, High}
@@ -46,7 +46,7 @@ not_seat t x a b c = rw (ne_eqb x t.low a, ne_eqb x t.mid b, ne_eqb x t.high c) 
 abbrev owns : Trio → List (Own Seat)
 owns t = (record { place = t.low; name = Low }) ∷ (record { place = t.mid; name = Mid }) ∷ (record { place = t.high; name = High }) ∷ []
 
-pub seats_ordered : (link : Link) (s : Spots) (t : Trio) (n : ℕ) → IsTrio t n → (d : Direction) (q : Three) (ops : List Op)
+pub seats_ordered : (link : Link) (s : LinkPlaces) (t : Trio) (n : ℕ) → IsTrio t n → (d : Direction) (q : Three) (ops : List Op)
     → cells_run (machine_of link s) q (map (seat_at t) (addresses d n)) ops ≡ cells_run (machine_of link s) q (cells_in d) ops
 seats_ordered link s t n is d q ops =
     kept_does (machine_of link s) (λ q. refl) q (map (seat_at t) (addresses d n)) ops

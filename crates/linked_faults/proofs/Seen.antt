@@ -11,10 +11,10 @@ use Rattle.fault_core.specs.Primitive.{Primitive, same_bit, is_retention}
 use Rattle.fault_core.specs.Cells.{cell, agg_holds, states_hold, agg_acts, acts, has_this_act, plain_cells, plain_answer, answer_or}
 use Rattle.cell_machine.proofs.Projection.{length-plain_cells, cell-plain_cells_other}
 use Rattle.linked_faults.specs.declared.link.Link.{Link}
-use Rattle.linked_faults.specs.declared.link.Spots.{Spots}
+use Rattle.linked_faults.specs.declared.link.LinkPlaces.{LinkPlaces}
 use Rattle.linked_faults.specs.declared.three.Three.{Three}
 use Rattle.linked_faults.specs.Escapes.{cells_of}
-use Rattle.linked_faults.specs.Linking.{FitsSpots, beside, first_places, second_place, second_places, linked_cells, linked_answer, linked_pause}
+use Rattle.linked_faults.specs.Linking.{FitsLinkPlaces, beside, first_places, second_place, second_places, linked_cells, linked_answer, linked_pause}
 use Rattle.linked_faults.specs.inner.Threes.{Trio, three_at, three_of, step_three, answer_three, pause_three}
 
 -- the trio is in its order, in an array of n cells
@@ -29,7 +29,7 @@ place_at t zero = t.low
 place_at t (suc zero) = t.mid
 place_at t (suc (suc i)) = t.high
 
-abbrev pub spots_from : Trio → Spots → Spots
+abbrev pub spots_from : Trio → LinkPlaces → LinkPlaces
 spots_from t s = record { a = place_at t s.a; b = place_at t s.b; v = place_at t s.v }
 
 -- the cell isn't one of the three
@@ -159,34 +159,34 @@ chosen t false true whole other small rest e f g = cc
 chosen t false false whole other small rest e f g = g
 
 -- three different cells of three
-abbrev pub FitsThree : Spots → Type 0
-FitsThree s = FitsSpots s 3
+abbrev pub FitsThree : LinkPlaces → Type 0
+FitsThree s = FitsLinkPlaces s 3
 
-second_within : (link : Link) (s : Spots) → FitsThree s → second_place link s < 3
+second_within : (link : Link) (s : LinkPlaces) → FitsThree s → second_place link s < 3
 second_within link s fits = go link.is_shared
   where
     go : (b : Bool) → cond b s.a s.b < 3
     go true = fits.a_within
     go false = fits.b_within
 
-second_from : (link : Link) (t : Trio) (s : Spots) → second_place link (spots_from t s) ≡ place_at t (second_place link s)
+second_from : (link : Link) (t : Trio) (s : LinkPlaces) → second_place link (spots_from t s) ≡ place_at t (second_place link s)
 second_from link t s = go link.is_shared
   where
     go : (b : Bool) → cond b (place_at t s.a) (place_at t s.b) ≡ place_at t (cond b s.a s.b)
     go true = refl
     go false = refl
 
-first_acts : (t : Trio) (n i : ℕ) (link : Link) (s : Spots) (cells : List Bool) (act : Act) → IsTrio t n → FitsThree s → i < 3
+first_acts : (t : Trio) (n i : ℕ) (link : Link) (s : LinkPlaces) (cells : List Bool) (act : Act) → IsTrio t n → FitsThree s → i < 3
     → acts link.first (first_places link (spots_from t s)) cells (place_at t i) act ≡ acts link.first (first_places link s) (cells_of (three_at t cells)) i act
 first_acts t n i link s cells act is fits h = acts_seen t n s.a s.v i link.first cells act is fits.a_within fits.v_within h
 
-second_acts : (t : Trio) (n i : ℕ) (link : Link) (s : Spots) (cells : List Bool) (act : Act) → IsTrio t n → FitsThree s → i < 3
+second_acts : (t : Trio) (n i : ℕ) (link : Link) (s : LinkPlaces) (cells : List Bool) (act : Act) → IsTrio t n → FitsThree s → i < 3
     → acts link.second (second_places link (spots_from t s)) cells (place_at t i) act ≡ acts link.second (second_places link s) (cells_of (three_at t cells)) i act
 second_acts t n i link s cells act is fits h =
     ap (λ g. acts link.second (places link.second g (place_at t s.v)) cells (place_at t i) act) (second_from link t s)
     ∙ acts_seen t n (second_place link s) s.v i link.second cells act is (second_within link s fits) fits.v_within h
 
-pub step_seen : (t : Trio) (n i : ℕ) (link : Link) (s : Spots) (cells : List Bool) (act : Act) → IsTrio t n → FitsThree s → length cells ≡ n → i < 3
+pub step_seen : (t : Trio) (n i : ℕ) (link : Link) (s : LinkPlaces) (cells : List Bool) (act : Act) → IsTrio t n → FitsThree s → length cells ≡ n → i < 3
     → three_at t (linked_cells link (spots_from t s) cells (place_at t i) act) ≡ step_three link s (three_at t cells) i act
 unfolding linked_cells
 step_seen t n i link s cells act is fits size h =
@@ -199,7 +199,7 @@ plain_told t i cells (Write bit) h = refl
 plain_told t i cells Read h = ap Some (cell_seen t cells i h)
 plain_told t i cells Pause h = refl
 
-pub answer_seen : (t : Trio) (n i : ℕ) (link : Link) (s : Spots) (cells : List Bool) (act : Act) → IsTrio t n → FitsThree s → i < 3
+pub answer_seen : (t : Trio) (n i : ℕ) (link : Link) (s : LinkPlaces) (cells : List Bool) (act : Act) → IsTrio t n → FitsThree s → i < 3
     → linked_answer link (spots_from t s) cells (place_at t i) act ≡ answer_three link s (three_at t cells) i act
 unfolding linked_answer
 answer_seen t n i link s cells act is fits h =
@@ -211,7 +211,7 @@ answer_seen t n i link s cells act is fits h =
     ∙ ap (says (acts link.first (first_places link s) (cells_of (three_at t cells)) i act) (acts link.second (second_places link s) (cells_of (three_at t cells)) i act))
     (plain_told t i cells act h)
 
-pub pause_seen : (t : Trio) (n : ℕ) (link : Link) (s : Spots) (cells : List Bool) → IsTrio t n → FitsThree s → length cells ≡ n
+pub pause_seen : (t : Trio) (n : ℕ) (link : Link) (s : LinkPlaces) (cells : List Bool) → IsTrio t n → FitsThree s → length cells ≡ n
     → three_at t (linked_pause link (spots_from t s) cells) ≡ pause_three link s (three_at t cells)
 unfolding linked_pause
 pause_seen t n link s cells is fits size =
@@ -228,7 +228,7 @@ kept_either : (own : Bool) (xs ys : List Bool) (P : List Bool → Type 0) → P 
 kept_either true xs ys P p q = p
 kept_either false xs ys P p q = q
 
-pub length-linked : (link : Link) (at : Spots) (cells : List Bool) (x : ℕ) (act : Act) → length (linked_cells link at cells x act) ≡ length cells
+pub length-linked : (link : Link) (at : LinkPlaces) (cells : List Bool) (x : ℕ) (act : Act) → length (linked_cells link at cells x act) ≡ length cells
 unfolding linked_cells
 length-linked link at cells x act =
     let plain : List Bool = plain_cells cells x act in
@@ -237,7 +237,7 @@ length-linked link at cells x act =
     kept_either (acts link.first (first_places link at) cells x act) (slice_set plain at.v link.first.after) (cond (acts link.second (second_places link at) cells x act) (slice_set plain at.v link.second.after) plain) P (length-set plain at.v link.first.after ∙ same)
     (kept_either (acts link.second (second_places link at) cells x act) (slice_set plain at.v link.second.after) plain P (length-set plain at.v link.second.after ∙ same) same)
 
-pub length-linked_pause : (link : Link) (at : Spots) (cells : List Bool) → length (linked_pause link at cells) ≡ length cells
+pub length-linked_pause : (link : Link) (at : LinkPlaces) (cells : List Bool) → length (linked_pause link at cells) ≡ length cells
 unfolding linked_pause
 length-linked_pause link at cells =
     let P : List Bool → Type 0 = λ l. length l ≡ length cells in
@@ -245,7 +245,7 @@ length-linked_pause link at cells =
     (kept_either (is_retention link.second && states_hold link.second (second_places link at) cells) (slice_set cells at.v link.second.after) cells P (length-set cells at.v link.second.after) refl)
 
 -- the cells but the victim and the one acted on stay
-pub linked_leaves : (link : Link) (at : Spots) (cells : List Bool) (x : ℕ) (act : Act) (y : ℕ) → y ≢ at.v → y ≢ x → cell (linked_cells link at cells x act) y ≡ cell cells y
+pub linked_leaves : (link : Link) (at : LinkPlaces) (cells : List Bool) (x : ℕ) (act : Act) (y : ℕ) → y ≢ at.v → y ≢ x → cell (linked_cells link at cells x act) y ≡ cell cells y
 unfolding linked_cells
 linked_leaves link at cells x act y yv yx =
     let plain : List Bool = plain_cells cells x act in
@@ -254,7 +254,7 @@ linked_leaves link at cells x act y yv yx =
     kept_either (acts link.first (first_places link at) cells x act) (slice_set plain at.v link.first.after) (cond (acts link.second (second_places link at) cells x act) (slice_set plain at.v link.second.after) plain) P (get_or-set_other plain at.v y link.first.after false yv ∙ same)
     (kept_either (acts link.second (second_places link at) cells x act) (slice_set plain at.v link.second.after) plain P (get_or-set_other plain at.v y link.second.after false yv ∙ same) same)
 
-pub pause_leaves : (link : Link) (at : Spots) (cells : List Bool) (y : ℕ) → y ≢ at.v → cell (linked_pause link at cells) y ≡ cell cells y
+pub pause_leaves : (link : Link) (at : LinkPlaces) (cells : List Bool) (y : ℕ) → y ≢ at.v → cell (linked_pause link at cells) y ≡ cell cells y
 unfolding linked_pause
 pause_leaves link at cells y yv =
     let P : List Bool → Type 0 = λ l. cell l y ≡ cell cells y in
@@ -273,14 +273,14 @@ idle p g v x cells act gx vx =
     ap (λ b. ((b && has_this_act p.vic.act act) || agg_acts p.agg (beside p.agg g) x act) && holds) (ne_eqb v x vx)
     ∙ ap (λ b. b && holds) (agg_idle p.agg g x act gx)
 
-pub second_elsewhere : (link : Link) (at : Spots) (x : ℕ) → at.a ≢ x → at.b ≢ x → second_place link at ≢ x
+pub second_elsewhere : (link : Link) (at : LinkPlaces) (x : ℕ) → at.a ≢ x → at.b ≢ x → second_place link at ≢ x
 second_elsewhere link at x ax bx = go link.is_shared
   where
     go : (b : Bool) → cond b at.a at.b ≢ x
     go true = ax
     go false = bx
 
-pub plain_there : (link : Link) (at : Spots) (cells : List Bool) (x : ℕ) (act : Act) → at.a ≢ x → at.b ≢ x → at.v ≢ x
+pub plain_there : (link : Link) (at : LinkPlaces) (cells : List Bool) (x : ℕ) (act : Act) → at.a ≢ x → at.b ≢ x → at.v ≢ x
     → linked_cells link at cells x act ≡ plain_cells cells x act
 unfolding linked_cells
 plain_there link at cells x act ax bx vx =
@@ -289,7 +289,7 @@ plain_there link at cells x act ax bx vx =
     (idle link.first at.a at.v x cells act ax vx)
     ∙ ap (λ b. cond b (slice_set plain at.v link.second.after) plain) (idle link.second (second_place link at) at.v x cells act (second_elsewhere link at x ax bx) vx)
 
-pub plainly_answered : (link : Link) (at : Spots) (cells : List Bool) (x : ℕ) (act : Act) → at.a ≢ x → at.b ≢ x → at.v ≢ x
+pub plainly_answered : (link : Link) (at : LinkPlaces) (cells : List Bool) (x : ℕ) (act : Act) → at.a ≢ x → at.b ≢ x → at.v ≢ x
     → linked_answer link at cells x act ≡ plain_answer cells x act
 unfolding linked_answer
 plainly_answered link at cells x act ax bx vx =

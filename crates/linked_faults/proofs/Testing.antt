@@ -6,7 +6,7 @@ use Rattle.fault_core.specs.Cells.{has_act}
 use Rattle.fault_core.proofs.Tests.{same_bit-equal}
 use Rattle.linked_faults.specs.declared.link.Link.{Link}
 use Rattle.linked_faults.specs.Linking.{IsLinked, good_after}
-use Rattle.linked_faults.specs.inner.Testing.{is_quiet, leaves_wrong, hides_it, shares_well, linked_test}
+use Rattle.linked_faults.specs.inner.Testing.{is_quiet, leaves_wrong, hides_wrong_bit, can_share, linked_test}
 
 ne_from : (a b : Bool) → not (same_bit a b) ≡ true → a ≢ b
 ne_from true true h e = cc
@@ -50,11 +50,11 @@ shared_to true t u h = let parts = h refl in both t u parts.0 parts.1
 from_test : (link : Link) → IsPrimitive link.first → IsPrimitive link.second → linked_test link ≡ true → IsLinked link
 from_test link first second h =
     let acts : Bool = has_act link.first && has_act link.second in
-    let halves = and_parts (acts && leaves_wrong link) (hides_it link && shares_well link) h in
+    let halves = and_parts (acts && leaves_wrong link) (hides_wrong_bit link && can_share link) h in
     let begins = and_parts acts (leaves_wrong link) halves.0 in
     let act = and_parts (has_act link.first) (has_act link.second) begins.0 in
     let wrong = and_parts (not (same_bit link.first.after (good_after link.first.vic.act link.first.vic.state))) (is_quiet link.first.answer link.first.vic.state) begins.1 in
-    let ends = and_parts (hides_it link) (shares_well link) halves.1 in
+    let ends = and_parts (hides_wrong_bit link) (can_share link) halves.1 in
     let finds : Bool = same_bit link.second.vic.state link.first.after && not (same_bit link.second.after link.first.after) in
     let hides = and_parts finds (is_quiet link.second.answer link.second.after) ends.0 in
     let found = and_parts (same_bit link.second.vic.state link.first.after) (not (same_bit link.second.after link.first.after)) hides.0 in
@@ -74,11 +74,11 @@ from_test link first second h =
 to_test : (link : Link) → IsLinked link → linked_test link ≡ true
 to_test link is =
     let finds : Bool = same_bit link.second.vic.state link.first.after && not (same_bit link.second.after link.first.after) in
-    both ((has_act link.first && has_act link.second) && leaves_wrong link) (hides_it link && shares_well link)
+    both ((has_act link.first && has_act link.second) && leaves_wrong link) (hides_wrong_bit link && can_share link)
     (both (has_act link.first && has_act link.second) (leaves_wrong link) (both (has_act link.first) (has_act link.second) is.first_acts is.second_acts)
     (both (not (same_bit link.first.after (good_after link.first.vic.act link.first.vic.state))) (is_quiet link.first.answer link.first.vic.state)
     (ne_to _ _ is.wrong) (quiet_to _ _ is.untold)))
-    (both (hides_it link) (shares_well link)
+    (both (hides_wrong_bit link) (can_share link)
     (both finds (is_quiet link.second.answer link.second.after)
     (both (same_bit link.second.vic.state link.first.after) (not (same_bit link.second.after link.first.after)) (eq_to _ _ is.finds) (ne_to _ _ is.hides)) (quiet_to _ _ is.quiet))
     (shared_to link.is_shared (has_aggressor link.first) (has_aggressor link.second) is.shared))

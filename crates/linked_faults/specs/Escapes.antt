@@ -4,10 +4,10 @@ use Rattle.fault_core.specs.Primitive.{has_aggressor}
 use Rattle.march_core.specs.March.{MarchElement}
 use Rattle.march_core.specs.Visits.{FitsWord, directions_of}
 use Rattle.linked_faults.specs.declared.link.Link.{Link}
-use Rattle.linked_faults.specs.declared.link.Spots.{Spots}
+use Rattle.linked_faults.specs.declared.link.LinkPlaces.{LinkPlaces}
 use Rattle.linked_faults.specs.declared.three.Three.{Three}
 use Rattle.linked_faults.specs.declared.escape.LinkEscape.{LinkEscape}
-use Rattle.linked_faults.specs.Linking.{FitsSpots}
+use Rattle.linked_faults.specs.Linking.{FitsLinkPlaces}
 use Rattle.linked_faults.specs.Detection.{IsCaught, DetectsAt, Detects}
 
 abbrev pub cells_of : Three → List Bool
@@ -15,7 +15,7 @@ cells_of q = q.x ∷ q.y ∷ q.z ∷ []
 
 -- an array of three cells with the three cells of its fault, and a direction word that fits the march
 pub record IsArray (march : List MarchElement) (e : LinkEscape) : Type 0 where
-  pub spots : FitsSpots e.spots 3
+  pub spots : FitsLinkPlaces e.spots 3
   pub is_word : e.directions < 2 ^ 64
   pub directions : FitsWord march e.directions
 
@@ -25,7 +25,7 @@ pub record IsEscape (march : List MarchElement) (e : LinkEscape) : Type 0 where
   pub passes : IsCaught march (directions_of e.directions (length march)) e.link e.spots (cells_of e.content) → ⊥
 
 -- places by the cells that take part: the first aggressor's, the second's, the victim's; a cell that takes no part comes last
-abbrev pub number_by : Bool → Bool → Spots → ℕ
+abbrev pub number_by : Bool → Bool → LinkPlaces → ℕ
 number_by true true at = 9 * at.a + 3 * at.b + at.v
 number_by true false at = 9 * at.a + 3 * at.v + at.b
 number_by false true at = 9 * at.b + 3 * at.v + at.a
@@ -36,7 +36,7 @@ abbrev pub has_other : Link → Bool
 has_other link = has_aggressor link.second && not link.is_shared
 
 -- places in their order
-abbrev pub spots_number : Link → Spots → ℕ
+abbrev pub spots_number : Link → LinkPlaces → ℕ
 spots_number link at = number_by (has_aggressor link.first) (has_other link) at
 
 -- contents in their order: 000 to 111, the digit of cell 0 first

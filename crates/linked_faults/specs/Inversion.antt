@@ -10,7 +10,7 @@ use Rattle.march_core.specs.Visits.{Visit, MarchStep, pausing, visiting, Directi
 use Rattle.array_sim.specs.Run.{act_of}
 use Rattle.array_sim.specs.Differing.{SomeDiffersBy}
 use Rattle.linked_faults.specs.declared.link.Link.{Link}
-use Rattle.linked_faults.specs.declared.link.Spots.{Spots}
+use Rattle.linked_faults.specs.declared.link.LinkPlaces.{LinkPlaces}
 use Rattle.linked_faults.specs.Linking.{IsLinked, linked_cells, linked_answer, linked_pause}
 use Rattle.linked_faults.specs.Detection.{Detects}
 
@@ -61,11 +61,11 @@ both_disturbing from state = record { first = disturbing from state; second = di
 -- they are linked, in either order; the run of an array with CFin is the run of that link, act by act; so a march detects both or neither
 pub record IsInversion (from state : Bool) : Type 0 where
   pub linked : IsLinked (both_disturbing from state)
-  pub cells : (at : Spots) (cells : List Bool) (x : ℕ) (act : Act)
+  pub cells : (at : LinkPlaces) (cells : List Bool) (x : ℕ) (act : Act)
       → linked_cells (both_disturbing from state) at cells x act ≡ inverted from (record { agg = at.a; vic = at.v }) cells x act
-  pub answers : (at : Spots) (cells : List Bool) (x : ℕ) (act : Act)
+  pub answers : (at : LinkPlaces) (cells : List Bool) (x : ℕ) (act : Act)
       → linked_answer (both_disturbing from state) at cells x act ≡ plain_answer cells x act
-  pub pauses : (at : Spots) (cells : List Bool) → linked_pause (both_disturbing from state) at cells ≡ cells
+  pub pauses : (at : LinkPlaces) (cells : List Bool) → linked_pause (both_disturbing from state) at cells ≡ cells
   pub verdicts : (march : List MarchElement) → Detects march (both_disturbing from state) ↔ DetectsInversion march from
 
 abbrev pub AreInversions : Type 0

@@ -1,11 +1,11 @@
 ghost use Rattle.std.specs.Prelude.{◌≡◌, ◌<◌, ◌≤◌, ℕ, None, MatchOption, length};
 ghost use Rattle.march_core.specs.March.{IsMarch};
-ghost use Rattle.linked_faults.specs.Linking.{FitsSpots, IsLinked, NeverBoth, HaveSpots};
+ghost use Rattle.linked_faults.specs.Linking.{FitsLinkPlaces, IsLinked, NeverBoth, HaveSpots};
 ghost use Rattle.linked_faults.specs.Alone.{AreAsOne};
 ghost use Rattle.linked_faults.specs.Escapes.{three_number, IsVerdict, IsVerdictAt};
-ghost use Rattle.linked_faults.specs.inner.Searching.{choice, placed, spots_in, NoneBefore, NoneIn, IsLeastIn, IsFirstFound};
+ghost use Rattle.linked_faults.specs.inner.Searching.{ordered_places, assigned_places, link_places_in, NoneBefore, NoneIn, IsLeastIn, IsFirstFound};
 
-use crate::link::{Link, Spots};
+use crate::link::{Link, LinkPlaces};
 use crate::three::{Cells, Three};
 use march_core::March;
 use pair_tracker::{DeadEnds, word_through};
@@ -14,7 +14,7 @@ use pair_tracker::{DeadEnds, word_through};
 #[derive(Clone, Copy)]
 pub struct LinkEscape {
     pub link: Link,
-    pub spots: Spots,
+    pub spots: LinkPlaces,
     pub content: Three,
     /// Element `i` stands at bit `63-i`, with 1 for downward.
     pub directions: u64,
@@ -53,7 +53,7 @@ fn least_in(march: &March, link: &Link, order: u8) -> Option<LinkEscape>
     ensures { MatchOption result (NoneBefore march.now link.now order 8) (λ e. IsLeastIn march.now link.now order e) }
 {
     march.known();
-    let spots = spots_in(link, order);
+    let spots = link_places_in(link, order);
     let cells = Cells { link, spots };
     let mut dead_ends = DeadEnds::unknown();
     for number in 0..8 {
@@ -71,40 +71,40 @@ fn least_in(march: &March, link: &Link, order: u8) -> Option<LinkEscape>
 }
 
 /// Three cells in an order, as the places of the cells that take part, and then of the others.
-fn choice(order: u8) -> Spots
+fn ordered_places(order: u8) -> LinkPlaces
     requires { order < 6 }
-    ensures spots { result ≡ choice order }
-    ensures fits { FitsSpots result 3 }
+    ensures spots { result ≡ ordered_places order }
+    ensures fits { FitsLinkPlaces result 3 }
 {
     match order {
-        0 => Spots { a: 0, b: 1, v: 2 },
-        1 => Spots { a: 0, b: 2, v: 1 },
-        2 => Spots { a: 1, b: 0, v: 2 },
-        3 => Spots { a: 1, b: 2, v: 0 },
-        4 => Spots { a: 2, b: 0, v: 1 },
-        _ => Spots { a: 2, b: 1, v: 0 },
+        0 => LinkPlaces { a: 0, b: 1, v: 2 },
+        1 => LinkPlaces { a: 0, b: 2, v: 1 },
+        2 => LinkPlaces { a: 1, b: 0, v: 2 },
+        3 => LinkPlaces { a: 1, b: 2, v: 0 },
+        4 => LinkPlaces { a: 2, b: 0, v: 1 },
+        _ => LinkPlaces { a: 2, b: 1, v: 0 },
     }
 }
 
 /// The cells that take part, in the places that are chosen for them.
-fn placed(has_first: bool, has_other: bool, chosen: Spots) -> Spots
-    requires { FitsSpots chosen 3 }
-    ensures spots { result ≡ placed has_first has_other chosen }
-    ensures fits { FitsSpots result 3 }
+fn assigned_places(has_first: bool, has_other: bool, chosen: LinkPlaces) -> LinkPlaces
+    requires { FitsLinkPlaces chosen 3 }
+    ensures spots { result ≡ assigned_places has_first has_other chosen }
+    ensures fits { FitsLinkPlaces result 3 }
 {
     match (has_first, has_other) {
         (true, true) => chosen,
-        (true, false) => Spots {
+        (true, false) => LinkPlaces {
             a: chosen.a,
             b: chosen.v,
             v: chosen.b,
         },
-        (false, true) => Spots {
+        (false, true) => LinkPlaces {
             a: chosen.v,
             b: chosen.a,
             v: chosen.b,
         },
-        (false, false) => Spots {
+        (false, false) => LinkPlaces {
             a: chosen.b,
             b: chosen.v,
             v: chosen.a,
@@ -113,13 +113,13 @@ fn placed(has_first: bool, has_other: bool, chosen: Spots) -> Spots
 }
 
 /// The places of a link in their order.
-fn spots_in(link: &Link, order: u8) -> Spots
+fn link_places_in(link: &Link, order: u8) -> LinkPlaces
     requires { order < 6 }
-    ensures spots { result ≡ spots_in link.now order }
-    ensures fits { FitsSpots result 3 }
+    ensures spots { result ≡ link_places_in link.now order }
+    ensures fits { FitsLinkPlaces result 3 }
 {
     let has_other = link.second.is_two_cell() && !link.is_shared;
-    placed(link.first.is_two_cell(), has_other, choice(order))
+    assigned_places(link.first.is_two_cell(), has_other, ordered_places(order))
 }
 
 /// The content with this number.

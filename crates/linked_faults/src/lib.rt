@@ -26,7 +26,7 @@ mod three;
 pub use devices::{exchanged, is_same_link};
 pub use escape::{LinkEscape, least_linked_escape};
 pub use laws::{both_orders_are_one_device, inversion_is_a_link};
-pub use link::{Link, Spots, first_places, second_places};
+pub use link::{Link, LinkPlaces, first_places, second_places};
 pub use linked::is_linked;
 pub use table::{LinkKind, kind_of, links};
 pub use three::Three;

@@ -3,7 +3,7 @@
 ghost use Rattle.std.specs.Prelude.{◌≡◌, ◌<◌, ◌&&◌, length};
 ghost use Rattle.fault_core.specs.Primitive.{is_retention, is_pause};
 ghost use Rattle.fault_core.specs.Cells.{FitsPlace, FitsAgg, states_hold, agg_holds, acts, agg_acts};
-ghost use Rattle.linked_faults.specs.Linking.{FitsSpots, beside, first_places, second_places, linked_cells, linked_answer, linked_pause};
+ghost use Rattle.linked_faults.specs.Linking.{FitsLinkPlaces, beside, first_places, second_places, linked_cells, linked_answer, linked_pause};
 
 use fault_core::{Act, Places, Prim, Sense, do_plainly};
 
@@ -19,7 +19,7 @@ pub struct Link {
 /// Three different cells: the first aggressor's, the second's, and the victim's. A primitive of one cell uses the
 /// victim's alone, and an aggressor that is shared is the first.
 #[derive(Clone, Copy)]
-pub struct Spots {
+pub struct LinkPlaces {
     pub a: usize,
     pub b: usize,
     pub v: usize,
@@ -35,7 +35,7 @@ fn beside(agg: Option<Sense>, at: usize) -> Option<usize>
 }
 
 /// Where the first primitive stands.
-pub fn first_places(link: &Link, spots: Spots) -> Places
+pub fn first_places(link: &Link, spots: LinkPlaces) -> Places
     ensures { result ≡ first_places link.now spots }
 {
     Places {
@@ -45,7 +45,7 @@ pub fn first_places(link: &Link, spots: Spots) -> Places
 }
 
 /// Where the second primitive stands.
-pub fn second_places(link: &Link, spots: Spots) -> Places
+pub fn second_places(link: &Link, spots: LinkPlaces) -> Places
     ensures { result ≡ second_places link.now spots }
 {
     let at = if link.is_shared { spots.a } else { spots.b };
@@ -113,12 +113,12 @@ fn does_lose(prim: &Prim, places: Places, cells: &[bool]) -> bool
 #[tactic(auto, unfolding(crate::specs::Linking::linked_cells, crate::specs::Linking::linked_answer))]
 pub(crate) fn act_on(
     link: &Link,
-    spots: Spots,
+    spots: LinkPlaces,
     cells: &mut [bool],
     at: usize,
     act: Act,
 ) -> Option<bool>
-    requires spots { FitsSpots spots (length cells.old) }
+    requires spots { FitsLinkPlaces spots (length cells.old) }
     requires within { at < length cells.old }
     ensures cells { cells.new ≡ linked_cells link.now spots cells.old at act }
     ensures answer { result ≡ linked_answer link.now spots cells.old at act }
@@ -139,8 +139,8 @@ pub(crate) fn act_on(
 
 /// A pause.
 #[tactic(auto, unfolding(crate::specs::Linking::linked_pause))]
-pub(crate) fn pause_on(link: &Link, spots: Spots, cells: &mut [bool])
-    requires { FitsSpots spots (length cells.old) }
+pub(crate) fn pause_on(link: &Link, spots: LinkPlaces, cells: &mut [bool])
+    requires { FitsLinkPlaces spots (length cells.old) }
     ensures { cells.new ≡ linked_pause link.now spots cells.old }
 {
     if does_lose(&link.first, first_places(link, spots), cells) {

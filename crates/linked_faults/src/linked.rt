@@ -4,7 +4,7 @@ ghost use Rattle.std.specs.Prelude.{◌≡◌, ◌↔◌, ◌&&◌, true, not};
 ghost use Rattle.fault_core.specs.Primitive.{IsPrimitive, same_bit};
 ghost use Rattle.fault_core.specs.Cells.{has_act};
 ghost use Rattle.linked_faults.specs.Linking.{IsLinked, good_after};
-ghost use Rattle.linked_faults.specs.inner.Testing.{is_quiet, leaves_wrong, finds_it, hides_it, shares_well, linked_test};
+ghost use Rattle.linked_faults.specs.inner.Testing.{is_quiet, leaves_wrong, finds_wrong_bit, hides_wrong_bit, can_share, linked_test};
 
 use crate::link::Link;
 use fault_core::{Act, Prim};
@@ -59,21 +59,21 @@ fn leaves_wrong(link: &Link) -> bool
     is_wrong && is_quiet(link.first.answer(), link.first.vic().state)
 }
 
-fn finds_it(link: &Link) -> bool
-    ensures { result ≡ finds_it link.now }
+fn finds_wrong_bit(link: &Link) -> bool
+    ensures { result ≡ finds_wrong_bit link.now }
 {
     let finds = is_same(link.second.vic().state, link.first.after());
     finds && is_other(link.second.after(), link.first.after())
 }
 
-fn hides_it(link: &Link) -> bool
-    ensures { result ≡ hides_it link.now }
+fn hides_wrong_bit(link: &Link) -> bool
+    ensures { result ≡ hides_wrong_bit link.now }
 {
-    finds_it(link) && is_quiet(link.second.answer(), link.second.after())
+    finds_wrong_bit(link) && is_quiet(link.second.answer(), link.second.after())
 }
 
-fn shares_well(link: &Link) -> bool
-    ensures { result ≡ shares_well link.now }
+fn can_share(link: &Link) -> bool
+    ensures { result ≡ can_share link.now }
 {
     !link.is_shared || (link.first.is_two_cell() && link.second.is_two_cell())
 }
@@ -85,11 +85,11 @@ fn acts(link: &Link) -> bool
 }
 
 /// The test of two primitives.
-pub(crate) fn is_passed(link: &Link) -> bool
+pub(crate) fn passes_test(link: &Link) -> bool
     ensures { result ≡ linked_test link.now }
 {
     let begins = acts(link) && leaves_wrong(link);
-    let ends = hides_it(link) && shares_well(link);
+    let ends = hides_wrong_bit(link) && can_share(link);
     begins && ends
 }
 
@@ -99,5 +99,5 @@ pub fn is_linked(link: &Link) -> bool
 {
     link.first.known();
     link.second.known();
-    is_passed(link)
+    passes_test(link)
 }

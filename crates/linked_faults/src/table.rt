@@ -5,7 +5,7 @@ ghost use Rattle.linked_faults.specs.Kinds.{kind_of, AreLinks};
 ghost use Rattle.linked_faults.specs.inner.Testing.{if_linked, linked_behind, linked_pairs};
 
 use crate::link::Link;
-use crate::linked::is_passed;
+use crate::linked::passes_test;
 use bist_bits::NoMemory;
 use fault_core::{Prim, one_cell, two_cell};
 use std::alloc::Global;
@@ -47,7 +47,7 @@ pub fn kind_of(link: &Link) -> LinkKind
 fn push_linked(links: &mut Vec<Link>, link: Link) -> Result<(), NoMemory>
     ensures { OnOk result (links.new.items ≡ links.old.items ++ if_linked link) }
 {
-    if is_passed(&link) && links.push(link).is_err() {
+    if passes_test(&link) && links.push(link).is_err() {
         return Err(NoMemory);
     }
     Ok(())

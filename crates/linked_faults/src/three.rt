@@ -1,13 +1,13 @@
 //! Three cells of an array of three.
 
 ghost use Rattle.std.specs.Prelude.{◌≡◌, ◌<◌};
-ghost use Rattle.linked_faults.specs.Linking.{FitsSpots};
+ghost use Rattle.linked_faults.specs.Linking.{FitsLinkPlaces};
 ghost use Rattle.linked_faults.specs.inner.Threes.{step_three, answer_three, pause_three, seat_index, machine_of, cells_in};
 ghost use Rattle.linked_faults.specs.Escapes.{three_number};
 ghost use Rattle.linked_faults.specs.inner.Numbers.{same_number, number_below};
 ghost use Rattle.pair_tracker.specs.Tracking.{any_end};
 
-use crate::link::{Link, Spots, act_on, pause_on};
+use crate::link::{Link, LinkPlaces, act_on, pause_on};
 use fault_core::Act;
 use pair_tracker::FewCells;
 
@@ -39,8 +39,8 @@ fn index_of(seat: Seat) -> usize
 }
 
 /// An act on one of the three cells. The second part is the answer of a read.
-fn step(link: &Link, spots: Spots, start: Three, on: Seat, act: Act) -> (Three, Option<bool>)
-    requires { FitsSpots spots 3 }
+fn step(link: &Link, spots: LinkPlaces, start: Three, on: Seat, act: Act) -> (Three, Option<bool>)
+    requires { FitsLinkPlaces spots 3 }
     ensures cells { result.0 ≡ step_three link.now spots start (seat_index on) act }
     ensures answer { result.1 ≡ answer_three link.now spots start (seat_index on) act }
 {
@@ -54,8 +54,8 @@ fn step(link: &Link, spots: Spots, start: Three, on: Seat, act: Act) -> (Three, 
     (next, answer)
 }
 
-fn pause(link: &Link, spots: Spots, start: Three) -> Three
-    requires { FitsSpots spots 3 }
+fn pause(link: &Link, spots: LinkPlaces, start: Three) -> Three
+    requires { FitsLinkPlaces spots 3 }
     ensures { result ≡ pause_three link.now spots start }
 {
     let mut cells = [start.x, start.y, start.z];
@@ -71,7 +71,7 @@ fn pause(link: &Link, spots: Spots, start: Three) -> Three
 #[derive(Drop)]
 pub(crate) struct Cells<'a> {
     pub(crate) link: &'a Link,
-    pub(crate) spots: Spots,
+    pub(crate) spots: LinkPlaces,
 }
 
 const UPWARD: [Seat; 3] = [Seat::Low, Seat::Mid, Seat::High];
@@ -83,7 +83,7 @@ impl FewCells for Cells<'_> {
 
     type Cell = Seat;
 
-    ghost Fits = { λ s. FitsSpots s.spots 3 };
+    ghost Fits = { λ s. FitsLinkPlaces s.spots 3 };
 
     ghost machine = { λ s. machine_of s.link.now s.spots };
 

@@ -19,8 +19,8 @@ use Rattle.word_device.proofs.Lanes.{lane_set, lane_cell, length-lane, has_bit-z
 use Rattle.word_device.proofs.Answering.{IsLawful}
 use Rattle.word_device.proofs.Attaching.{AlwaysDiffers, from_any, answers_wrong}
 use Rattle.decoder_faults.specs.declared.fault.DecoderFault.{DecoderFault}
-use Rattle.decoder_faults.specs.declared.fault.Wired.{Wired}
-use Rattle.decoder_faults.specs.declared.fault.Wired.TheVariants.{And, Or, Own}
+use Rattle.decoder_faults.specs.declared.fault.WiredRead.{WiredRead}
+use Rattle.decoder_faults.specs.declared.fault.WiredRead.TheVariants.{And, Or, Own}
 use Rattle.decoder_faults.specs.Decoding.{AddressPair, FitsPair, HasFault, Decoder, Reach, no_cell, one_cell, two_cells, wired_bit, write_through, read_through, act_through, answer_through}
 use Rattle.decoder_faults.specs.Detection.{cells_behind, is_wrong_there, DetectsDecoder}
 use Rattle.decoder_faults.proofs.Among.{caught_among}
@@ -34,7 +34,7 @@ use Rattle.word_faults.proofs.Solid.{act_solid, wrong_read, word_differs, up_fit
 
 -- ---- one bit of each word
 
-bits_of : (wired : Wired) (x y j : ℕ) → has_bit (wired_words wired x y) j ≡ wired_bit wired (has_bit x j) (has_bit y j)
+bits_of : (wired : WiredRead) (x y j : ℕ) → has_bit (wired_words wired x y) j ≡ wired_bit wired (has_bit x j) (has_bit y j)
 unfolding has_bit
 bits_of And x y j = ap (λ (n : ℕ). n == 1) (bit_at_and x y j) ∙ of_min (bit_at x j) (bit_at y j) (bit_at-lt x j) (bit_at-lt y j)
   where

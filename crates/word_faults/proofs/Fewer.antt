@@ -18,7 +18,7 @@ use Rattle.pair_tracker.specs.Few.{Machine, Order, cells_run, few_run}
 use Rattle.pair_tracker.proofs.Few.{Sees, march_passes, march_caught}
 use Rattle.pair_tracker.proofs.Tags.{Own, Stand, kept_does, addresses_kept, turned}
 use Rattle.linked_faults.specs.declared.link.Link.{Link}
-use Rattle.linked_faults.specs.declared.link.Spots.{Spots}
+use Rattle.linked_faults.specs.declared.link.LinkPlaces.{LinkPlaces}
 use Rattle.linked_faults.specs.Linking.{first_places, second_places, linked_cells, linked_answer, linked_pause}
 use Rattle.linked_faults.specs.Detection.{cells_behind, is_wrong_there}
 use Rattle.linked_faults.proofs.Seen.{length-linked, length-linked_pause, linked_leaves, pause_leaves}
@@ -137,7 +137,7 @@ module _ (p : Primitive) (at : Places) (fits : FitsPlace p at 2) where
 
 -- ---- the two
 
-module _ (link : Link) (s : Spots) (one : FitsPlace link.first (first_places link s) 2) (other : FitsPlace link.second (second_places link s) 2) where
+module _ (link : Link) (s : LinkPlaces) (one : FitsPlace link.first (first_places link s) 2) (other : FitsPlace link.second (second_places link s) 2) where
   abbrev machine : Machine (List Bool) ℕ
   machine = record {
     step = λ q i act. linked_cells link s q i act;

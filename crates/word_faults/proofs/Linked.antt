@@ -28,7 +28,7 @@ use Rattle.word_device.proofs.Steps.{word_at, spots, Through, ThroughAgg, lane_w
 use Rattle.word_device.proofs.Answering.{IsLawful}
 use Rattle.word_device.proofs.Attaching.{AlwaysDiffers, from_any, answers_wrong}
 use Rattle.linked_faults.specs.declared.link.Link.{Link}
-use Rattle.linked_faults.specs.declared.link.Spots.{Spots}
+use Rattle.linked_faults.specs.declared.link.LinkPlaces.{LinkPlaces}
 use Rattle.linked_faults.specs.Linking.{IsLinked, FitsLink, first_places, second_places, linked_cells, linked_answer, linked_pause}
 use Rattle.linked_faults.specs.Detection.{cells_behind, is_wrong_there, Detects}
 use Rattle.linked_faults.proofs.Places.{have_spots}
@@ -185,7 +185,7 @@ second_pauses link at words stays acts =
 -- ---- the fault
 
 module _ (link : Link) (at : Bits) (words bits : ℕ) (fits : FitsBits link at words bits) (first : IsPrimitive link.first) (second : IsPrimitive link.second)
-    (alone : (is_retention link.first ≡ false) ⊎ (is_retention link.second ≡ false)) (pair : IsLinked link) (s : Spots) (first_is : first_places link s ≡ spots (first_of link at))
+    (alone : (is_retention link.first ≡ false) ⊎ (is_retention link.second ≡ false)) (pair : IsLinked link) (s : LinkPlaces) (first_is : first_places link s ≡ spots (first_of link at))
     (second_is : second_places link s ≡ spots (second_of link at)) where
   abbrev Good : List ℕ → Type 0
   Good ws = length ws ≡ words
@@ -367,7 +367,7 @@ module _ (link : Link) (at : Bits) (words bits : ℕ) (fits : FitsBits link at w
 
 -- the three cells that the two primitives are at, and what the march finds there
 record Chosen (march : List MarchElement) (link : Link) (at : Bits) (words : ℕ) : Type 0 where
-  s : Spots
+  s : LinkPlaces
   first_is : first_places link s ≡ spots (first_of link at)
   second_is : second_places link s ≡ spots (second_of link at)
   caught : (cells : List Bool) → length cells ≡ words → SomeDiffersBy (cells_behind link s) (is_wrong_there link s) cells (visits march (up march) words)

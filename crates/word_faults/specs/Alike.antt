@@ -8,8 +8,8 @@ use Rattle.word_device.specs.Chips.{has_bit, with_bit, with_bit_in, act_on, matc
 use Rattle.word_device.specs.Memories.{Behaviour, words_with}
 use Rattle.linked_faults.specs.declared.link.Link.{Link}
 use Rattle.linked_faults.specs.Linking.{IsLinked}
-use Rattle.decoder_faults.specs.declared.fault.Wired.{Wired}
-use Rattle.decoder_faults.specs.declared.fault.Wired.TheVariants.{And, Or, Own}
+use Rattle.decoder_faults.specs.declared.fault.WiredRead.{WiredRead}
+use Rattle.decoder_faults.specs.declared.fault.WiredRead.TheVariants.{And, Or, Own}
 use Rattle.decoder_faults.specs.Decoding.{Decoder, Reach, no_cell, one_cell, two_cells, read_through, act_through}
 use Rattle.dynamic_core.specs.Primitive.{DynamicPrimitive, IsDynamic}
 use Rattle.dynamic_core.specs.Dynamic.{dyn_step, dyn_answer, after_pause}
@@ -37,7 +37,7 @@ abbrev pub LinkedAsOne : Type 0
 LinkedAsOne = (link : Link) (at : Bits) → IsLinked link → AreAsOne link at
 
 -- what a read answers of two words, of which the first is the address's own
-abbrev pub wired_words : Wired → ℕ → ℕ → ℕ
+abbrev pub wired_words : WiredRead → ℕ → ℕ → ℕ
 wired_words And own other = bit_and own other
 wired_words Or own other = bit_or own other
 wired_words Own own other = own

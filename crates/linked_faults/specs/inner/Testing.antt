@@ -14,17 +14,17 @@ abbrev pub leaves_wrong : Link → Bool
 leaves_wrong link =
     not (same_bit link.first.after (good_after link.first.vic.act link.first.vic.state)) && is_quiet link.first.answer link.first.vic.state
 
-abbrev pub finds_it : Link → Bool
-finds_it link = same_bit link.second.vic.state link.first.after && not (same_bit link.second.after link.first.after)
+abbrev pub finds_wrong_bit : Link → Bool
+finds_wrong_bit link = same_bit link.second.vic.state link.first.after && not (same_bit link.second.after link.first.after)
 
-abbrev pub hides_it : Link → Bool
-hides_it link = finds_it link && is_quiet link.second.answer link.second.after
+abbrev pub hides_wrong_bit : Link → Bool
+hides_wrong_bit link = finds_wrong_bit link && is_quiet link.second.answer link.second.after
 
-abbrev pub shares_well : Link → Bool
-shares_well link = not link.is_shared || (has_aggressor link.first && has_aggressor link.second)
+abbrev pub can_share : Link → Bool
+can_share link = not link.is_shared || (has_aggressor link.first && has_aggressor link.second)
 
 abbrev pub linked_test : Link → Bool
-linked_test link = ((has_act link.first && has_act link.second) && leaves_wrong link) && (hides_it link && shares_well link)
+linked_test link = ((has_act link.first && has_act link.second) && leaves_wrong link) && (hides_wrong_bit link && can_share link)
 
 -- the link, where the two are linked
 abbrev pub if_linked : Link → List Link

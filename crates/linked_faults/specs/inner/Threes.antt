@@ -5,7 +5,7 @@ use Rattle.fault_core.specs.Cells.{cell}
 use Rattle.march_core.specs.Visits.{Upward, Downward}
 use Rattle.pair_tracker.specs.Few.{Machine, Order}
 use Rattle.linked_faults.specs.declared.link.Link.{Link}
-use Rattle.linked_faults.specs.declared.link.Spots.{Spots}
+use Rattle.linked_faults.specs.declared.link.LinkPlaces.{LinkPlaces}
 use Rattle.linked_faults.specs.declared.three.Three.{Three}
 use Rattle.linked_faults.specs.declared.three.Seat.{Seat}
 use Rattle.linked_faults.specs.declared.three.Seat.TheVariants.{Low, Mid, High}
@@ -24,13 +24,13 @@ three_at t cells = record { x = cell cells t.low; y = cell cells t.mid; z = cell
 abbrev pub three_of : List Bool → Three
 three_of cells = record { x = cell cells 0; y = cell cells 1; z = cell cells 2 }
 
-abbrev pub step_three : Link → Spots → Three → ℕ → Act → Three
+abbrev pub step_three : Link → LinkPlaces → Three → ℕ → Act → Three
 step_three link at q i act = three_of (linked_cells link at (cells_of q) i act)
 
-abbrev pub answer_three : Link → Spots → Three → ℕ → Act → Option Bool
+abbrev pub answer_three : Link → LinkPlaces → Three → ℕ → Act → Option Bool
 answer_three link at q i act = linked_answer link at (cells_of q) i act
 
-abbrev pub pause_three : Link → Spots → Three → Three
+abbrev pub pause_three : Link → LinkPlaces → Three → Three
 pause_three link at q = three_of (linked_pause link at (cells_of q))
 
 abbrev pub seat_index : Seat → ℕ
@@ -39,7 +39,7 @@ seat_index Mid = 1
 seat_index High = 2
 
 -- what a linked fault makes of its three cells; an act on another cell leaves them
-abbrev pub machine_of : Link → Spots → Machine Three Seat
+abbrev pub machine_of : Link → LinkPlaces → Machine Three Seat
 machine_of link at = record {
   step = λ q s act. step_three link at q (seat_index s) act;
   answer = λ q s act. answer_three link at q (seat_index s) act;

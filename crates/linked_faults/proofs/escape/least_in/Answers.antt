@@ -13,8 +13,8 @@ returns-in-Some c =
     let link = c.args.link.now in
     least_here march link c.args.order c.loop-number.number c.content_of-content.result c.in-Some.directions _ c.known.ensures
     c.content_of-content.ensures c.loop-number.invariant.none
-    (sym (c.in-Some.ensures.word ∙ ap (λ s. word_to any_end (machine_of link s) cells_in march 0 (length march) c.content_of-content.result) c.spots_in-spots.ensures.spots))
-    refl c.spots_in-spots.ensures.spots refl refl
+    (sym (c.in-Some.ensures.word ∙ ap (λ s. word_to any_end (machine_of link s) cells_in march 0 (length march) c.content_of-content.result) c.link_places_in-spots.ensures.spots))
+    refl c.link_places_in-spots.ensures.spots refl refl
 
 pub loop-number-preserved : goal.loop-number-preserved
 loop-number-preserved c =
@@ -24,6 +24,6 @@ loop-number-preserved c =
       none =
           none_so_far march link c.args.order c.loop-number.number c.content_of-content.result c.known.ensures
           c.content_of-content.ensures c.loop-number.invariant.none
-          (sym (c.in_default.ensures.word ∙ ap (λ s. word_to any_end (machine_of link s) cells_in march 0 (length march) c.content_of-content.result) c.spots_in-spots.ensures.spots));
-      known = subst (λ s. KnowsOf march link s c.word_through.new.dead_ends) c.spots_in-spots.ensures.spots c.in_default.ensures.dead;
+          (sym (c.in_default.ensures.word ∙ ap (λ s. word_to any_end (machine_of link s) cells_in march 0 (length march) c.content_of-content.result) c.link_places_in-spots.ensures.spots));
+      known = subst (λ s. KnowsOf march link s c.word_through.new.dead_ends) c.link_places_in-spots.ensures.spots c.in_default.ensures.dead;
     }
