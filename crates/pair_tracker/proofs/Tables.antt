@@ -134,8 +134,7 @@ both_ways p placement march i j k first second start final =
     let ts : List (Table Pair) = tables_at p placement (elements_between march i j) in
     let us : List (Table Pair) = tables_at p placement (elements_between march j k) in
     let same : tables_at p placement (elements_between march i k) ≡ ts ++ us =
-        ap (map f) (between_parts march i j k first second) ∙ map-append f (elements_between march i j) (elements_between march j k) in
-    (
+    ap (map f) (between_parts march i j k first second) ∙ map-append f (elements_between march i j) (elements_between march j k) in (
       λ leads. join ts us start final (subst (λ (l : List (Table Pair)). Composed l start final) same leads),
       λ parts. subst (λ (l : List (Table Pair)). Composed l start final) (sym same) (joined ts us start parts.middle final parts.first parts.second),
     )
@@ -210,6 +209,6 @@ module _ (march : List MarchElement) (p : Primitive) (placement : Placement) (is
   composed_survives start final leads =
       let there = (composed_from start).all final leads in
       let found = subst (λ q. AreSurvivors march p placement (cells_in placement start) (found_from q)) (pair_of_cells placement start)
-          (survivors_from (cells_in placement start) (two_cells placement start)) in
+      (survivors_from (cells_in placement start) (two_cells placement start)) in
       let end = contained (IsEnd (λ final word. Survives march p placement (cells_in placement start) word final)) (found_from start) found.each there.0 there.1 in
       (there.0.directions, subst (Survives march p placement (cells_in placement start) there.0.directions) there.2 end.leads)

@@ -27,9 +27,9 @@ returns-clause-tables c =
     let found = c.ends.result.items in
     let inside = c.self.inside in
     let start =
-        c.close.ensures.pair
-        ∙ ap (pair_close inside.prim) c.start_of.ensures.pair
-        ∙ ap (λ (leg : Leg). pair_close leg.prim (pair_in leg.placement c.args.content)) c.self.view_is in
+    c.close.ensures.pair
+    ∙ ap (pair_close inside.prim) c.start_of.ensures.pair
+    ∙ ap (λ (leg : Leg). pair_close leg.prim (pair_in leg.placement c.args.content)) c.self.view_is in
     subst (λ q. AreComposed (tables_at leg.prim leg.placement leg.march) q found) start
     (subst (λ es. AreComposed (tables_at leg.prim leg.placement es) c.close.result found)
     (ap (λ i. elements_between leg.march i leg.end) c.requires.first ∙ ap (elements_between leg.march 0) c.requires.last ∙ all_between leg.march)
