@@ -1,2 +1,3 @@
 pub mod Interface
 pub mod Collared
+pub mod Refused

@@ -1,11 +1,12 @@
 //! The whole module.
-ghost use Rattle.std.specs.Prelude.{◌≡◌, ◌++◌, ◌∷◌, [], ◌≤◌, IfOk, OnOk, map, All, codes, true, None};
+ghost use Rattle.std.specs.Prelude.{◌≡◌, ◌++◌, ◌∷◌, [], ◌≤◌, IfOk, IfErr, OnOk, map, All, codes, true, None};
 ghost use Rattle.verilog_tree.specs.Plain.{plain_item, plain_module, AssignItem, Net, Prefixed};
 ghost use Rattle.verilog_tree.specs.Fits.{fits};
 ghost use Rattle.verilog_tree.specs.Rules.{first_break};
 ghost use Rattle.verilog_tree.specs.declared.tree.UnOp.TheVariants.{Not};
 ghost use Rattle.macro_pins.specs.Pins.{has_enable, pins_of, plain_pin, IsDrivable};
 ghost use Rattle.collar_rtl.specs.Interface as I;
+ghost use Rattle.collar_rtl.specs.Refused.{IsRefused};
 
 use crate::driving::{assign_pins, has_enable};
 use crate::names::{at_pin, of_pin, rdata_at};
@@ -157,6 +158,7 @@ pub fn legal_interface(
     ensures layout { IfOk result (λ m. plain_module m ≡ I.interface name.bytes (pins_of macro_.now) bits address) }
     ensures writable { IfOk result (λ m. fits (plain_module m) ≡ true) }
     ensures legal { IfOk result (λ m. first_break (plain_module m) ≡ None) }
+    ensures refused { IfErr result (λ fault. IsRefused fault (I.interface name.bytes (pins_of macro_.now) bits address)) }
 {
     let Ok(module) = interface(alloc, name, macro_, bits, address) else {
         return Err(InterfaceFault::NoMemory);
@@ -166,6 +168,7 @@ pub fn legal_interface(
     }
     match check(alloc, &module) {
         Ok(()) => Ok(module),
+        Err(TreeFault::NoMemory) => Err(InterfaceFault::NoMemory),
         Err(fault) => Err(InterfaceFault::Broken(fault)),
     }
 }

@@ -11,6 +11,12 @@ use Rattle.macro_pins.specs.Ports.{has, is_address, is_data, is_read_alone, is_w
 pub drivable : (p : Pin) (a : ℕ) → (p.kind ≡ Address → a ≤ p.width) → IsVector p.width p.value → IsDrivable a (plain_pin p)
 drivable p a room v = record { some = v.positive; narrow = v.narrow; fits = v.fits; room = room }
 
+pub has_room : (p : Pin) (a : ℕ) → IsDrivable a (plain_pin p) → p.kind ≡ Address → a ≤ p.width
+has_room p a h = h.room
+
+pub has_value : (p : Pin) (a : ℕ) → IsDrivable a (plain_pin p) → IsVector p.width p.value
+has_value p a h = record { positive = h.some; narrow = h.narrow; fits = h.fits }
+
 abbrev Driven : ℕ → Pin → Type 0
 Driven a p = IsDrivable a (plain_pin p)
 
@@ -19,6 +25,12 @@ no_pins a = All-nil (Driven a)
 
 pub more_pins : (a : ℕ) (p : Pin) (ps : List Pin) → IsDrivable a (plain_pin p) → All (λ (q : Pin). IsDrivable a (plain_pin q)) ps → All (λ (q : Pin). IsDrivable a (plain_pin q)) (p ∷ ps)
 more_pins a p ps h all = All-cons (Driven a) p ps h all
+
+pub first_pin : (a : ℕ) (p : Pin) (ps : List Pin) → All (λ (q : Pin). IsDrivable a (plain_pin q)) (p ∷ ps) → IsDrivable a (plain_pin p)
+first_pin a p ps all = All-head (Driven a) p ps all
+
+pub rest_pins : (a : ℕ) (p : Pin) (ps : List Pin) → All (λ (q : Pin). IsDrivable a (plain_pin q)) (p ∷ ps) → All (λ (q : Pin). IsDrivable a (plain_pin q)) ps
+rest_pins a p ps all = All-tail (Driven a) p ps all
 
 all_wide : (a : ℕ) (ps : List Pin) → All (λ (p : Pin). IsDrivable a (plain_pin p)) ps → AllWide (map plain_pin ps)
 all_wide a [] all = tt

@@ -1,3 +1,4 @@
 pub mod CollarTops
 pub mod Links
 pub mod CollarText
+pub mod Refused

@@ -88,7 +88,8 @@ fn has_way(pins: &[Pin]) -> bool
 
 /// Whether an address of so many bits has room at a pin, if that is an address.
 fn has_room(pin: &Pin, address: u8) -> bool
-    ensures { result ≡ true → pin.now.kind ≡ Address → address ≤ pin.now.width }
+    ensures yes { result ≡ true → pin.now.kind ≡ Address → address ≤ pin.now.width }
+    ensures no { (pin.now.kind ≡ Address → address ≤ pin.now.width) → result ≡ true }
 {
     match pin.kind {
         PinKind::Address => address <= pin.width,
@@ -98,22 +99,25 @@ fn has_room(pin: &Pin, address: u8) -> bool
 
 /// Whether the value of a pin is one of its width.
 fn has_value(pin: &Pin) -> bool
-    ensures { result ≡ true → IsVector pin.now.width pin.now.value }
+    ensures yes { result ≡ true → IsVector pin.now.width pin.now.value }
+    ensures no { IsVector pin.now.width pin.now.value → result ≡ true }
 {
     Bits::try_new(pin.width, pin.value).is_some()
 }
 
-#[tactic(auto, using(crate::proofs::Serving::drivable))]
+#[tactic(auto, using(crate::proofs::Serving::drivable, crate::proofs::Serving::has_room, crate::proofs::Serving::has_value))]
 fn is_drivable(pin: &Pin, address: u8) -> bool
-    ensures { result ≡ true → IsDrivable address (plain_pin pin.now) }
+    ensures yes { result ≡ true → IsDrivable address (plain_pin pin.now) }
+    ensures no { IsDrivable address (plain_pin pin.now) → result ≡ true }
 {
     has_room(pin, address) && has_value(pin)
 }
 
 /// Whether each pin can be driven, with addresses of so many bits.
-#[tactic(auto, using(crate::proofs::Serving::no_pins, crate::proofs::Serving::more_pins))]
+#[tactic(auto, using(crate::proofs::Serving::no_pins, crate::proofs::Serving::more_pins, crate::proofs::Serving::first_pin, crate::proofs::Serving::rest_pins))]
 pub fn are_drivable(pins: &[Pin], address: u8) -> bool
-    ensures { result ≡ true → All (λ p. IsDrivable address (plain_pin p)) pins.now }
+    ensures yes { result ≡ true → All (λ p. IsDrivable address (plain_pin p)) pins.now }
+    ensures no { All (λ p. IsDrivable address (plain_pin p)) pins.now → result ≡ true }
 {
     match pins {
         [] => true,
@@ -132,7 +136,8 @@ fn tells_commands(pins: &[Pin]) -> bool
 /// Whether pins that can be driven are those of a port.
 pub fn is_port(macro_: &Macro, address: u8) -> bool
     requires { All (λ p. IsDrivable address (plain_pin p)) macro_.now.pins.items }
-    ensures { result ≡ true → IsPort (pins_of macro_.now) }
+    ensures yes { result ≡ true → IsPort (pins_of macro_.now) }
+    ensures no { IsPort (pins_of macro_.now) → result ≡ true }
 {
     let pins = macro_.pins.as_slice();
     if !has_address(pins) {

@@ -1,5 +1,5 @@
 //! The text of a collar: the interface, and behind it the top.
-ghost use Rattle.std.specs.Prelude.{◌≡◌, ◌++◌, ◌≤◌, IfOk, All, map, true, None};
+ghost use Rattle.std.specs.Prelude.{◌≡◌, ◌≢◌, ◌++◌, ◌≤◌, IfOk, IfErr, All, map, true, None};
 ghost use Rattle.verilog_tree.specs.Plain.{plain_item, plain_module, plain_port};
 ghost use Rattle.verilog_tree.specs.Fits.{fits};
 ghost use Rattle.verilog_tree.specs.Rules.{first_break};
@@ -13,6 +13,7 @@ ghost use Rattle.collar_rtl.specs.Interface as I;
 ghost use Rattle.collar_top.specs.CollarTops as C;
 ghost use Rattle.collar_top.specs.Links.{all_differ, all_once};
 ghost use Rattle.collar_top.specs.CollarText.{EndsCollar};
+ghost use Rattle.collar_top.specs.Refused.{HasInterface, HasTop, HasCollar};
 
 use crate::fitting::{all_once, placed_fit};
 use crate::naming::all_differ;
@@ -36,6 +37,16 @@ pub enum CollarFault {
     Refused,
 }
 
+/// What a missing interface is to a collar.
+fn told(fault: InterfaceFault) -> CollarFault
+    ensures { result ≡ CollarFault.Refused → fault ≢ InterfaceFault.NoMemory }
+{
+    match fault {
+        InterfaceFault::NoMemory => CollarFault::NoMemory,
+        InterfaceFault::Unwritable | InterfaceFault::Broken(_) => CollarFault::Refused,
+    }
+}
+
 /// The interface of a macro with this memory, where it keeps all rules.
 fn interface_of(alloc: Global, macro_: &Macro, memory: &Memory) -> Result<Module, CollarFault>
     requires before { macro_.now.before ≤ 3 }
@@ -44,6 +55,7 @@ fn interface_of(alloc: Global, macro_: &Macro, memory: &Memory) -> Result<Module
     ensures layout { IfOk result (λ m. plain_module m ≡ I.interface (C.interface_name memory.now.name) (pins_of macro_.now) memory.now.bits memory.now.scramble.width) }
     ensures writable { IfOk result (λ m. fits (plain_module m) ≡ true) }
     ensures legal { IfOk result (λ m. first_break (plain_module m) ≡ None) }
+    ensures refused { IfErr result (λ fault. fault ≡ CollarFault.Refused → HasInterface macro_.now memory.now → ⊥) }
 {
     match legal_interface(
         alloc,
@@ -53,8 +65,7 @@ fn interface_of(alloc: Global, macro_: &Macro, memory: &Memory) -> Result<Module
         memory.address_bits(),
     ) {
         Ok(module) => Ok(module),
-        Err(InterfaceFault::NoMemory) => Err(CollarFault::NoMemory),
-        Err(_) => Err(CollarFault::Refused),
+        Err(fault) => Err(told(fault)),
     }
 }
 
@@ -98,6 +109,8 @@ pub fn legal_top(alloc: Global, macro_: &Macro, memory: &Memory) -> Result<Top, 
     ensures named { IfOk result (λ t. all_differ (C.top_ports (C.placing_of macro_.now) memory.now.bits)
         (C.top_wires (pins_of macro_.now) memory.now.bits memory.now.scramble.width) ≡ true) }
     ensures linked { IfOk result (λ t. all_once (C.placed_three (C.placing_of macro_.now) memory.now) ≡ true) }
+    ensures has { IfOk result (λ t. HasTop macro_.now memory.now) }
+    ensures refused { IfErr result (λ fault. fault ≡ CollarFault.Refused → HasTop macro_.now memory.now → ⊥) }
 {
     let Ok(frame) = frame(alloc, macro_, memory) else {
         return Err(CollarFault::NoMemory);
@@ -137,6 +150,9 @@ fn served_text(alloc: Global, macro_: &Macro, memory: &Memory) -> Result<Vec<u8>
         (I.interface (C.interface_name memory.now.name) (pins_of macro_.now) memory.now.bits memory.now.scramble.width)
         (C.collar_top_of (C.placing_of macro_.now) memory.now)) }
     ensures legal { IfOk result (λ out. C.IsLegal (C.placing_of macro_.now) memory.now) }
+    ensures interface { IfOk result (λ out. HasInterface macro_.now memory.now) }
+    ensures top { IfOk result (λ out. HasTop macro_.now memory.now) }
+    ensures refused { IfErr result (λ fault. fault ≡ CollarFault.Refused → HasInterface macro_.now memory.now → HasTop macro_.now memory.now → ⊥) }
 {
     let module = interface_of(alloc, macro_, memory)?;
     let top = legal_top(alloc, macro_, memory)?;
@@ -148,8 +164,8 @@ fn served_text(alloc: Global, macro_: &Macro, memory: &Memory) -> Result<Vec<u8>
 
 /// The text of the collar of a macro with this memory.
 ///
-/// It is refused where the pins aren't those of a port or can't be driven, where more than three registers stand on a way, where the interface
-/// breaks a rule, and where a name can't be written or stands for two things.
+/// It is refused exactly where there is none: where the pins aren't those of a port or can't be driven, where more than three registers stand on a way, where the interface
+/// breaks a rule, and where a name can't be written or stands for two things. Want of memory may come instead of either.
 pub fn collar_text(alloc: Global, macro_: &Macro, memory: &Memory) -> Result<Vec<u8>, CollarFault>
     ensures ends { IfOk result (λ out. EndsCollar out.items
         (I.interface (C.interface_name memory.now.name) (pins_of macro_.now) memory.now.bits memory.now.scramble.width)
@@ -158,6 +174,8 @@ pub fn collar_text(alloc: Global, macro_: &Macro, memory: &Memory) -> Result<Vec
     ensures before { IfOk result (λ out. macro_.now.before ≤ 3) }
     ensures after { IfOk result (λ out. macro_.now.after ≤ 3) }
     ensures port { IfOk result (λ out. IsPort (pins_of macro_.now)) }
+    ensures has { IfOk result (λ out. HasCollar macro_.now memory.now) }
+    ensures refused { IfErr result (λ fault. fault ≡ CollarFault.Refused → HasCollar macro_.now memory.now → ⊥) }
 {
     if macro_.before > 3 || macro_.after > 3 {
         return Err(CollarFault::Refused);

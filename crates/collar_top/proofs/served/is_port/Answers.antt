@@ -5,8 +5,8 @@ use Rattle.macro_pins.specs.Ports.{has, is_address, is_data, is_read_alone, is_w
 use Rattle.collar_top.proofs.Serving.{port}
 use Rattle.collar_top.proofs.served.is_port.Goals as goal
 
-pub returns : goal.returns
-returns c = λ h.
+pub returns-clause-yes : goal.returns-clause-yes
+returns-clause-yes c = λ h.
     let same = sym c.as_slice-pins.ensures.value in
     port c.args.address c.args.macro_.now c.requires
     (ap (λ (l : List Pin). has is_address (map plain_pin l)) same ∙ sym c.if-not-has_address.ensures)
