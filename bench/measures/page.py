@@ -12,8 +12,8 @@ HEAD = """# What was measured
 
 For who plans with times, areas and counts. Nothing on this page is proved. `bench/run --all --markdown` makes it,
 `bench/run NAME --markdown` one section anew, with its date, commit and machine. Times are the best of several calls,
-on x86-64; those of `gate`, `first` and compilers are of one. A ratio is what is beside ours, by ours: above 1 the other takes so many times as much; of
-megahertz it is so many times as fast.
+on x86-64; those of `gate`, `first` and compilers are of one. A ratio is what is beside ours, by ours: above 1 the
+other takes so many times as much; of megahertz it is so many times as fast.
 """
 
 
