@@ -9,6 +9,7 @@ import subprocess
 from typing import Callable, TypeVar
 
 from vidlakost_tools import bounded
+from vidlakost_tools.temporary import folder_of_its_own
 from vidlakost_tools.text import LARGE_BYTES, Path, lines_of, read_described, read_text
 from vidlakost_tools.tool import Refused, ToolError
 
@@ -201,10 +202,8 @@ def ask(*words: object) -> str:
 
 def with_text(text: str, use: Callable[[pathlib.Path], Answer]) -> Answer:
     """What `use` answers for a file that holds the text during the call."""
-    import tempfile
-
-    with tempfile.TemporaryDirectory() as folder:
-        path = pathlib.Path(folder) / "text"
+    with folder_of_its_own() as folder:
+        path = folder / "text"
         path.write_text(text, encoding="utf-8")
         return use(path)
 
@@ -225,9 +224,7 @@ def take_module(path: Path, text: str) -> None:
 
 def vectors_of(march: Path, memory: Path) -> list[str]:
     """The lines of `vectors`; a refused march or memory becomes an exception."""
-    import tempfile
-
-    with tempfile.TemporaryDirectory() as folder:
-        path = pathlib.Path(folder) / "vectors"
+    with folder_of_its_own() as folder:
+        path = folder / "vectors"
         ask("vectors", march, memory, path)
         return lines_of(read_text(path, LARGE_BYTES))

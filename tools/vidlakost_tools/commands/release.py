@@ -26,7 +26,6 @@ import shutil
 import struct
 import subprocess
 import sys
-import tempfile
 import zlib
 from typing import Dict, Iterator, List, Mapping
 
@@ -35,6 +34,7 @@ from vidlakost_tools.pages import debian, installing, trusted_pages, unpacking
 from vidlakost_tools.pages.debian import PROGRAM
 from vidlakost_tools.pages.spec_graph import Graph
 from vidlakost_tools.program import ROOT, UNPROVED, proof_of, quick_program, version
+from vidlakost_tools.temporary import folder_of_its_own
 from vidlakost_tools.text import lines_of, read_text, shown
 from vidlakost_tools.tool import ToolError, words_of
 
@@ -221,7 +221,7 @@ def package_of(path: pathlib.Path, files: Mapping[str, tuple[bytes, bool]], unpr
 def write_deb(unproved: bool) -> None:
     """The Debian package of the same files."""
     path = deb_path(unproved)
-    with bounded.folder_of_its_own() as folder:
+    with folder_of_its_own() as folder:
         package_of(folder / path.name, tree(unproved), unproved)
         installing.put(path, (folder / path.name).read_bytes(), False)
     for line in debian.complaints(path):
@@ -312,8 +312,7 @@ def try_calls(
 def check(unproved: bool) -> int:
     """Looks at the sums of the archive, of its files and of the package first, and runs nothing of another one. Then it
     unpacks the archive and tries it without the kit, and an installation from there."""
-    with tempfile.TemporaryDirectory() as name:
-        folder = pathlib.Path(name)
+    with folder_of_its_own() as folder:
         environment = without_kit(folder)
         if shutil.which("rt", path=environment["PATH"]):
             raise ToolError("the kit is on each PATH that could be tried")
