@@ -91,7 +91,7 @@ def written(name: str) -> list[int]:
 def version() -> tuple[str, str, str]:
     """The version, the date and the commit of this checkout, or of the release that this is."""
     release = ROOT / "RELEASE"
-    if release.exists():
+    if release.is_file():
         found = re.match(r"vidlakost (\S+)\ncommit (\S+), (\S+)\n", read_described(release))
         if found is None:
             raise ToolError(f"{release} is not as a release has it: its first lines say no version and no commit", 125)
@@ -172,7 +172,7 @@ def is_proved(program: str | None, named: bool) -> bool:
     proof left the file `kit` beside it, or if it belongs to a release."""
     release = ROOT / "RELEASE"
     own = ROOT / "libexec" / "vidlakost"
-    if release.exists() and (not named or program is not None and pathlib.Path(program).resolve() == own.resolve()):
+    if release.is_file() and (not named or program is not None and pathlib.Path(program).resolve() == own.resolve()):
         return program is not None and UNPROVED not in read_described(release)
     return program is not None if not named else proof_of(program or "") is not None
 
