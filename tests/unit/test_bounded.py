@@ -15,6 +15,7 @@ from tests.unit.signals import as_at_a_terminal
 from vidlakost_tools import bounded
 from vidlakost_tools.bounded import Bounds, Call, Stopped
 from vidlakost_tools.program import ROOT
+from vidlakost_tools.temporary import folder_of_its_own
 from vidlakost_tools.tool import ToolError
 
 # a program that begins another, which begins a third, and waits for them
@@ -136,13 +137,13 @@ class Left(unittest.TestCase):
 
     def test_folder_goes_without_rights(self) -> None:
         """Also where the program took the right to write from folders in it."""
-        with bounded.folder_of_its_own() as own:
+        with folder_of_its_own() as own:
             script = "mkdir -p a/b/c && : >a/b/c/d && chmod 0 a/b/c a/b && chmod 500 a"
             bounded.run(Call(["sh", "-c", script], folder=own, only=own))
             self.assertEqual(os.listdir(own), ["a"])
         self.assertEqual(os.listdir(self.folder), [])
 
     def test_folder_goes_behind_an_error(self) -> None:
-        with self.assertRaises(ZeroDivisionError), bounded.folder_of_its_own():
+        with self.assertRaises(ZeroDivisionError), folder_of_its_own():
             raise ZeroDivisionError
         self.assertEqual(os.listdir(self.folder), [])

@@ -1,4 +1,5 @@
-"""What ends with a tool: the program that it called, by whatever signal the tool ends; and what a killed page left."""
+"""What ends with a tool: the program that it called, by whatever signal the tool ends; and what a killed tool
+left."""
 from __future__ import annotations
 
 import os
@@ -13,8 +14,7 @@ from typing import Any
 from unittest import mock
 
 from tests.unit.signals import as_at_a_terminal
-from vidlakost_tools import bounded
-from vidlakost_tools.explorer import left
+from vidlakost_tools import bounded, temporary
 from vidlakost_tools.program import ROOT
 
 # a program that begins another one, as the launcher does, and says its number
@@ -108,23 +108,77 @@ class Ended(unittest.TestCase):
         self.assertEqual(started[0].returncode, -signal.SIGKILL)
 
 
+HOLD = """
+import sys, time
+from vidlakost_tools.temporary import folder_of_its_own
+with folder_of_its_own() as folder:
+    (folder / "file").write_text("x")
+    print(folder, flush=True)
+    time.sleep(300)
+"""
+
+
 class Left(unittest.TestCase):
-    def test_folders_of_a_killed_page_go(self) -> None:
-        gone = subprocess.Popen(["true"])
-        gone.wait()
-        with tempfile.TemporaryDirectory() as name:
-            top = pathlib.Path(name)
-            ours = top / f"vidlakost-explore-{gone.pid}-abcdef12"
-            theirs = [f"vidlakost-explore-{os.getpid()}-abcdef12", "vidlakost-explore-notes", "vidlakost-explore-1-x"]
-            for path in (ours, *(top / other for other in theirs)):
-                path.mkdir()
-                (path / "file").write_text("x")
-            link = top / f"vidlakost-explore-{gone.pid}-abcdef34"
-            link.symlink_to(top / theirs[1])
-            with mock.patch.object(tempfile, "gettempdir", return_value=name):
-                left.sweep()
-            self.assertEqual(sorted(os.listdir(top)), sorted([*theirs, link.name]))
-            self.assertTrue((top / theirs[1] / "file").exists())
+    def setUp(self) -> None:
+        made = tempfile.TemporaryDirectory()
+        self.addCleanup(made.cleanup)
+        self.top = pathlib.Path(made.name).resolve()
+        as_at_a_terminal(self)
+
+    def holder(self, begin: str = "") -> tuple[subprocess.Popen[str], pathlib.Path]:
+        """A process with a temporary folder, and that folder."""
+        environment = {**os.environ, "TMPDIR": str(self.top), "PYTHONPATH": str(ROOT / "tools")}
+        words = [sys.executable, "-c", f"{begin}\n{HOLD}"]
+        process = subprocess.Popen(words, env=environment, stdout=subprocess.PIPE, text=True)
+        assert process.stdout is not None
+        self.addCleanup(process.stdout.close)
+        self.addCleanup(process.wait)
+        self.addCleanup(process.kill)
+        return process, pathlib.Path(process.stdout.readline().rstrip("\n"))
+
+    def test_folders_of_a_killed_tool_go(self) -> None:
+        killed, left = self.holder()
+        killed.kill()
+        killed.wait()
+        self.assertTrue((left / "file").exists())
+        theirs = ["vidlakost-held-notes", "vidlakost-0123456789abcdef", "tmp0"]
+        for name in theirs:
+            (self.top / name).mkdir()
+        link = self.top / "vidlakost-held-0123456789abcdef"
+        link.symlink_to(self.top / theirs[0])
+        _, held = self.holder()
+        self.assertEqual(sorted(os.listdir(self.top)), sorted([*theirs, link.name, held.name]))
+        # a process that runs keeps its own
+        _, other = self.holder()
+        self.assertTrue((held / "file").exists() and (other / "file").exists())
+
+    def test_folders_of_others_stay(self) -> None:
+        (self.top / "vidlakost-held-0123456789abcdef").mkdir()
+        with mock.patch.object(os, "geteuid", return_value=os.geteuid() + 1):
+            temporary.sweep(self.top)
+        self.assertEqual(os.listdir(self.top), ["vidlakost-held-0123456789abcdef"])
+
+    def test_signal_that_comes_while_a_folder_is_made_or_removed(self) -> None:
+        for step in ("secrets.token_hex", "pathlib.Path.mkdir", "pathlib.Path.rename", "shutil.rmtree"):
+            with self.subTest(step):
+                begin = f"""
+import os, pathlib, secrets, shutil, signal
+from vidlakost_tools import tool
+signal.signal(signal.SIGTERM, tool.stop)
+inner, once = {step}, []
+def outer(*words, **options):
+    done = inner(*words, **options) if {step != "shutil.rmtree"} else None
+    if not once:
+        once.append(1)
+        os.kill(os.getpid(), signal.SIGTERM)
+    return done if {step != "shutil.rmtree"} else inner(*words, **options)
+{step} = outer
+"""
+                ended, _ = self.holder(begin)
+                if step == "shutil.rmtree":
+                    ended.send_signal(signal.SIGTERM)
+                self.assertEqual(ended.wait(20), 128 + signal.SIGTERM)
+                self.assertEqual(os.listdir(self.top), [])
 
 
 if __name__ == "__main__":

@@ -54,13 +54,17 @@ class Launcher(unittest.TestCase):
         path.write_text(KIT.format(more))
         path.chmod(0o755)
 
-    def call(self, *words: str, umask: int = 0o022, files: int = 0, **changed: str) -> subprocess.CompletedProcess[str]:
+    def call(
+        self, *words: str, umask: int = 0o022, files: int = 0, sizes: int = 0, **changed: str
+    ) -> subprocess.CompletedProcess[str]:
         kept = {name: value for name, value in os.environ.items() if not name.startswith("VIDLAKOST")}
 
         def prepare() -> None:
             os.umask(umask)
             if files:
                 resource.setrlimit(resource.RLIMIT_NOFILE, (files, files))
+            if sizes:
+                resource.setrlimit(resource.RLIMIT_FSIZE, (sizes, sizes))
 
         return subprocess.run(
             ["bash", str(self.root / "vidlakost"), *words],
@@ -292,6 +296,55 @@ class Launcher(unittest.TestCase):
         (self.build / "seen").write_text("\n")
         done = self.call("--program", PATH=str(few))
         self.assertEqual(done.stdout, "")
+
+    def test_a_pipe_for_its_release_is_none(self) -> None:
+        self.plant()
+        os.mkfifo(self.root / "RELEASE")
+        (self.root / "crates.txt").unlink()
+        done = self.call("bench")
+        self.assertEqual(done.returncode, 125)
+        self.assertIn("this release has no program", done.stderr)
+
+    def named(self) -> str:
+        self.program.parent.mkdir(exist_ok=True)
+        self.program.write_text(PROGRAM)
+        self.program.chmod(0o755)
+        return str(self.program)
+
+    def test_names_that_can_not_be_told_are_no_verdict(self) -> None:
+        """A status of 1 would say that something escapes."""
+        shutil.copytree(ROOT / "tools", self.root / "tools")
+        gone = self.root / "gone"
+        gone.mkdir()
+        script = f"rmdir ../gone && exec bash {shlex.quote(str(self.root / 'vidlakost'))} judge a b c"
+        words = ["bash", "-c", script]
+        done = subprocess.run(
+            words,
+            cwd=gone,
+            env={**os.environ, "VIDLAKOST_PROGRAM": self.named(), "VIDLAKOST_EXPLAIN": "0"},
+            stdout=subprocess.PIPE,
+            stderr=subprocess.PIPE,
+            text=True,
+            check=False,
+        )
+        self.assertEqual((done.returncode, done.stdout), (125, ""), done.stderr)
+        self.assertIn("vidlakost: readlink gives no whole names", done.stderr)
+
+    def test_modules_of_the_callers_folder_are_not_taken(self) -> None:
+        (self.root / "tools").mkdir()
+        tool = self.root / "tools" / "trace"
+        tool.write_text("#!/usr/bin/env python3\nimport json\nprint(json.dumps('ours'))\n")
+        tool.chmod(0o755)
+        (self.root / "json.py").write_text("print('planted')\ndumps = str\n")
+        for path in ("", ":/x", ".", str(self.root)):
+            self.assertEqual(self.call("trace", PYTHONPATH=path).stdout, '"ours"\n', path)
+
+    def test_a_limit_of_files_is_told_to_the_program(self) -> None:
+        """It writes as much as it may then, and says so, where a signal would end it without a word."""
+        program = self.named()
+        pathlib.Path(program).write_text("#!/bin/bash\necho {1..9999} >more 2>/dev/null || echo write failed 3\n")
+        done = self.call("bench", sizes=1024, VIDLAKOST_PROGRAM=program)
+        self.assertEqual(done.stdout, "write failed 3\n", done.stderr)
 
     def test_few_files(self) -> None:
         self.program.parent.mkdir()

@@ -2,8 +2,10 @@
 from __future__ import annotations
 
 import contextlib
+import gzip
 import hashlib
 import io
+import os
 import pathlib
 import shutil
 import subprocess
@@ -52,7 +54,11 @@ class Installation(unittest.TestCase):
             shutil.copytree(ROOT / "tools" / "vidlakost_tools", home / "tools" / "vidlakost_tools")
             shutil.copy(ROOT / "tools" / "release", home / "tools")
             (home / "RELEASE").write_text("vidlakost 1\ncommit a, b\n")
-            sums = [f"{sum_of((home / one).read_bytes())}  {one}\n" for one in ("RELEASE", "tools/release")]
+            (home / "libexec").mkdir()
+            for one in (PROGRAM, "vidlakost"):
+                (home / one).write_text("program\n")
+            listed = (PROGRAM, "RELEASE", "tools/release", "vidlakost")
+            sums = [f"{sum_of((home / one).read_bytes())}  {one}\n" for one in listed]
             (home / "SHA256SUMS").write_text("".join([*sums, "0  share/man/man1/vidlakost.1\n"]))
             (home / "mine.txt").write_text("mine\n")
             for _ in range(2):
@@ -60,7 +66,7 @@ class Installation(unittest.TestCase):
                 subprocess.run(words, cwd=home, check=True, stdout=subprocess.DEVNULL)
             files = [path.relative_to(home / "local") for path in (home / "local").rglob("*") if path.is_file()]
             kept = pathlib.Path("lib", "vidlakost")
-            self.assertEqual(sorted(files), [kept / "RELEASE", kept / "SHA256SUMS", kept / "tools" / "release"])
+            self.assertEqual(sorted(files), sorted([pathlib.Path("bin", "vidlakost"), *(kept / one for one in (*listed, "SHA256SUMS"))]))
             (home / "tools" / "release").write_text("another\n")
             done = subprocess.run(
                 [sys.executable, "-c", f"import sys; sys.argv = ['release', '--prefix', 'again']; exec({RELEASE!r})"],
@@ -100,7 +106,35 @@ class Unpacked(unittest.TestCase):
         self.put(pack(released(), 0, TOP), pack(released(), 1, TOP))
         self.refused("is not the archive whose sum stands beside it")
         self.path.with_name(self.path.name + ".sha256").unlink()
-        self.refused("is not the archive whose sum stands beside it")
+        self.refused(".sha256 is not there as a plain file")
+
+    def test_pipes_are_not_waited_for(self) -> None:
+        for name in (self.path.name, self.path.name + ".sha256"):
+            self.put(pack(released(), 0, TOP))
+            self.path.with_name(name).unlink()
+            os.mkfifo(self.path.with_name(name))
+            self.refused(f"{name} is not there as a plain file")
+            self.path.with_name(name).unlink()
+
+    def test_what_is_no_archive(self) -> None:
+        whole = pack(released(), 0, TOP)
+        large = tarfile.TarInfo(f"{TOP}/large")
+        large.size = 1 << 40
+        for content in (b"", b"no archive", whole[:-9000], gzip.compress(large.tobuf())):
+            self.put(content)
+            self.refused("is no archive that can be read")
+
+    def test_an_archive_that_unpacks_to_much(self) -> None:
+        self.put(gzip.compress(bytes(99999)))
+        with mock.patch.object(unpacking, "MOST", 9000):
+            self.refused("unpacks to more than 9,000 bytes")
+
+    def test_rights_and_owners_that_no_release_gives(self) -> None:
+        for mode, owner in ((0o4755, 0), (0o777, 0), (0o600, 0), (0o644, 1)):
+            entry = tarfile.TarInfo(f"{TOP}/x")
+            entry.mode, entry.uid = mode, owner
+            self.archive([entry])
+            self.refused("has rights or an owner that no release gives")
 
     def test_files_that_are_not_those_of_the_list(self) -> None:
         changed = released()
@@ -123,7 +157,7 @@ class Unpacked(unittest.TestCase):
                 archive.addfile(entry, io.BytesIO(content))
             for entry in entries:
                 archive.addfile(entry, io.BytesIO(bytes(entry.size)))
-        self.put(whole.getvalue())
+        self.put(gzip.compress(whole.getvalue()))
 
     def test_members_outside(self) -> None:
         for name in ("/etc/x", f"{TOP}/../x", f"{TOP}/a/../../../x", "x", f"{TOP}2/x", f"{TOP}//x", f"{TOP}/./x", TOP):
@@ -228,7 +262,9 @@ class Handed(unittest.TestCase):
 
     def call(self, home: pathlib.Path, *words: str) -> subprocess.CompletedProcess[str]:
         form = [sys.executable, str(home / "tools" / "release"), *words]
-        return subprocess.run(form, cwd=home, stdout=subprocess.PIPE, stderr=subprocess.STDOUT, text=True, check=False)
+        return subprocess.run(
+            form, cwd=home, stdout=subprocess.PIPE, stderr=subprocess.STDOUT, text=True, check=False, timeout=60
+        )
 
     def test_a_list_of_files_outside(self) -> None:
         """A list that names a file outside, with the sum of that file, brings none of it below the prefix or beside."""
@@ -249,6 +285,32 @@ class Handed(unittest.TestCase):
             done = self.call(self.home(name), "--deb")
         self.assertEqual((done.returncode, done.stdout.splitlines()[1:]), (125, []), done.stdout)
         self.assertIn("the release has no libexec/vidlakost", done.stdout)
+
+    def test_a_list_that_is_cut_short_and_files_that_are_none(self) -> None:
+        """Nothing is installed of a list without its end, without a file of the list, or with a pipe in its place."""
+        with tempfile.TemporaryDirectory() as name:
+            home = self.home(name)
+            (home / "libexec").mkdir()
+            for one in (PROGRAM, "vidlakost", "README.md"):
+                (home / one).write_text("text\n")
+            whole = [f"{sum_of((home / one).read_bytes())}  {one}\n" for one in ("README.md", "RELEASE", PROGRAM)]
+            (home / "SHA256SUMS").write_text("".join(whole))
+            self.kept(home, "the release has no vidlakost")
+            (home / "SHA256SUMS").write_text("".join([*whole, f"{sum_of((home / 'vidlakost').read_bytes())}  vidlakost\n"]))
+            self.assertEqual(self.call(home, "--prefix", "whole").returncode, 0)
+            for one in ("README.md", "RELEASE", "SHA256SUMS"):
+                (home / one).rename(home / "aside")
+                os.mkfifo(home / one)
+                self.kept(home, one)
+                (home / one).unlink()
+                self.kept(home, one if one != "RELEASE" else "release: ")
+                (home / "aside").rename(home / one)
+
+    def kept(self, home: pathlib.Path, part: str) -> None:
+        done = self.call(home, "--prefix", "local")
+        self.assertIn(part, done.stdout)
+        self.assertGreater(done.returncode, 0)
+        self.assertFalse((home / "local").exists())
 
     def test_an_archive_is_written_through_no_link(self) -> None:
         """A link in the place of the archive, or of its sum, goes, and what it leads to stays."""

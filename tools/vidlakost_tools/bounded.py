@@ -9,14 +9,13 @@ import pathlib
 import re
 import shutil
 import signal
-import stat
 import subprocess
 import sys
-import tempfile
 import threading
 import time
-from typing import Any, Callable, Iterator, Mapping, Sequence
+from typing import Any, Callable, Mapping, Sequence
 
+from vidlakost_tools.temporary import folder_of_its_own
 from vidlakost_tools.text import lines_of
 from vidlakost_tools.tool import ENDS, ToolError, telling
 
@@ -89,33 +88,6 @@ class Call:
             raise ToolError(f"{self.words[0]} is not on the PATH")
         bounds = [str(self.bounds.memory), str(self.bounds.output), ",".join(WAYS), str(self.only or "")]
         return [sys.executable, "-I", "-S", str(CHILD), *bounds, os.path.abspath(program), *self.words[1:]]
-
-
-def remove(path: pathlib.Path) -> None:
-    """Removes a folder, also where a program took rights away in it, or is still ending there."""
-
-    for pause in (0, 0.01, 0.05, 0.2, 1):
-        time.sleep(pause)
-        shutil.rmtree(path, ignore_errors=True)
-        if not path.exists():
-            return
-        with contextlib.suppress(OSError):
-            os.chmod(path, stat.S_IRWXU)
-        for place, folders, _ in os.walk(path):
-            for inner in (os.path.join(place, name) for name in folders):
-                with contextlib.suppress(OSError):
-                    if not os.path.islink(inner):
-                        os.chmod(inner, stat.S_IRWXU)
-
-
-@contextlib.contextmanager
-def folder_of_its_own(inside: pathlib.Path | None = None) -> Iterator[pathlib.Path]:
-    """A temporary folder that goes whatever happens."""
-    path = pathlib.Path(tempfile.mkdtemp(prefix="vidlakost-", dir=inside)).resolve()
-    try:
-        yield path
-    finally:
-        remove(path)
 
 
 def is_over(child: subprocess.Popen[bytes], seconds: float) -> bool:

@@ -9,6 +9,7 @@ import subprocess
 from typing import Callable, TypeVar
 
 from vidlakost_tools import bounded
+from vidlakost_tools.temporary import folder_of_its_own
 from vidlakost_tools.text import LARGE_BYTES, Path, lines_of, read_described, read_text
 from vidlakost_tools.tool import Refused, ToolError
 
@@ -90,7 +91,7 @@ def written(name: str) -> list[int]:
 def version() -> tuple[str, str, str]:
     """The version, the date and the commit of this checkout, or of the release that this is."""
     release = ROOT / "RELEASE"
-    if release.exists():
+    if release.is_file():
         found = re.match(r"vidlakost (\S+)\ncommit (\S+), (\S+)\n", read_described(release))
         if found is None:
             raise ToolError(f"{release} is not as a release has it: its first lines say no version and no commit", 125)
@@ -171,7 +172,7 @@ def is_proved(program: str | None, named: bool) -> bool:
     proof left the file `kit` beside it, or if it belongs to a release."""
     release = ROOT / "RELEASE"
     own = ROOT / "libexec" / "vidlakost"
-    if release.exists() and (not named or program is not None and pathlib.Path(program).resolve() == own.resolve()):
+    if release.is_file() and (not named or program is not None and pathlib.Path(program).resolve() == own.resolve()):
         return program is not None and UNPROVED not in read_described(release)
     return program is not None if not named else proof_of(program or "") is not None
 
@@ -201,10 +202,8 @@ def ask(*words: object) -> str:
 
 def with_text(text: str, use: Callable[[pathlib.Path], Answer]) -> Answer:
     """What `use` answers for a file that holds the text during the call."""
-    import tempfile
-
-    with tempfile.TemporaryDirectory() as folder:
-        path = pathlib.Path(folder) / "text"
+    with folder_of_its_own() as folder:
+        path = folder / "text"
         path.write_text(text, encoding="utf-8")
         return use(path)
 
@@ -225,9 +224,7 @@ def take_module(path: Path, text: str) -> None:
 
 def vectors_of(march: Path, memory: Path) -> list[str]:
     """The lines of `vectors`; a refused march or memory becomes an exception."""
-    import tempfile
-
-    with tempfile.TemporaryDirectory() as folder:
-        path = pathlib.Path(folder) / "vectors"
+    with folder_of_its_own() as folder:
+        path = folder / "vectors"
         ask("vectors", march, memory, path)
         return lines_of(read_text(path, LARGE_BYTES))

@@ -17,6 +17,7 @@ from vidlakost_tools.audit.pins import INPUTS, Pins
 from vidlakost_tools.audit.rule_vectors import Row, Rule, rows
 from vidlakost_tools.audit.stretches import BEHIND, LONG
 from vidlakost_tools.program import with_text
+from vidlakost_tools.temporary import folder_of_its_own
 from vidlakost_tools.text import SOURCE_BYTES, lines_of, read_described, shown, template
 from vidlakost_tools.verilog import open_run
 from vidlakost_tools.verilog.front_end import Plain
@@ -243,7 +244,7 @@ def beside(asked: BesideVhdl, nonce: str) -> Seen:
     bench = Bench(asked, ports_of(asked), nonce)
     cycles, unknown, doubt = 0, -1, None
     for seed in asked.seeds:
-        with bounded.folder_of_its_own() as folder:
+        with folder_of_its_own() as folder:
             with open(folder / "vectors", "w", encoding="ascii") as file:
                 lines = (f"{bench.line(row)}\n" for row in asked.vectors(seed))
                 for part in iter(lambda: list(itertools.islice(lines, 4096)), []):

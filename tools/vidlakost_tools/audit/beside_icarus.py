@@ -13,6 +13,7 @@ from typing import Callable
 from vidlakost_tools import bounded
 from vidlakost_tools.audit.pins import Pins
 from vidlakost_tools.audit.stretches import Whole
+from vidlakost_tools.temporary import folder_of_its_own
 from vidlakost_tools.text import shown, template
 from vidlakost_tools.texts.memory import Memory
 from vidlakost_tools.tool import ToolError
@@ -308,7 +309,7 @@ def beside(asked: Beside) -> Seen:
         raise Unclocked("Icarus (iverilog and vvp) is not on the PATH", 1)
     refuse_sources(asked.files)
     refuse_asking(asked.files)
-    with bounded.folder_of_its_own() as folder:
+    with folder_of_its_own() as folder:
         made = dataclasses.replace(asked.plain, name="vidlakost_made")
         (folder / "made.v").write_text(made.text(), encoding="utf-8")
         (folder / "cells.v").write_text(asked.known(), encoding="utf-8")

@@ -10,6 +10,7 @@ from typing import Iterable
 
 from vidlakost_tools import bounded
 from vidlakost_tools.audit.beside_icarus import Beside, call, compiled
+from vidlakost_tools.temporary import folder_of_its_own
 from vidlakost_tools.text import template
 from vidlakost_tools.verilog import port_judge
 from vidlakost_tools.verilog.port_judge import Cycle
@@ -52,7 +53,7 @@ class Clocked:
 def told(asked: Clocked) -> str:
     """What the run says: `right in ..` or `wrong in cycle ..`."""
     assert asked.beside.memory is not None
-    with bounded.folder_of_its_own() as folder:
+    with folder_of_its_own() as folder:
         judge = port_judge.checker(asked.beside.memory, asked.cycles, asked.beside.plain.top, False, asked.beside.pins)
         texts = {"judge.v": judge, "cells.v": asked.beside.known()}
         for part, text in texts.items():

@@ -8,13 +8,13 @@ import re
 import shlex
 import subprocess
 import sys
-import tempfile
 from typing import Any
 
 from vidlakost_tools.audit import fail_lanes as lanes, fail_search, late_end, late_start, why_unknown
 from vidlakost_tools.audit.gates import Machine, gates_of
 from vidlakost_tools.audit.pins import Pins, ports_of, proposed, told_ports
 from vidlakost_tools.program import ROOT, run
+from vidlakost_tools.temporary import folder_of_its_own
 from vidlakost_tools.text import INPUT_BYTES, visible
 from vidlakost_tools.texts.march import Element
 from vidlakost_tools.texts.memory import Memory
@@ -108,8 +108,8 @@ def refuse_ports(audit: Audit, plain: Plain) -> None:
 
 def checked(audit: Audit, plain: Plain) -> str:
     """The line of `check` for a module."""
-    with tempfile.TemporaryDirectory() as name:
-        file = pathlib.Path(name) / "module.v"
+    with folder_of_its_own() as folder:
+        file = folder / "module.v"
         file.write_text(plain.text(), encoding="utf-8")
         words = ["check", str(file), audit.march, audit.memory_file]
         with telling("`check` clocks the module", lambda: f"a test of {len(audit.commands()):,} cycles"):

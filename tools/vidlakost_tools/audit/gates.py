@@ -3,9 +3,9 @@ numbers, the lanes in which it is 1 and those in which it is 0."""
 from __future__ import annotations
 
 import pathlib
-import tempfile
 from typing import Any, Callable, Sequence
 
+from vidlakost_tools.temporary import folder_of_its_own
 from vidlakost_tools.tool import ToolError
 from vidlakost_tools.verilog import yosys
 from vidlakost_tools.verilog.front_end import OPEN_X, SIMPLER, Plain
@@ -15,8 +15,7 @@ BINARY = {"$_AND_": "and", "$_OR_": "or", "$_XOR_": "xor", "$_NAND_": "nand", "$
 
 def gates_of(plain: Plain) -> dict[str, Any]:
     """The module as gates, made by Yosys of the text that `check` reads."""
-    with tempfile.TemporaryDirectory() as name:
-        folder = pathlib.Path(name)
+    with folder_of_its_own() as folder:
         source, out = folder / "plain.v", folder / "gates.json"
         source.write_text(plain.text())
         yosys.run(

@@ -8,9 +8,8 @@ import random
 import re
 import subprocess
 import sys
-import tempfile
-
 from vidlakost_tools.program import ROOT, ask, run
+from vidlakost_tools.temporary import folder_of_its_own
 from vidlakost_tools.texts.random_cases import changed, random_case
 
 # the lines of a module on which `fail` hangs alone
@@ -53,8 +52,7 @@ def compare(number: int, chance: random.Random) -> int:
     """Both say the same of each module that `audit` knows: that it is right, or that it is wrong."""
     wrong = 0
     said_of: collections.Counter[str] = collections.Counter()
-    with tempfile.TemporaryDirectory() as name:
-        folder = pathlib.Path(name)
+    with folder_of_its_own() as folder:
         files = [folder / word for word in ("module.v", "march", "memory")]
         for _ in range(number):
             for path, text in zip(files[1:], random_case(chance)):

@@ -16,9 +16,10 @@ import pathlib
 import threading
 import webbrowser
 
-from vidlakost_tools.explorer import answers, kept, left
+from vidlakost_tools.explorer import answers, kept
 from vidlakost_tools.explorer.search import Searches
 from vidlakost_tools.explorer.server import Explorer
+from vidlakost_tools.temporary import folder_of_its_own
 from vidlakost_tools.text import shown
 from vidlakost_tools.tool import ToolError, number_of, tell, words_of
 
@@ -78,11 +79,10 @@ def main(arguments: list[str]) -> int:
     if port > 65535:
         raise ToolError(f"--port is at most 65535, and not {port}")
     searches = Searches()
-    left.sweep()
-    with left.folder() as folder, server_of(words, port, searches) as server:
+    with folder_of_its_own() as folder, server_of(words, port, searches) as server:
         print(server.address, flush=True)
         if "--open" in options:
-            open_in_browser(server.address, pathlib.Path(folder))
+            open_in_browser(server.address, folder)
         try:
             server.serve_forever()
         except KeyboardInterrupt:

@@ -29,7 +29,6 @@ import dataclasses
 import pathlib
 import random
 import re
-import tempfile
 from typing import Any, Iterator, Mapping, Sequence
 
 from vidlakost_tools.audit import witness
@@ -39,6 +38,7 @@ from vidlakost_tools.audit.rule_vectors import Rule
 from vidlakost_tools.audit.stretches import of_test
 from vidlakost_tools.audit.witness import SIMULATED
 from vidlakost_tools.program import ask
+from vidlakost_tools.temporary import folder_of_its_own
 from vidlakost_tools.text import Path, read_described
 from vidlakost_tools.texts.march import march_of
 from vidlakost_tools.texts.memory import Memory, parse_memory
@@ -181,8 +181,8 @@ def judge(
     """Where a module differs from the list of its commands; None if it differs nowhere."""
     memory, cycles = port_judge.cycles_of(march, memory_file)
     options = options or {}
-    with tempfile.TemporaryDirectory() as name:
-        folder, resets = pathlib.Path(name), "--resets" in options
+    with folder_of_its_own() as folder:
+        resets = "--resets" in options
         sources = yosys.read(*verilog_of(list(map(str, files)), options, folder), folder)
         pins = read_pins(options["--pins"]).complete(sources.module["ports"]) if options.get("--pins") else None
         refuse_ports(sources.module, memory, pins)
@@ -215,8 +215,7 @@ def compiled(march: Path, memory_file: Path, folder: pathlib.Path) -> pathlib.Pa
 def judge_case(
     march_text: str, memory_text: str, change: tuple[str, str, str] | None = None, resets: bool = False
 ) -> str | None:
-    with tempfile.TemporaryDirectory() as name:
-        folder = pathlib.Path(name)
+    with folder_of_its_own() as folder:
         march, memory = folder / "march", folder / "memory"
         march.write_text(march_text)
         memory.write_text(memory_text)

@@ -54,6 +54,7 @@ from vidlakost_tools.in_place.files import depth_in
 from vidlakost_tools.in_place.place_list import Places, inputs_of, read_places
 from vidlakost_tools.in_place.places_bench import ChipBench
 from vidlakost_tools.in_place.sequencer import PlaceTarget, of_places
+from vidlakost_tools.temporary import folder_of_its_own
 from vidlakost_tools.text import lines_of, read_described, shown
 from vidlakost_tools.tool import ToolError, refuse_inputs, tell, words_of
 
@@ -112,7 +113,7 @@ def main(arguments: list[str]) -> int:
 def judged(target: PlaceTarget, places: Places, is_alone: bool) -> Outcome:
     """The verdict on the use of the chip."""
     places_proof.refuse_misread([*places.before, *places.sources])
-    with bounded.folder_of_its_own() as folder:
+    with folder_of_its_own() as folder:
         proof = places_proof.Proof(target, places, folder)
         found = proof.differences()
         if places.under[0]:

@@ -26,16 +26,16 @@ import shutil
 import struct
 import subprocess
 import sys
-import tempfile
 import zlib
 from typing import Dict, Iterator, List, Mapping
 
-from vidlakost_tools import bounded
+from vidlakost_tools.folder import Folder
 from vidlakost_tools.pages import debian, installing, trusted_pages, unpacking
 from vidlakost_tools.pages.debian import PROGRAM
 from vidlakost_tools.pages.spec_graph import Graph
 from vidlakost_tools.program import ROOT, UNPROVED, proof_of, quick_program, version
-from vidlakost_tools.text import lines_of, read_text, shown
+from vidlakost_tools.temporary import folder_of_its_own
+from vidlakost_tools.text import shown
 from vidlakost_tools.tool import ToolError, words_of
 
 PARTS = ["README.md", "CHANGELOG.md", "SECURITY.md", "docs", "examples", "tools", "vidlakost"]
@@ -109,12 +109,21 @@ def below(parts: list[str]) -> list[str]:
 
 
 def packed() -> list[str]:
-    """The files of this release, and none that somebody put beside them. An installation has some of them elsewhere."""
-    names = ["SHA256SUMS", *(line.partition("  ")[2] for line in lines_of(read_text(ROOT / "SHA256SUMS")))]
+    """The files of this release, and none that somebody put beside them. Each file of the list has to be there, but for
+    those that an installation has elsewhere. The launcher is the last one of a list, so that none is cut short."""
+    with Folder(ROOT) as folder:
+        text = folder.text(unpacking.LIST)
+    if text is None:
+        raise ToolError(f"{ROOT / unpacking.LIST} is not there as a plain file, so nothing is done", 1)
+    names = [unpacking.LIST, *unpacking.sums_of(text)]
     outside = next((name for name in names if not unpacking.is_inside(name)), None)
     if outside is not None:
         raise ToolError(f"{shown(outside)} of the list SHA256SUMS lies outside of the release, so nothing is done", 1)
-    return [name for name in sorted(names) if (ROOT / name).is_file()]
+    there = [name for name in sorted(names) if (ROOT / name).is_file()]
+    for name in (PROGRAM, "RELEASE", "vidlakost", *names):
+        if name not in there and name not in MADE or name not in names:
+            raise ToolError(f"the release has no {name}, or {unpacking.LIST} does not list it, so nothing is done", 125)
+    return there
 
 
 def refuse_changed(files: Mapping[str, tuple[bytes, bool]]) -> None:
@@ -221,7 +230,7 @@ def package_of(path: pathlib.Path, files: Mapping[str, tuple[bytes, bool]], unpr
 def write_deb(unproved: bool) -> None:
     """The Debian package of the same files."""
     path = deb_path(unproved)
-    with bounded.folder_of_its_own() as folder:
+    with folder_of_its_own() as folder:
         package_of(folder / path.name, tree(unproved), unproved)
         installing.put(path, (folder / path.name).read_bytes(), False)
     for line in debian.complaints(path):
@@ -312,8 +321,7 @@ def try_calls(
 def check(unproved: bool) -> int:
     """Looks at the sums of the archive, of its files and of the package first, and runs nothing of another one. Then it
     unpacks the archive and tries it without the kit, and an installation from there."""
-    with tempfile.TemporaryDirectory() as name:
-        folder = pathlib.Path(name)
+    with folder_of_its_own() as folder:
         environment = without_kit(folder)
         if shutil.which("rt", path=environment["PATH"]):
             raise ToolError("the kit is on each PATH that could be tried")

@@ -14,10 +14,10 @@ import pathlib
 import re
 import shutil
 import sys
-import tempfile
 from typing import Any, Iterator
 
 from vidlakost_tools.program import ask
+from vidlakost_tools.temporary import folder_of_its_own
 from vidlakost_tools.texts.march import Element, march_of
 from vidlakost_tools.texts.memory import read_memory
 from vidlakost_tools.tool import ToolError, words_of
@@ -26,8 +26,7 @@ from vidlakost_tools.verilog.yosys import gates_of
 
 def cells_of(march: str, memory_file: str) -> tuple[int, int]:
     """The number of cells and of flip-flops that Yosys needs for a self-test."""
-    with tempfile.TemporaryDirectory() as name:
-        folder = pathlib.Path(name)
+    with folder_of_its_own() as folder:
         (folder / "list").write_text("")
         ask("compile", march, memory_file, folder / "list", folder / "module.v", folder / "report")
         gates = gates_of(folder / "module.v", "AND,OR,XOR,MUX")

@@ -53,7 +53,6 @@ Each macro then has one bit of fail, even for a word of two memories. Each memor
 from __future__ import annotations
 
 import pathlib
-import tempfile
 from typing import Any, Mapping
 
 from vidlakost_tools.access.logs import log_depth
@@ -71,6 +70,7 @@ from vidlakost_tools.files import is_own, refuse_twins, write_own
 from vidlakost_tools.in_place import files as in_place_files
 from vidlakost_tools.in_place.sequencer import of_places
 from vidlakost_tools.program import ask
+from vidlakost_tools.temporary import folder_of_its_own
 from vidlakost_tools.text import LARGE_BYTES, read_text
 from vidlakost_tools.texts.chip import read_chip
 from vidlakost_tools.tool import ToolError, tell, usage_of, words_of
@@ -116,14 +116,14 @@ def chips(system: System, path: str, folder: pathlib.Path) -> dict[str, str]:
         soc.place_chip(system, path)
         return {f"{system.name}.v": made_by_chip(path)}
     texts: dict[str, str] = {}
-    with tempfile.TemporaryDirectory() as name:
+    with folder_of_its_own() as folder:
         for number, parts in enumerate(soc.place_list(system)):
             for part in parts:
                 if part.number is not None:
                     texts[f"{part.name}.mem"] = soc.description_of(part)
-                    (pathlib.Path(name) / f"{part.name}.mem").write_text(texts[f"{part.name}.mem"], encoding="utf-8")
-            file = pathlib.Path(name) / f"{number}.chip"
-            file.write_text(chip_file(system, number, parts, pathlib.Path(name)), encoding="utf-8")
+                    (folder / f"{part.name}.mem").write_text(texts[f"{part.name}.mem"], encoding="utf-8")
+            file = folder / f"{number}.chip"
+            file.write_text(chip_file(system, number, parts, folder), encoding="utf-8")
             texts[f"{system.name_of(number)}.chip"] = chip_file(system, number, parts, folder)
             texts[f"{system.name_of(number)}.v"] = made_by_chip(str(file))
             system.chips.append(read_chip(file))
@@ -143,8 +143,8 @@ def file_of(part: soc.Part, folder: pathlib.Path) -> str:
 
 def made_by_chip(path: str) -> str:
     """The text that `chip` writes."""
-    with tempfile.TemporaryDirectory() as name:
-        file = pathlib.Path(name) / "chip.v"
+    with folder_of_its_own() as folder:
+        file = folder / "chip.v"
         ask("chip", path, file)
         return read_text(file, LARGE_BYTES)
 

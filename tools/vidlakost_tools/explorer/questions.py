@@ -1,13 +1,14 @@
 """The page's questions: their texts as files for the program, and the refusals of these."""
 from __future__ import annotations
 
+import contextlib
 import os
 import pathlib
 import re
 from typing import Any, Callable, Dict
 
-from vidlakost_tools.explorer import left
 from vidlakost_tools.refusals import explained as diagnose
+from vidlakost_tools.temporary import folder_of_its_own
 from vidlakost_tools.tool import Refused
 
 
@@ -40,14 +41,14 @@ class Folder:
     """A folder for one question, in which each text is a file with the name of its kind."""
 
     def __init__(self) -> None:
-        self.held = left.folder()
-        self.path = pathlib.Path(self.held.name)
+        self.held = contextlib.ExitStack()
+        self.path = self.held.enter_context(folder_of_its_own())
 
     def __enter__(self) -> Folder:
         return self
 
     def __exit__(self, *ended: object) -> None:
-        self.held.cleanup()
+        self.held.close()
 
     def put(self, name: str, text: str) -> pathlib.Path:
         path = self.path / name

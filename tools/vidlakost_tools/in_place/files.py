@@ -5,8 +5,6 @@ from __future__ import annotations
 import collections
 import pathlib
 import re
-import tempfile
-
 from vidlakost_tools.chip.system import Part, Placed, System
 from vidlakost_tools.collar.model import boxes
 from vidlakost_tools.collar.names import MARK
@@ -18,6 +16,7 @@ from vidlakost_tools.in_place.due import Due
 from vidlakost_tools.in_place.sequencer import PlaceTarget, Sequencer, length
 from vidlakost_tools.in_place.text import KEEPS, InPlace, kind_of
 from vidlakost_tools.program import ask
+from vidlakost_tools.temporary import folder_of_its_own
 from vidlakost_tools.text import LARGE_BYTES, read_text
 from vidlakost_tools.tool import ToolError
 
@@ -64,8 +63,7 @@ def bases(system: System) -> list[Part]:
 def controllers(system: System) -> dict[str, str]:
     """What `compile` writes of each memory; what its march covers is a matter of its report."""
     made = {}
-    with tempfile.TemporaryDirectory() as name:
-        folder = pathlib.Path(name)
+    with folder_of_its_own() as folder:
         (folder / "none.list").write_text("", encoding="utf-8")
         for part in bases(system):
             module = folder / "module.v"

@@ -14,6 +14,7 @@ from vidlakost_tools import bounded
 from vidlakost_tools.audit.beside_icarus import Differs, Unclocked, call, compiled, refuse_sources
 from vidlakost_tools.collar.pins import literal
 from vidlakost_tools.in_place.places_proof import Proof, Side
+from vidlakost_tools.temporary import folder_of_its_own
 from vidlakost_tools.text import template
 from vidlakost_tools.verilog.syntax import ranged
 
@@ -179,7 +180,7 @@ def compared(proof: Proof, gold: Side, gate: Side) -> tuple[int, str]:
         raise Unclocked("the chip as it was has other clocks, or none", 1)
     said = []
     for chip in chips:
-        with bounded.folder_of_its_own() as folder:
+        with folder_of_its_own() as folder:
             said.append(list(rows(chip.run(folder), nonce)))
     if any(not lines or lines[-1] != ["end"] for lines in said) or len(said[0]) != len(said[1]):
         raise Unclocked("the run in Icarus did not end", 1)

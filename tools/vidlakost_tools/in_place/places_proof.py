@@ -7,7 +7,6 @@ import dataclasses
 import json
 import pathlib
 import re
-import tempfile
 from typing import Any, Mapping
 
 from vidlakost_tools.access import under_tap
@@ -19,6 +18,7 @@ from vidlakost_tools.in_place.place_list import Places
 from vidlakost_tools.in_place.places_first import beginnings_of, other_beginnings, other_blocks
 from vidlakost_tools.in_place.sequencer import PlaceTarget
 from vidlakost_tools.in_place.text import box
+from vidlakost_tools.temporary import folder_of_its_own
 from vidlakost_tools.text import beside, shown, template
 from vidlakost_tools.tool import ToolError
 from vidlakost_tools.verilog import misread, yosys
@@ -253,5 +253,5 @@ def is_tied(gold: Side, pin: Pin, placed: Placed, number: int) -> bool:
 def differences(target: PlaceTarget, places: Places) -> list[str]:
     """What is another in use than it was."""
     refuse_misread([*places.before, *places.sources])
-    with tempfile.TemporaryDirectory() as folder:
-        return Proof(target, places, pathlib.Path(folder)).differences()
+    with folder_of_its_own() as folder:
+        return Proof(target, places, folder).differences()

@@ -8,9 +8,9 @@ import pathlib
 import re
 import shutil
 import subprocess
-import tempfile
 from typing import Mapping
 
+from vidlakost_tools.temporary import folder_of_its_own
 from vidlakost_tools.tool import ToolError
 
 HOME = "usr/lib/vidlakost"
@@ -107,8 +107,8 @@ def package(
     """Writes the package. With one `dpkg-deb` the same files, version and time give the same bytes."""
     if shutil.which("dpkg-deb") is None:
         raise ToolError("dpkg-deb makes a Debian package, and it is not on the PATH")
-    with tempfile.TemporaryDirectory() as name:
-        root = pathlib.Path(name) / "vidlakost"
+    with folder_of_its_own() as folder:
+        root = folder / "vidlakost"
         placed = paths_of(files, version, date)
         lay_out(root, placed)
         size = sum(-len(content) // 1024 * -1 for content, _ in placed.values())

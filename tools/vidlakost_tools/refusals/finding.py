@@ -7,10 +7,10 @@ import difflib
 import pathlib
 import re
 import subprocess
-import tempfile
 from typing import Mapping
 
 from vidlakost_tools.program import quick_program
+from vidlakost_tools.temporary import folder_of_its_own
 
 
 @dataclasses.dataclass
@@ -208,8 +208,7 @@ class Trier:
         begin = max(text.rfind(b"\n", 0, at), text.rfind(b">", 0, at))
         in_primitive = self.is_word or self.kind == "list" and text.rfind(b"<", 0, at) > begin
         kind = "primitive" if in_primitive else self.kind
-        with tempfile.TemporaryDirectory() as name:
-            folder = pathlib.Path(name)
+        with folder_of_its_own() as folder:
             whole = not in_primitive and self.whole_before(folder, text, at)
             if in_primitive:
                 before = text[: at - 1 if text[at - 1 : at] in (b"w", b"r") else at]

@@ -4,9 +4,8 @@ from __future__ import annotations
 import dataclasses
 import os
 import pathlib
-import tempfile
-
 from vidlakost_tools.program import ask, run
+from vidlakost_tools.temporary import folder_of_its_own
 from vidlakost_tools.text import statements
 from vidlakost_tools.texts.march import Element, march_of
 from vidlakost_tools.texts.memory import Memory, read_memory
@@ -76,8 +75,8 @@ def place(chip: Chip) -> None:
 
 def check_with_program(path: str | os.PathLike[str]) -> None:
     """Raises a refusal of the program."""
-    with tempfile.TemporaryDirectory() as folder:
-        status, said = run("chip", path, pathlib.Path(folder) / "chip.v")
+    with folder_of_its_own() as folder:
+        status, said = run("chip", path, folder / "chip.v")
     if status > 1 or status < 0:
         raise Refused(["chip", str(path), "chip.v"], said, status)
 

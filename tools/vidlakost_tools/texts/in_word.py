@@ -4,10 +4,10 @@ from __future__ import annotations
 import dataclasses
 import pathlib
 import re
-import tempfile
 from typing import Dict, Iterator, NoReturn, Union
 
 from vidlakost_tools.program import ask
+from vidlakost_tools.temporary import folder_of_its_own
 from vidlakost_tools.text import Path, lines_of, read_text
 from vidlakost_tools.texts.faults import Primitive, Sense, read_primitive
 from vidlakost_tools.texts.march import Element, elements_of, length_of
@@ -172,8 +172,8 @@ def read_in_word(path: Path) -> InWordReport:
 
 def judged_in_word(march: Path, memory: Path, faults: Path) -> InWordReport:
     """The report of `inword` on a march, a memory and a list."""
-    with tempfile.TemporaryDirectory() as folder:
-        path = pathlib.Path(folder) / "report"
+    with folder_of_its_own() as folder:
+        path = folder / "report"
         ask("inword", march, memory, faults, path)
         return read_in_word(path)
 

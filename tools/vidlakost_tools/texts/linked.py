@@ -4,10 +4,10 @@ from __future__ import annotations
 import dataclasses
 import pathlib
 import re
-import tempfile
 from typing import Iterator
 
 from vidlakost_tools.program import ask
+from vidlakost_tools.temporary import folder_of_its_own
 from vidlakost_tools.text import Path, lines_of, read_text
 from vidlakost_tools.texts.faults import Primitive, Step, read_primitive
 from vidlakost_tools.texts.march import Element, elements_of
@@ -227,8 +227,8 @@ def read_report(path: Path) -> LinkedReport:
 
 def linked(march: Path) -> LinkedReport:
     """The report of `linked` on a march."""
-    with tempfile.TemporaryDirectory() as folder:
-        path = pathlib.Path(folder) / "report"
+    with folder_of_its_own() as folder:
+        path = folder / "report"
         ask("linked", march, path)
         return read_report(path)
 

@@ -5,10 +5,10 @@ import collections
 import dataclasses
 import pathlib
 import re
-import tempfile
 from typing import NoReturn, Protocol, Sequence
 
 from vidlakost_tools.program import ask
+from vidlakost_tools.temporary import folder_of_its_own
 from vidlakost_tools.text import Path, lines_of, read_text
 from vidlakost_tools.texts.faults import Array, read_primitive
 from vidlakost_tools.texts.march import Element, elements_of, length_of
@@ -190,8 +190,8 @@ def read_report(path: Path) -> Report:
 
 def judged(march: Path, faults: Path) -> Report:
     """The report of `judge` on a march and a list."""
-    with tempfile.TemporaryDirectory() as folder:
-        path = pathlib.Path(folder) / "report"
+    with folder_of_its_own() as folder:
+        path = folder / "report"
         ask("judge", march, faults, path)
         return read_report(path)
 

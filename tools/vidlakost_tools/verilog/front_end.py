@@ -6,10 +6,10 @@ from __future__ import annotations
 import dataclasses
 import pathlib
 import re
-import tempfile
 from typing import Any
 
 from vidlakost_tools.audit.pins import Pins
+from vidlakost_tools.temporary import folder_of_its_own
 from vidlakost_tools.text import shown
 from vidlakost_tools.tool import ToolError
 from vidlakost_tools.verilog import clock_tree, known_cells, source_texts, yosys
@@ -81,8 +81,7 @@ def plain_of(
     """The module of the sources, with the ports of the pins where these are told; the first of the tries that gives
     one."""
     yosys.want()
-    with tempfile.TemporaryDirectory() as name:
-        folder = pathlib.Path(name)
+    with folder_of_its_own() as folder:
         named, chosen = verilog_of(files, options, folder)
         sources = sources_of(named, chosen, folder)
         refuse_calls(sources.warnings)

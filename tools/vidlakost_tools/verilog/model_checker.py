@@ -6,10 +6,10 @@ from __future__ import annotations
 import dataclasses
 import pathlib
 import re
-import tempfile
 from typing import Sequence
 
 from vidlakost_tools.audit.fail_lanes import Found, Plan
+from vidlakost_tools.temporary import folder_of_its_own
 from vidlakost_tools.text import template
 from vidlakost_tools.verilog import replayed, yosys
 from vidlakost_tools.verilog.front_end import Plain
@@ -94,8 +94,7 @@ def fail_of(plain: Plain, plan: Plan, gates: int, seconds: float) -> Checked | N
     steps = plan.cycles + BEHIND + plan.late
     if gates * steps > LARGEST or seconds < 1:
         return None
-    with tempfile.TemporaryDirectory() as name:
-        folder = pathlib.Path(name)
+    with folder_of_its_own() as folder:
         module = dataclasses.replace(plain, name="vidlakost_plain")
         (folder / "plain.v").write_text(module.text(), encoding="utf-8")
         (folder / "judge.v").write_text(judge_of(module.name, plan), encoding="utf-8")

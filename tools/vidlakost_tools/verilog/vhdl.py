@@ -8,6 +8,7 @@ import string
 from typing import Any
 
 from vidlakost_tools import bounded
+from vidlakost_tools.temporary import folder_of_its_own
 from vidlakost_tools.text import SOURCE_BYTES, lines_of, read_described
 from vidlakost_tools.tool import ToolError, identifier
 from vidlakost_tools.verilog.vhdl_source import refuse_reaching
@@ -58,7 +59,7 @@ def verilog_of(files: list[str], options: dict[str, Any], folder: pathlib.Path) 
 def synthesized(form: str, names: list[str], top: str, folder: pathlib.Path) -> str:
     """What GHDL makes of an entity, as a text of one of its forms. It may change nothing but what it leaves in a folder
     of its own, since it opens the files that sources name."""
-    with bounded.folder_of_its_own(folder) as own:
+    with folder_of_its_own(folder) as own:
         out = own / "out"
         out.touch()
         words = ["ghdl", "--synth", "--std=08", f"--workdir={own}", f"--out={form}", *names, "-e", top]

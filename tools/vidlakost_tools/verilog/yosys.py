@@ -10,6 +10,7 @@ import shutil
 from typing import Any, Mapping
 
 from vidlakost_tools import bounded
+from vidlakost_tools.temporary import folder_of_its_own
 from vidlakost_tools.text import LARGE_BYTES, Path, beside, lines_of, read_bytes, shown, template
 from vidlakost_tools.tool import ToolError, identifier
 from vidlakost_tools.verilog import known_cells, misread, simulation, two_meanings, unread
@@ -56,7 +57,7 @@ def library_models(options: Mapping[str, Any], texts: list[str]) -> str:
     """The cells of the libraries that texts name, in Verilog, as Yosys reads their functions."""
     if not options.get("--liberty"):
         return ""
-    with bounded.folder_of_its_own() as folder:
+    with folder_of_its_own() as folder:
         run(f"{libraries_of(options)}write_verilog -noattr {quoted(folder / 'cells.v')}\n", folder, "-q")
         written = (folder / "cells.v").read_text(encoding="utf-8", errors="replace")
     named = set(re.findall(r"\w+", " ".join(texts)))
