@@ -16,7 +16,6 @@ from typing import Any, Iterator
 
 from vidlakost_tools.audit.gates import Machine
 from vidlakost_tools.audit.halves import Halves
-from vidlakost_tools.tool import tell
 
 # so many answers have lanes of their own at a time
 RECENT = 8
@@ -96,21 +95,18 @@ class Found:
 
 
 class Clock:
-    """The time that is left, and each ten seconds a line of progress."""
+    """The time that is left, and the cycle that is looked at."""
 
-    def __init__(self, limit: float):
-        self.begin = time.monotonic()
-        self.end, self.next = self.begin + limit, self.begin + 10
+    def __init__(self, limit: float, begin: float | None = None):
+        self.end = (time.monotonic() if begin is None else begin) + limit
+        self.at = ""
 
     def left(self) -> float:
         return self.end - time.monotonic()
 
     def is_over(self, cycle: int, cycles: int) -> bool:
-        now = time.monotonic()
-        if now > self.next:
-            self.next = now + 10
-            tell(f"audit: cycle {cycle} of {cycles} of fail, after {now - self.begin:.0f} seconds")
-        return now > self.end
+        self.at = f"cycle {cycle:,} of {cycles:,}"
+        return self.left() < 0
 
 
 def compare(found: tuple[int, int], live: int, want: int) -> int:

@@ -10,6 +10,7 @@ import shlex
 import subprocess
 import sys
 import tempfile
+import time
 from typing import Any
 
 from vidlakost_tools.audit import fail_lanes as lanes, fail_search, late_end, late_start, why_unknown
@@ -38,6 +39,8 @@ class Audit:
     memory_file: str
     elements: list[Element]
     memory: Memory
+    # when the tool began
+    begin: float = dataclasses.field(default_factory=time.monotonic)
 
     @functools.cached_property
     def all_commands(self) -> list[Any]:
@@ -245,6 +248,13 @@ def end_found(audit: Audit, found: Verdict) -> tuple[str, int]:
 
 
 def fail_found(audit: Audit, found: Verdict, limit: int) -> lanes.Found:
+    """What is found of `fail`, in so many seconds from the start of the tool."""
+    clock = lanes.Clock(limit, audit.begin)
+    with telling("looking at fail", lambda: clock.at):
+        return fail_told(audit, found, clock)
+
+
+def fail_told(audit: Audit, found: Verdict, clock: lanes.Clock) -> lanes.Found:
     commands, memory = audit.commands(), audit.memory
     answers = {
         cycle + memory.latency + found.delay: command[2]
@@ -252,7 +262,7 @@ def fail_found(audit: Audit, found: Verdict, limit: int) -> lanes.Found:
         if command and not command[0]
     }
     is_open = "--reset-open" in audit.options or "fail" in found.in_reset
-    machine, clock = Machine(gates_of(found.plain), ("fail",)), lanes.Clock(limit)
+    machine = Machine(gates_of(found.plain), ("fail",))
     # where the end is late, fail may be so too, and not later than it
     for late in range(found.end_late + 1):
         plan = lanes.Plan(answers, len(commands) + found.delay + found.end_late, memory.bits, 1 if is_open else 0, late)

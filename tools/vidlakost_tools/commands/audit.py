@@ -36,7 +36,8 @@ audit reports in this order:
                              library are clocked as Yosys reads their functions
 --vcd writes the run of `check` to FILE, beside the ports that are due. Every register is open at first, and so is
 every word on rdata. A save file for GTKWave comes with it, at the cycle that was found, unless one of yours is there.
---limit ends the look at `fail` after so many seconds (600); the verdict is then no yes.
+--limit is for the seconds from the start of audit to the end of its look at `fail` (600) and, where you give it, of
+every program that it calls; a verdict without these is no yes. Each ten seconds a line says what audit is doing.
 --no-simulate has no simulator clock the sources.
 --json writes to FILE, for scripts: the verdict, each witness with its version and what it saw, the cycle and the port
 with what is due there and what it is, and the SHA-256 of each input.
@@ -64,6 +65,7 @@ import pathlib
 import random
 from typing import Any
 
+from vidlakost_tools import bounded
 from vidlakost_tools.audit import random_comparison as audit_random, witness
 from vidlakost_tools.audit.fail_lanes import Found
 from vidlakost_tools.audit.findings import (
@@ -199,6 +201,8 @@ def main(arguments: list[str]) -> int:
         raise ToolError(f"{shown(options['--vcd'])} is the name of the save file beside the waveform")
     elements, memory = march_of(march)[1], read_memory(memory_file)
     audit = Audit(files, options, pins, march, memory_file, elements, memory)
+    if "--limit" in options:
+        bounded.LIMITS.append(audit.begin + number_of(options["--limit"], "--limit", 1))
     try:
         outcome = verdict_of(audit)
     except ToolError as error:
