@@ -314,8 +314,8 @@ endmodule
 
     def test_families_and_models_that_are_not_there(self) -> None:
         self.assertEqual(known_cells.cells_of({}, ["SB_DFF"]), "")
-        with self.assertRaisesRegex(ToolError, "^--cells knows ice40: of it SB_LUT4"):
-            known_cells.cells_of({"--cells": "ecp5"}, [])
+        with self.assertRaisesRegex(ToolError, "^--cells knows ice40, of it SB_LUT4"):
+            known_cells.cells_of({"--cells": "xilinx"}, [])
         with self.assertRaisesRegex(ToolError, "^the models of this Yosys have no SB_CARRY that can be read$"):
             self.cells_of(["SB_CARRY u();"])
         with self.assertRaisesRegex(ToolError, "^the models of this Yosys have no SB_LUT4 that can be read$"):

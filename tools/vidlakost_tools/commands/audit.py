@@ -1,13 +1,14 @@
 """A verdict, with its reason, on somebody else's controller in any Verilog.
 
-usage: vidlakost audit VERILOG .. MARCH MEMORY [--top NAME] [--pins FILE] [--liberty LIB] [--cells ice40] [--vcd FILE]
+usage: vidlakost audit VERILOG .. MARCH MEMORY [--top NAME] [--pins FILE] [--liberty LIB] [--cells FAMILY] [--vcd FILE]
                        [--limit SECONDS] [--reset-open] [--no-simulate] [--json FILE] [--fail-late N] [--strict]
        vidlakost audit --random N [--seed S]      random modules with a damaged fail, compared with Yosys' model checker
        vidlakost audit --help
 
 VERILOG is one file or several. If GHDL is installed, they may be VHDL. They may also be a netlist. Then --liberty
 names the library of its cells; it may come several times. For a netlist of ice40 (SB_LUT4, SB_CARRY, SB_GB and the
-flip-flops SB_DFF..), --cells ice40 reads the models in Yosys' own share folder.
+flip-flops SB_DFF..) or ECP5 (LUT4, PFUMX, L6MUX21, CCU2C, TRELLIS_FF ..), --cells ice40 or --cells ecp5 reads the
+models in Yosys' own share folder. Yosys' generic gates need no option.
 A self-test has the ports clk, reset, rdata; en, we, addr, wdata, done, fail. If your pins have other names, --pins
 names a file with a line for each pin (`#` begins a comment):
     clk bist_clk             the pin of a port; a port without a line has the pin of its own name
