@@ -6,7 +6,7 @@ from __future__ import annotations
 
 import dataclasses
 import operator
-from typing import Any, Dict, Hashable, List, Sequence, Tuple
+from typing import Any, Callable, Dict, Hashable, List, Sequence, Tuple
 
 from vidlakost_tools.audit.gates import Machine
 
@@ -57,6 +57,11 @@ class Groups:
         self.count, self.era = 0, self.era + 1
 
 
+def taken(of: Sequence[int]) -> Callable[[list[int]], Any]:
+    """A function to the numbers of some groups."""
+    return operator.itemgetter(*of) if of else lambda numbers: ()
+
+
 class Table:
     """What some bits are, looked up by the numbers of the groups on which they hang, and by the name of the word on
     `rdata` where they hang on that too."""
@@ -65,7 +70,7 @@ class Table:
         self.groups, self.bits, self.of, self.is_of_word = groups, list(bits), list(of), is_of_word
         inputs = [bit for group in self.of for bit in groups.bits[group]]
         self.function, self.gates = machine.function([*inputs, *(machine.words if is_of_word else ())], self.bits)
-        self.key = operator.itemgetter(*of) if of else lambda numbers: ()
+        self.key = taken(of)
         self.most = KEPT // (8 + len(self.bits))
         self.kept: Dict[Hashable, Any] = {}
 
@@ -117,8 +122,8 @@ class Halves:
 
     def reached(self) -> list[Any]:
         """The registers that a word on `rdata` reaches, in some cycles."""
-        mask, found = self.words, []
-        left = list(self.machine.registers)
+        found: list[Any] = []
+        mask, left = self.words, list(self.machine.registers)
         while True:
             more = [bit for bit in left if self.reach.get(self.machine.after(bit), 0) & mask]
             if not more:
@@ -198,7 +203,8 @@ def reach_of(machine: Machine, place: dict[Any, int]) -> dict[Any, int]:
 
 def grouped(machine: Machine, registers: list[Any]) -> list[list[Any]]:
     """Registers by their names; one without a name is a group by itself."""
-    names, found = machine.names(), {}
+    found: dict[Any, list[Any]] = {}
+    names = machine.names()
     for bit in registers:
         found.setdefault(names[bit][0] if bit in names else bit, []).append(bit)
     return list(found.values())
