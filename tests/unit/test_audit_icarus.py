@@ -250,10 +250,25 @@ class Calls(Sources):
         self.assertEqual(kept, {word: {"one"}, "    $deposit(dut.\\bad , {made.bad});": {"two"}})
         self.assertEqual(beside_icarus.known(kept, set(kept)), {"    $deposit(dut.\\kept[1] , {made.kept});": {"one"}})
 
+    def test_long_words_are_set_whole(self) -> None:
+        """Of a word with more than 32 bits Icarus 11 deposits the last 32 alone."""
+        line = beside_icarus.set_to("dut.wide", "{r_1}", 33)
+        self.assertEqual(line, "    dut.wide = {r_1};")
+        self.assertEqual(beside_icarus.escaped(line), "    dut.\\wide  = {r_1};")
+        self.assertEqual(beside_icarus.set_to("dut.word", "{r_1}", 32), "    $deposit(dut.word, {r_1});")
+
     def test_models_of_known_cells_have_no_defaults(self) -> None:
         cells = "module SB_DFF(output Q, input D = 1'b0, input E = 1'b1);"
         made = Beside([], front_end.Plain("m", [], [], [], [], [], {}, None), None, MEMORY, cells)
         self.assertEqual(made.known(), "module SB_DFF(output Q, input D, input E);")
+
+
+WIDE = """module wide(input clk, input reset, output [7:0] first);
+  reg [63:0] turns;
+  assign first = turns[63:56];
+  always @(posedge clk) turns <= {turns[62:0], turns[63]};
+endmodule
+"""
 
 
 @needs("yosys")
@@ -262,6 +277,14 @@ class Registers(unittest.TestCase):
 
     def same(self, text: str) -> dict[str, set[str]]:
         return Beside([], plain_of(text), None, MEMORY).same()
+
+    @needs("iverilog")
+    def test_long_register_is_the_same_in_both(self) -> None:
+        with tempfile.TemporaryDirectory() as name:
+            source = pathlib.Path(name) / "wide.v"
+            source.write_text(WIDE)
+            seen = beside_icarus.beside(Beside([str(source)], front_end.plain_of([str(source)], {}), None, None))
+        self.assertGreater(seen.cycles, 1000)
 
     def test_each_register_is_set(self) -> None:
         bits = {f"made.step[{bit}]" for bit in range(3)}

@@ -166,7 +166,7 @@ endmodule
     def test_other_family(self) -> None:
         self.assertEqual(known_cells.cells_of({}, ["SB_LUT4"]), "")
         with self.assertRaisesRegex(ToolError, "--cells knows ice40"):
-            known_cells.cells_of({"--cells": "ecp5"}, [])
+            known_cells.cells_of({"--cells": "xilinx"}, [])
 
 
 class Members(unittest.TestCase):

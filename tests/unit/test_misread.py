@@ -33,6 +33,11 @@ class Forms(unittest.TestCase):
         self.assertEqual(refused(TASK.format("output")), "")
         self.assertEqual(refused("module m(inout a);\nendmodule\n"), "")
 
+    def test_interface(self) -> None:
+        told = "^'a.v':2: Yosys follows no signal of an interface; a port for each signal of it"
+        self.assertRegex(refused("\ninterface pins;\n  logic en;\nendinterface\n"), told)
+        self.assertEqual(refused("interface class shape;\nendclass\n"), "")
+
     def test_register_that_is_set_in_both_ways(self) -> None:
         for body in ("a = 1; a <= 2;", "if (x) a <= 1; else a = 0;", "a[1] = x; a[0] <= y;", "{b, a} = 0; a <= x;"):
             self.assertRegex(refused(BLOCK.format(body)), "^'a.v':2: the block sets a with = and with <=", body)

@@ -3,6 +3,7 @@ from __future__ import annotations
 
 import os
 import pathlib
+import re
 import tempfile
 import unittest
 from typing import Any
@@ -314,8 +315,8 @@ endmodule
 
     def test_families_and_models_that_are_not_there(self) -> None:
         self.assertEqual(known_cells.cells_of({}, ["SB_DFF"]), "")
-        with self.assertRaisesRegex(ToolError, "^--cells knows ice40: of it SB_LUT4"):
-            known_cells.cells_of({"--cells": "ecp5"}, [])
+        with self.assertRaisesRegex(ToolError, "^--cells knows ice40, of it SB_LUT4"):
+            known_cells.cells_of({"--cells": "xilinx"}, [])
         with self.assertRaisesRegex(ToolError, "^the models of this Yosys have no SB_CARRY that can be read$"):
             self.cells_of(["SB_CARRY u();"])
         with self.assertRaisesRegex(ToolError, "^the models of this Yosys have no SB_LUT4 that can be read$"):
@@ -327,6 +328,19 @@ endmodule
         with mock.patch("shutil.which", return_value=str(self.folder / "bin" / "yosys")):
             with self.assertRaisesRegex(ToolError, "^Yosys' share folder was not found beside its program$"):
                 known_cells.share()
+
+    def test_cells_of_which_cells_are_made(self) -> None:
+        """A carry of ECP5 is made of tables, which the netlist need not name; times and first values are left out."""
+        models = (
+            "module LUT4(input A, output Z);\n  specify\n    (A => Z) = 1;\n  endspecify\nendmodule\n"
+            "module INV(input A, output Z);\nendmodule\n"
+            "module CCU2C(input A, output reg S);\n  initial S = 1;\n  LUT4 #(.INIT(1)) low(.A(A), .Z(S));\nendmodule\n"
+        )
+        self.file("ecp5/cells_sim.v", models)
+        with mock.patch.object(known_cells, "share", return_value=self.folder):
+            found = known_cells.cells_of({"--cells": "ecp5"}, ["CCU2C u(.A(a), .S(s));"])
+        self.assertEqual(sorted(re.findall(r"module (\w+)", found)), ["CCU2C", "LUT4"])
+        self.assertNotRegex(found, "specify|initial")
 
     @needs("yosys")
     def test_netlist_of_known_cells(self) -> None:

@@ -38,6 +38,20 @@ class Bounds:
     output: int = 1 << 30
 
 
+# when all has to have ended, where the user has set a limit
+LIMITS: list[float] = []
+
+
+def is_limit_over() -> bool:
+    return any(limit <= time.monotonic() for limit in LIMITS)
+
+
+def within(bounds: Bounds) -> Bounds:
+    """The bounds of a program that is called now."""
+    left = [limit - time.monotonic() for limit in LIMITS]
+    return dataclasses.replace(bounds, seconds=max(0.0, min([bounds.seconds, *left])))
+
+
 class Stopped(ToolError):
     """A program was stopped at one of its bounds: `time`, `memory` or `output`."""
 
@@ -180,8 +194,10 @@ def read_end(path: pathlib.Path) -> str:
 def stopped(call: Call, ended: Ended | None, said: Ended) -> Stopped | None:
     """At which bound a program was stopped, if it was, with the last lines of its own."""
     bounds, tail = call.bounds, said.last(2)
+    if ended is None and is_limit_over():
+        return Stopped(f"the time of --limit was over before {call.title()} was ready", "limit")
     if ended is None:
-        why, bound = f"took longer than {bounds.seconds:g} seconds", "time"
+        why, bound = f"took longer than {bounds.seconds:.4g} seconds", "time"
     elif ended.status == -signal.SIGXFSZ:
         why, bound = f"wrote more than {bounds.output >> 20:,} MB", "output"
     elif ended.status and any(map(NO_MEMORY.search, ended.last(9))):
@@ -193,6 +209,7 @@ def stopped(call: Call, ended: Ended | None, said: Ended) -> Stopped | None:
 
 def run(call: Call) -> Ended:
     """How a program ended; `Stopped` is raised at one of its bounds. Nothing of it runs any more then."""
+    call = dataclasses.replace(call, bounds=within(call.bounds))
     with folder_of_its_own() as own:
         out, errors = call.out or own / "out", own / "errors"
         if call.doing:

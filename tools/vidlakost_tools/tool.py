@@ -125,7 +125,8 @@ def command(name: str, *before: str) -> None:
 
     def main() -> int | None:
         tool = importlib.import_module(f"vidlakost_tools.commands.{name}")
-        return cast("Callable[[list[str]], int | None]", tool.main)([*before, *sys.argv[1:]])
+        with telling("at work") if name in JUDGES else contextlib.nullcontext():
+            return cast("Callable[[list[str]], int | None]", tool.main)([*before, *sys.argv[1:]])
 
     start(main)
 
@@ -192,26 +193,36 @@ def leave(status: int) -> None:
     os._exit(status)
 
 
+# the tools that may look at something for minutes
+JUDGES = ("audit", "formal", "places", "plain")
+# what the tool is doing, one in another
+DOING: list[threading.Event] = []
+
+
 @contextlib.contextmanager
 def telling(what: str, how_far: Callable[[], str] | None = None) -> Iterator[None]:
-    """Says every ten seconds what the tool is doing, how far it is, and for how long it runs."""
+    """Says every ten seconds what the tool is doing, how far it is, and for how long it runs. Of what stands one in
+    another the innermost is said."""
     is_over, name = threading.Event(), pathlib.Path(sys.argv[0]).name
 
     def tell_on() -> None:
         seconds = 10
         while not is_over.wait(10):
             far = how_far() if how_far else ""
-            tell(f"{name}: {what}{f' ({far})' if far else ''}, {seconds} seconds so far")
+            if DOING[-1:] == [is_over]:
+                tell(f"{name}: {what}{f' ({far})' if far else ''}, {seconds} seconds so far")
             seconds += 10
 
     teller = threading.Thread(target=tell_on, daemon=True)
     # where the system gives no thread, the work goes on without a word
     with contextlib.suppress(RuntimeError):
         teller.start()
+    DOING.append(is_over)
     try:
         yield
     finally:
         is_over.set()
+        DOING.remove(is_over)
         if teller.ident is not None:
             teller.join()
 

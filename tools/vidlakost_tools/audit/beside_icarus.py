@@ -133,10 +133,7 @@ class Beside:
             if name not in whole and done >= set(bits[name].values()):
                 continue
             value = ", ".join(bits[name].get(at, "1'b0") for at in reversed(range(self.plain.widths[name])))
-            # a word of a memory is no target of $deposit
-            line = (
-                f"    {dut}{name} = {{{value}}};" if name.endswith("]") else f"    $deposit({dut}{name}, {{{value}}});"
-            )
+            line = set_to(f"{dut}{name}", f"{{{value}}}", self.plain.widths[name])
             found[line] = set(bits[name].values()) if name in whole else set()
         return found
 
@@ -265,9 +262,21 @@ def call(words: list[str], folder: pathlib.Path) -> tuple[int, str]:
             )
         )
     except bounded.Stopped as error:
-        why = "a block that wakes itself for ever looks like this"
-        raise Unclocked(f"{str(error).splitlines()[0]}; {why}", 1) from error
+        why = "" if error.bound == "limit" else "; a block that wakes itself for ever looks like this"
+        raise Unclocked(f"{str(error).splitlines()[0]}{why}", 1) from error
     return done.status, bounded.without(folder, done.said)
+
+
+# of a longer word Icarus deposits the last bits alone
+DEPOSITED = 32
+
+
+def set_to(name: str, value: str, width: int) -> str:
+    """The line that sets a signal of the sources. A word of a memory is no target of $deposit, and a long one none that
+    can be trusted; where it is no variable Icarus refuses the line."""
+    if name.endswith("]") or width > DEPOSITED:
+        return f"    {name} = {value};"
+    return f"    $deposit({name}, {value});"
 
 
 # a line that sets a signal of the sources, by $deposit or without
@@ -277,7 +286,11 @@ SETS = re.compile(r"    (?:\$deposit\()?(?P<dut>[a-z.]*\bdut\.)(?P<name>[\w$.\[\
 def escaped(line: str) -> str | None:
     """The line that sets a signal of the same name behind a backslash, as netlists have them; None where it is one."""
     match = SETS.fullmatch(line)
-    return f"    $deposit({match['dut']}\\{match['name']} , {match['value']});" if match else None
+    if match is None:
+        return None
+    is_long = "$deposit" not in line and not match["name"].endswith("]")
+    width = DEPOSITED + 1 if is_long else match["value"].count(",") + 1
+    return set_to(f"{match['dut']}\\{match['name']} ", match["value"], width)
 
 
 def known(same: dict[str, set[str]], unknown: set[str]) -> dict[str, set[str]]:

@@ -15,7 +15,7 @@ import time
 from typing import Any, Iterator
 
 from vidlakost_tools.audit.gates import Machine
-from vidlakost_tools.tool import tell
+from vidlakost_tools.audit.halves import Halves
 
 # so many answers have lanes of their own at a time
 RECENT = 8
@@ -95,21 +95,18 @@ class Found:
 
 
 class Clock:
-    """The time that is left, and each ten seconds a line of progress."""
+    """The time that is left, and the cycle that is looked at."""
 
-    def __init__(self, limit: float):
-        self.begin = time.monotonic()
-        self.end, self.next = self.begin + limit, self.begin + 10
+    def __init__(self, limit: float, begin: float | None = None):
+        self.end = (time.monotonic() if begin is None else begin) + limit
+        self.at = ""
 
     def left(self) -> float:
         return self.end - time.monotonic()
 
     def is_over(self, cycle: int, cycles: int) -> bool:
-        now = time.monotonic()
-        if now > self.next:
-            self.next = now + 10
-            tell(f"audit: cycle {cycle} of {cycles} of fail, after {now - self.begin:.0f} seconds")
-        return now > self.end
+        self.at = f"cycle {cycle:,} of {cycles:,}"
+        return self.left() < 0
 
 
 def compare(found: tuple[int, int], live: int, want: int) -> int:
@@ -123,29 +120,25 @@ def run_joined(machine: Machine, plan: Plan, clock: Clock) -> Found | None:
     together; None where that is not told by them."""
     bits = plan.bits
     word = (1 << bits) - 1
-    full = (1 << 1 + bits + RECENT * bits) - 1
-    state = [(0, 0)] * len(machine.registers)
+    halves = Halves(machine)
+    state, words = halves.start(), Words(plan)
     want, live, joined, count, cycle = 0, 1, False, 0, 0
     slots: dict[int, int] = {}
-    right = [plan.side.lanes(bit, bits) for bit in range(bits)]
     quiet, due = 0, [0] * plan.late
     while cycle < plan.cycles + BEHIND and quiet < 2:
-        known, wrong, values, base = False, 0, 0, 0
+        wrong, slot = 0, -1
         if cycle in plan.answers:
-            slot, base = count % RECENT, 1 + bits + count % RECENT * bits
+            slot = count % RECENT
+            base = 1 + bits + slot * bits
             if slot in slots:
-                state = [(lay(one, base, word, joined), lay(zero, base, word, joined)) for one, zero in state]
+                state.own = [(lay(one, base, word, joined), lay(zero, base, word, joined)) for one, zero in state.own]
                 joined, live, want = True, live | word << 1, want | word << 1
-            state = [(spread(one, base, word), spread(zero, base, word)) for one, zero in state]
-            slots[slot], count = cycle, count + 1
-            live, want = live | word << base, want & ~(word << base)
-            known, wrong, values = True, word << base, plan.answers[cycle]
-        rdata = [
-            given(values >> bit & 1, 1 | right[bit] << base, 1 << base + bit) if known else (0, 0)
-            for bit in range(bits)
-        ]
+            state.own = [(spread(one, base, word), spread(zero, base, word)) for one, zero in state.own]
+            slots[slot], count, wrong = cycle, count + 1, word << base
+            live, want = live | wrong, want & ~wrong
         before = state
-        state, (fail,) = machine.step(state, [*rdata, (full, 0) if cycle == 0 else (0, full)], full)
+        name, rdata = words.at(cycle, slot)
+        state, (fail,) = halves.step(state, rdata, cycle == 0, name)
         bad = compare(fail, live, want) if cycle >= plan.first else 0
         if bad:
             lane = (bad & -bad).bit_length() - 1
@@ -160,6 +153,29 @@ def run_joined(machine: Machine, plan: Plan, clock: Clock) -> Found | None:
         if cycle % 128 == 0 and clock.is_over(cycle, plan.cycles):
             return Found("limit", cycle - 1)
     return Found("exact", -1 if quiet else cycle - 1, lanes=count * bits)
+
+
+class Words:
+    """The words on `rdata` in all lanes: each has a name, by which what hangs on it is known."""
+
+    def __init__(self, plan: Plan):
+        self.plan = plan
+        self.right = [plan.side.lanes(bit, plan.bits) for bit in range(plan.bits)]
+        self.made: dict[Any, list[tuple[int, int]]] = {}
+
+    def at(self, cycle: int, slot: int) -> tuple[tuple[int, int | None], list[tuple[int, int]]]:
+        """The word of a cycle, whose answer has the lanes of this place; -1 where it has no answer."""
+        name = (slot, self.plan.answers.get(cycle))
+        if name not in self.made:
+            self.made[name] = self.word(*name)
+        return name, self.made[name]
+
+    def word(self, slot: int, value: int | None) -> list[tuple[int, int]]:
+        bits = self.plan.bits
+        if value is None:
+            return [(0, 0)] * bits
+        base = 1 + bits + slot * bits
+        return [given(value >> bit & 1, 1 | self.right[bit] << base, 1 << base + bit) for bit in range(bits)]
 
 
 def given(bit: int, right: int, wrong: int) -> tuple[int, int]:

@@ -3,22 +3,25 @@ the end, and `fail`."""
 from __future__ import annotations
 
 import dataclasses
+import functools
 import pathlib
 import re
 import shlex
 import subprocess
 import sys
+import time
 from typing import Any
 
 from vidlakost_tools.audit import fail_lanes as lanes, fail_search, late_end, late_start, why_unknown
 from vidlakost_tools.audit.gates import Machine, gates_of
+from vidlakost_tools.audit.halves import Halves
 from vidlakost_tools.audit.pins import Pins, ports_of, proposed, told_ports
 from vidlakost_tools.program import ROOT, run
 from vidlakost_tools.temporary import folder_of_its_own
 from vidlakost_tools.text import INPUT_BYTES, visible
 from vidlakost_tools.texts.march import Element
 from vidlakost_tools.texts.memory import Memory
-from vidlakost_tools.tool import Refused, ToolError, refuse_inputs, tell, telling
+from vidlakost_tools.tool import Refused, ToolError, progress, refuse_inputs, tell, telling
 from vidlakost_tools.verilog import open_run, source_texts
 from vidlakost_tools.verilog.front_end import ALL_GATES, Plain, plain_of
 
@@ -36,9 +39,15 @@ class Audit:
     memory_file: str
     elements: list[Element]
     memory: Memory
+    # when the tool began
+    begin: float = dataclasses.field(default_factory=time.monotonic)
+
+    @functools.cached_property
+    def all_commands(self) -> list[Any]:
+        return [None, *open_run.commands_of(self.elements, self.memory), *[None] * (self.memory.latency + 1)]
 
     def commands(self) -> list[Any]:
-        return [None, *open_run.commands_of(self.elements, self.memory), *[None] * (self.memory.latency + 1)]
+        return self.all_commands
 
     def full_pins(self, plain: Plain) -> Pins | None:
         """The pins, with each port that has no line at the pin of its own name."""
@@ -223,22 +232,29 @@ def end_found(audit: Audit, found: Verdict) -> tuple[str, int]:
     """Where `done` doesn't stay 1 and `en` 0 behind the end, or nothing; and the last cycle that was looked at, or -1
     where nothing changes any more."""
     machine = Machine(gates_of(found.plain), ("done", "en"))
+    halves = Halves(machine, is_open=True)
     end = len(audit.commands()) - 1 + found.delay + found.end_late
-    state, cycle, opens = [(0, 0)] * len(machine.registers), 0, [(0, 0)] * len(machine.words)
-    while cycle <= end + lanes.BEHIND:
+    state, words = halves.start(), [(0, 0)] * len(machine.words)
+    for cycle in progress(range(end + lanes.BEHIND + 1), "looking at done and en behind the end"):
         before = state
-        state, told = machine.step(state, [*opens, (1, 0) if cycle == 0 else (0, 1)], 1)
-        for port, (one, zero), wanted in zip(("done", "en"), told, ((1, 0), (0, 1))):
+        state, told = halves.step(state, words, cycle == 0)
+        for port, (one, zero), wanted in zip(("done", "en"), told, ((-1, 0), (0, -1))):
             if cycle >= end and (one, zero) != wanted:
                 got = "1" if one else "0" if zero else "open"
                 return f"{port} is {got} in cycle {cycle}, after the end", cycle
         if cycle > end and state == before:
             return "", -1
-        cycle += 1
-    return "", cycle - 1
+    return "", end + lanes.BEHIND
 
 
 def fail_found(audit: Audit, found: Verdict, limit: int) -> lanes.Found:
+    """What is found of `fail`, in so many seconds from the start of the tool."""
+    clock = lanes.Clock(limit, audit.begin)
+    with telling("looking at fail", lambda: clock.at):
+        return fail_told(audit, found, clock)
+
+
+def fail_told(audit: Audit, found: Verdict, clock: lanes.Clock) -> lanes.Found:
     commands, memory = audit.commands(), audit.memory
     answers = {
         cycle + memory.latency + found.delay: command[2]
@@ -246,7 +262,7 @@ def fail_found(audit: Audit, found: Verdict, limit: int) -> lanes.Found:
         if command and not command[0]
     }
     is_open = "--reset-open" in audit.options or "fail" in found.in_reset
-    machine, clock = Machine(gates_of(found.plain), ("fail",)), lanes.Clock(limit)
+    machine = Machine(gates_of(found.plain), ("fail",))
     # where the end is late, fail may be so too, and not later than it
     for late in range(found.end_late + 1):
         plan = lanes.Plan(answers, len(commands) + found.delay + found.end_late, memory.bits, 1 if is_open else 0, late)

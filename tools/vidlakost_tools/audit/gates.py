@@ -54,6 +54,10 @@ class Machine:
     def is_register(self, cell: dict[str, Any]) -> bool:
         return bool(cell["type"] == "$_DFF_P_")
 
+    def after(self, register: Any) -> Any:
+        """The bit that a register becomes."""
+        return self.driver[register]["connections"]["D"][0]
+
     def cone(self) -> tuple[list[Any], list[Any]]:
         """The gates' outputs, each behind its operands, and the registers, on which the ports hang in any cycle."""
         registers, order, done = [], [], set()
@@ -137,10 +141,37 @@ class Machine:
         ]
         opens = "[" + "".join(f"u{bit}, " for bit in split) + "]"
         lines.append(f"  return {told[0]}, {told[1]}" + (f", {opens}" if split else ""))
-        made: dict[str, Any] = {}
-        exec("\n".join(lines), made)  # names and marks of this module alone, made from numbers of bits
-        step: Callable[..., Any] = made["step"]
-        return step
+        return made_of(lines)
+
+
+    def function(self, inputs: Sequence[Any], results: Sequence[Any]) -> tuple[Callable[..., Any], int]:
+        """A function of the pairs of some bits to those of others, in which nothing else is known and a 1 in each lane
+        is -1; and how many gates it has."""
+        needed, todo, cut = set(), list(results), set(inputs)
+        while todo:
+            bit = todo.pop()
+            cell = self.driver.get(bit)
+            if cell is None or bit in needed or bit in cut or self.is_register(cell) or cell["type"] == "$anyseq":
+                continue
+            needed.add(bit)
+            todo += self.operands(cell)
+        self.known = {*inputs, *needed}
+        lines = ["def function(pairs, full=-1):"]
+        lines += [f"  ({''.join(f'(a{bit}, b{bit}), ' for bit in inputs)}) = pairs"] if inputs else []
+        for bit in (bit for bit in self.order if bit in needed):
+            one, zero = self.gate(self.driver[bit])
+            lines.append(f"  a{bit} = {one}; b{bit} = {zero}")
+        told = "".join(f"({one}, {zero}), " for one, zero in map(self.pair, results))
+        return made_of([*lines, f"  return ({told})"]), len(needed)
+
+
+def made_of(lines: list[str]) -> Callable[..., Any]:
+    """The function of these lines, which have names and marks alone, made from numbers of bits."""
+    made: dict[str, Any] = {}
+    exec("\n".join(lines), made)
+    (function,) = (one for name, one in made.items() if not name.startswith("__"))
+    found: Callable[..., Any] = function
+    return found
 
 
 def forced(bit: object, place: int) -> list[str]:

@@ -111,6 +111,8 @@ def outcome(asked: Asked, told: str, usual: str, witnesses: dict[str, str]) -> O
 
 def refusal(tool: str, error: ToolError) -> Outcome:
     """The verdict of what is refused; of sources that mean two things, the port in which they do."""
+    if isinstance(error, yosys.Slow):
+        return Outcome(tool, "unknown", str(error).split(" (")[0])
     if not isinstance(error, Differs):
         return Outcome(tool, "refused")
     saw = {error.simulator: str(error).splitlines()[0]}

@@ -1,13 +1,14 @@
 """A verdict, with its reason, on somebody else's controller in any Verilog.
 
-usage: vidlakost audit VERILOG .. MARCH MEMORY [--top NAME] [--pins FILE] [--liberty LIB] [--cells ice40] [--vcd FILE]
+usage: vidlakost audit VERILOG .. MARCH MEMORY [--top NAME] [--pins FILE] [--liberty LIB] [--cells FAMILY] [--vcd FILE]
                        [--limit SECONDS] [--reset-open] [--no-simulate] [--json FILE] [--fail-late N] [--strict]
        vidlakost audit --random N [--seed S]      random modules with a damaged fail, compared with Yosys' model checker
        vidlakost audit --help
 
 VERILOG is one file or several. If GHDL is installed, they may be VHDL. They may also be a netlist. Then --liberty
 names the library of its cells; it may come several times. For a netlist of ice40 (SB_LUT4, SB_CARRY, SB_GB and the
-flip-flops SB_DFF..), --cells ice40 reads the models in Yosys' own share folder.
+flip-flops SB_DFF..) or ECP5 (LUT4, PFUMX, L6MUX21, CCU2C, TRELLIS_FF ..), --cells ice40 or --cells ecp5 reads the
+models in Yosys' own share folder. Yosys' generic gates need no option.
 A self-test has the ports clk, reset, rdata; en, we, addr, wdata, done, fail. If your pins have other names, --pins
 names a file with a line for each pin (`#` begins a comment):
     clk bist_clk             the pin of a port; a port without a line has the pin of its own name
@@ -36,7 +37,8 @@ audit reports in this order:
                              library are clocked as Yosys reads their functions
 --vcd writes the run of `check` to FILE, beside the ports that are due. Every register is open at first, and so is
 every word on rdata. A save file for GTKWave comes with it, at the cycle that was found, unless one of yours is there.
---limit ends the look at `fail` after so many seconds (600); the verdict is then no yes.
+--limit is for the seconds from the start of audit to the end of its look at `fail` (600) and, where you give it, of
+every program that it calls; a verdict without these is no yes. Each ten seconds a line says what audit is doing.
 --no-simulate has no simulator clock the sources.
 --json writes to FILE, for scripts: the verdict, each witness with its version and what it saw, the cycle and the port
 with what is due there and what it is, and the SHA-256 of each input.
@@ -64,6 +66,7 @@ import pathlib
 import random
 from typing import Any
 
+from vidlakost_tools import bounded
 from vidlakost_tools.audit import random_comparison as audit_random, witness
 from vidlakost_tools.audit.fail_lanes import Found
 from vidlakost_tools.audit.findings import (
@@ -199,6 +202,8 @@ def main(arguments: list[str]) -> int:
         raise ToolError(f"{shown(options['--vcd'])} is the name of the save file beside the waveform")
     elements, memory = march_of(march)[1], read_memory(memory_file)
     audit = Audit(files, options, pins, march, memory_file, elements, memory)
+    if "--limit" in options:
+        bounded.LIMITS.append(audit.begin + number_of(options["--limit"], "--limit", 1))
     try:
         outcome = verdict_of(audit)
     except ToolError as error:

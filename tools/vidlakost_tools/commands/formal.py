@@ -3,7 +3,7 @@
 usage: vidlakost formal                                    a dozen marches and memories, compiled and judged
        vidlakost formal --random N [--seed S]              N random ones
        vidlakost formal --wrong                            modules with one mistake each, which the judge has to find
-       vidlakost formal VERILOG .. MARCH MEMORY [--top NAME] [--pins FILE] [--cells ice40] [--resets] [--no-simulate]
+       vidlakost formal VERILOG .. MARCH MEMORY [--top NAME] [--pins FILE] [--cells FAMILY] [--resets] [--no-simulate]
                                                        a module of yours, in any Verilog that Yosys reads
        vidlakost formal --help
 

@@ -1,6 +1,6 @@
 """A module in the subset that `check` reads, which Yosys makes of any synthesizable Verilog or VHDL.
 
-usage: vidlakost plain OUT.v IN.v .. [--top NAME] [--pins FILE] [--liberty LIB] [--cells ice40] [--no-simulate]
+usage: vidlakost plain OUT.v IN.v .. [--top NAME] [--pins FILE] [--liberty LIB] [--cells FAMILY] [--no-simulate]
        vidlakost plain --help
 
 Yosys reads parameters, functions, `always @*`, hierarchies, asynchronous resets and the like. A simulator of the
@@ -9,7 +9,7 @@ that differs is refused, and OUT.v is not written. Where no simulator is install
 writes OUT.v, says that it is not simulated, and ends with 1. With --no-simulate it ends with 0 then.
 Operators stay operators, and names of the sources stay. The ports keep their names and widths, or get those that --pins
 lists (`vidlakost audit --help` describes its lines). --liberty reads the cells of a netlist, and may come several
-times. --cells ice40 reads the cells of ice40 that are only logic or registers, from Yosys' share folder.
+times. --cells ice40 or ecp5 reads the cells of that family that are only logic or registers, from Yosys' share folder.
 The clock is one input, of any name, and only its rising edge counts. A clock that a latch gates becomes an enable. An
 asynchronous reset becomes one that acts in the cycle in which it comes.
 plain leaves out initial values of registers, since a self-test begins with a reset. A memory that is only read keeps

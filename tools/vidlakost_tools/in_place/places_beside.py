@@ -11,7 +11,7 @@ import shutil
 from typing import Iterator
 
 from vidlakost_tools import bounded
-from vidlakost_tools.audit.beside_icarus import Differs, Unclocked, call, compiled, refuse_sources
+from vidlakost_tools.audit.beside_icarus import Differs, Unclocked, call, compiled, refuse_sources, set_to
 from vidlakost_tools.collar.pins import literal
 from vidlakost_tools.in_place.places_proof import Proof, Side
 from vidlakost_tools.temporary import folder_of_its_own
@@ -144,7 +144,10 @@ class Chip:
 
     def same(self) -> dict[str, set[str]]:
         """The lines that set the registers."""
-        return {f"    $deposit(dut.{name}, {{r_{at}}});": {name} for at, name in enumerate(self.registers)}
+        return {
+            set_to(f"dut.{name}", f"{{r_{at}}}", width): {name}
+            for at, (name, width) in enumerate(self.registers.items())
+        }
 
     def run(self, folder: pathlib.Path) -> str:
         """What the run says."""

@@ -29,12 +29,16 @@ LOOP = re.compile(r"\bfor\s*\(\s*(?:int(?:eger)?\s+|genvar\s+)?(\w+)\s*=\s*(\d+)
 TASK_WHY = "Yosys copies no inout of a task back; an input and an output of their own say the same"
 BOTH_WHY = "the block sets {} with = and with <=, of which to Yosys the last in the text wins; set it with one of both"
 RACE_WHY = "the block sets {} with =, and another block reads it at the same edge, be it by a wire; set it with <="
+INTERFACE_WHY = "Yosys follows no signal of an interface; a port for each signal of it, in both modules, says the same"
+INTERFACE = re.compile(r"\binterface\b(?!\s+class\b)")
 INNER_WHY = "to Yosys an index beyond this range of {} is a place of another row; one range, with an index such as "
 INNER_WHY += "{{row, column}}, says the same"
 
 
 def forms(text: str) -> Iterator[tuple[int, str]]:
     """The forms in a text without comments, each with its place and why it is refused."""
+    for match in INTERFACE.finditer(text):
+        yield match.start(), INTERFACE_WHY
     for task in TASK.finditer(text):
         inout = re.search(r"\binout\b", task[0])
         if inout:

@@ -287,16 +287,16 @@ def commands_of(elements: list[Element], memory: Memory) -> Iterator[Optional[Co
     """Of each cycle behind the reset, to the last of the march, its command: whether it writes, address and word; None
     in a pause."""
     ones = (1 << memory.bits) - 1
+    addresses = [memory.address_of(index) for index in range(memory.words)]
     for background in memory.backgrounds:
         for element in elements:
             if element.is_pause:
                 yield from [None] * memory.pause
                 continue
-            visits = range(memory.words)
-            for index in reversed(visits) if element.order == "down" else visits:
+            for address in reversed(addresses) if element.order == "down" else addresses:
                 for operation in element.operations:
                     word = background if operation[1] == "0" else ones ^ background
-                    yield operation[0] == "w", memory.address_of(index), word ^ memory.polarity
+                    yield operation[0] == "w", address, word ^ memory.polarity
 
 
 def compared(command: Optional[Command], done: bool) -> list[tuple[str, int]]:

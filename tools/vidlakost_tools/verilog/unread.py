@@ -65,6 +65,10 @@ FORMS = [
         r"\b(?:r?[np]mos|r?cmos|r?tran(?:if[01])?)\b",
         "Yosys has no switches ({0}); a multiplexer says which driver is taken",
     ),
+    (
+        r"\b\w+\s*\[(?!\s*\d+\s*\])[^\]]*\]\s*\.\s*[A-Za-z_]\w*",
+        "Yosys reads no member of an element ({0}); an array of its own for each member says the same",
+    ),
 ]
 
 

@@ -101,6 +101,8 @@ def run(script: str, folder: pathlib.Path, *flags: str, seconds: float | None = 
             bounded.Call(words, "Yosys", bounds, doing="Yosys is at work", how_far=lambda _: how_far(log))
         )
     except bounded.Stopped as error:
+        if error.bound == "limit":
+            raise Slow(str(error), 1) from error
         why = "an endless loop in the sources looks like this"
         told = str(error).split("\n", maxsplit=1)[0].replace(" and was stopped", "")
         raise Slow(f"{told} ({how_far(log)}), and was stopped; {why}", 1) from error
