@@ -8,6 +8,7 @@ import contextlib
 import multiprocessing
 import os
 import signal
+import threading
 import time
 from typing import Any, Callable
 
@@ -23,17 +24,18 @@ LOOKS_SECONDS = 0.25
 
 def answer_signals(parent: int) -> None:
     """What a process of the search does by a signal. Ctrl-C is the search's own matter, and it ends this process.
-    Another signal ends it with the program that it asks. A search that was killed sends none, so a clock looks whether
+    Another signal ends it with the program that it asks. A search that was killed sends none, so a thread looks whether
     it is still there, whatever the process does meanwhile."""
     for number in ENDS:
         signal.signal(number, signal.SIG_IGN if number == signal.SIGINT else stop)
+    threading.Thread(target=follow, args=(parent,), daemon=True).start()
 
-    def look(number: int, frame: object) -> None:
-        if os.getppid() != parent:
-            stop(number, frame)
 
-    signal.signal(signal.SIGALRM, look)
-    signal.setitimer(signal.ITIMER_REAL, LOOKS_SECONDS, LOOKS_SECONDS)
+def follow(parent: int) -> None:
+    """Ends this process as a signal does when the search is gone."""
+    while os.getppid() == parent:
+        time.sleep(LOOKS_SECONDS)
+    os.kill(os.getpid(), signal.SIGTERM)
 
 
 def end(process: Any) -> None:

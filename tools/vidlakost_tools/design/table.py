@@ -74,6 +74,17 @@ class Entry:
             raise ToolError(f"{FILE}: {self.march} of {' '.join(self.words)} does not cover {escapes[0]}")
 
 
+def check(found: Sequence[Entry]) -> None:
+    """Ends with an error if a bound is less than that of a line whose faults are all among these. A list that holds
+    another needs as many operations."""
+    names = [set(it.names()) for it in found]
+    for it, own in zip(found, names):
+        for other, others in zip(found, names):
+            if others <= own and other.beside in ("-", it.beside) and other.least > it.least:
+                words, known = " ".join(it.words) or "-", " ".join(other.words) or "-"
+                raise ToolError(f"{FILE}: {words} needs {other.least}n at least, as {known} does, and not {it.least}n")
+
+
 def of_list(text: str, march: pathlib.Path) -> Report:
     return with_text(text + "\n", lambda faults: judged(march, faults))
 
@@ -138,6 +149,7 @@ def listed(found: Sequence[Entry], marches: Sequence[Published]) -> Iterator[str
 def section(marches: Sequence[Published]) -> str:
     """The part of the gallery."""
     found = entries()
+    check(found)
     for it in found:
         it.look()
     by_file = {march.file: march for march in marches}
