@@ -2,14 +2,12 @@
 from __future__ import annotations
 
 import itertools
-import random
 import time
 import unittest
 import unittest.mock
-from typing import List, Sequence, Tuple
+from typing import List, Sequence
 
 from vidlakost_tools.design.bound import Bound
-from vidlakost_tools.design.changes import Changes
 from vidlakost_tools.design.finder import Finder, Wish
 from vidlakost_tools.design.instances import Instance, decoder_instances, instances_of, linked_instances
 from vidlakost_tools.design.one_cell import OneCell, parted
@@ -29,8 +27,6 @@ from vidlakost_tools.design.parts import (
 from vidlakost_tools.design.progress import Progress
 from vidlakost_tools.design.reach import can_cover
 from vidlakost_tools.design.survivors import Survivors
-from vidlakost_tools.design.walk import Place
-from vidlakost_tools.design.workers import Search, Walks
 from vidlakost_tools.texts.decoder import NAMES, DecoderVerdict
 from vidlakost_tools.texts.faults import Array, read_primitive
 from vidlakost_tools.texts.linked import LinkVerdict
@@ -266,81 +262,6 @@ class OneCells(unittest.TestCase):
 
     def test_none_is_so_short(self) -> None:
         self.assertEqual(self.least(TRANSITIONS, 4), 0)
-
-
-class Walking(unittest.TestCase):
-    def test_what_is_left_as_survivors_say(self) -> None:
-        """Marches at random and their changes, with links, pauses, a wrong decoder and a march in front."""
-        pairs = [
-            linked_instances("LF3", "<0w1;0/1/->", "<1;1r1/0/1>"),
-            linked_instances("LF1", "<0w1/0/->", "<0r0/1/1>"),
-        ]
-        cases: List[Tuple[List[Instance], Parts]] = [
-            ([it for text in SOME for it in instances_of(text)], []),
-            ([it for pair in pairs for it in pair], []),
-            ([it for text in SOME for it in instances_of(text)], parts_of(elements_of(C_MINUS))),
-        ]
-        for instances, behind in cases:
-            survivors = Survivors(instances, decoder_instances())
-            chance = random.Random(1)
-            changes = Changes(chance, Limits(pauses=survivors.pauses), not behind, 64)
-            place, march = Place(survivors, behind), changes.any(10)
-            place.take(march)
-            for _ in range(200):
-                made = changes.one(march)
-                if made is None:
-                    continue
-                state = survivors.run(elements_from([*behind, *made]))[0]
-                self.assertEqual(place.left(made), state[0] | state[1] | state[2] | state[3], made)
-                self.assertEqual(length(made), 10)
-                if chance.random() < 0.5:
-                    march = made
-                    place.take(march)
-
-    def test_processors_do_not_matter(self) -> None:
-        """Each number of processes finds the same marches, one after the other."""
-        instances = [it for text in SOME[:8] for it in instances_of(text)]
-        survivors = Survivors(instances)
-        limits = Limits(pauses=survivors.pauses)
-        long = [Part("up", ("w0",)), *[Part("up", ("r", "w1", "r", "r", "w0", "r")) for _ in range(4)]]
-        long += [Part("del"), Part("down", ("r", "w1", "w1", "r", "r", "w0", "w0", "r"))]
-        found: List[List[str]] = []
-        for workers in (1, 3):
-            told: List[str] = []
-
-            def tell(parts: Parts) -> Parts:
-                told.append(text_of(parts))
-                return parts
-
-            def is_short() -> bool:
-                return bool(told) and length(parts_of(elements_of(told[-1]))) <= 14
-
-            Search(Walks(survivors, limits, [], workers, 60, 7), tell, lambda text: None, is_short).run(long)
-            found.append(told)
-        self.assertEqual(found[0], found[1])
-        self.assertTrue(is_complete(survivors, parts_of(elements_of(found[0][-1]))))
-
-    def test_limits(self) -> None:
-        """No change makes a march that may not be."""
-        for limits in (Limits(operations=2), Limits(elements=4), Limits(3, 5, 1)):
-            changes = Changes(random.Random(3), limits, True, limits.elements)
-            march = changes.any(8)
-            for _ in range(300):
-                made = changes.one(march)
-                if made is not None:
-                    march = made
-                    self.assertTrue(limits.allow(list(made)), made)
-                    self.assertEqual((length(made), made[0].operations[0][0]), (8, "w"))
-
-    def test_the_seed_reaches_the_walks(self) -> None:
-        """Also where marches with open orders are asked for, which take the beams several times."""
-        wish = Wish([it for text in TRANSITIONS for it in linked_instances("LF1", text, STUCK[0])], [], Limits(), [], 4)
-        for is_open in (False, True):
-            wish.is_open = is_open
-            finder, seeds = Finder(wish, Progress()), []  # type: Finder, List[int]
-            with unittest.mock.patch.object(Finder, "at_once", lambda _, tried, walks: seeds.append(walks.seed)):
-                finder.run(seconds=1, seed=7)
-            self.assertEqual(seeds, [7])
 
 
 class Reach(unittest.TestCase):

@@ -8,6 +8,7 @@ import contextlib
 import multiprocessing
 import os
 import signal
+import threading
 import time
 from typing import Any, Callable
 
@@ -17,13 +18,24 @@ from vidlakost_tools.tool import ENDS, stop
 
 # how often it says what it is doing, and how long a process that is told to end may take until it is killed
 TOLD_SECONDS, LAST_SECONDS = 0.2, 2
+# how often it looks whether the search is still there
+LOOKS_SECONDS = 0.25
 
 
-def answer_signals() -> None:
+def answer_signals(parent: int) -> None:
     """What a process of the search does by a signal. Ctrl-C is the search's own matter, and it ends this process.
-    Another signal ends it with the program that it asks."""
+    Another signal ends it with the program that it asks. A search that was killed sends none, so a thread looks whether
+    it is still there, whatever the process does meanwhile."""
     for number in ENDS:
         signal.signal(number, signal.SIG_IGN if number == signal.SIGINT else stop)
+    threading.Thread(target=follow, args=(parent,), daemon=True).start()
+
+
+def follow(parent: int) -> None:
+    """Ends this process as a signal does when the search is gone."""
+    while os.getppid() == parent:
+        time.sleep(LOOKS_SECONDS)
+    os.kill(os.getpid(), signal.SIGTERM)
 
 
 def end(process: Any) -> None:
@@ -35,10 +47,10 @@ def end(process: Any) -> None:
 
 
 class Telling(Progress):
-    """Hands on what a search shows to the process that began it, and ends where that one is gone."""
+    """Hands on what a search shows to the process that began it."""
 
-    def __init__(self, connection: Any, parent: int, outer: Progress):
-        self.connection, self.parent, self.outer = connection, parent, outer
+    def __init__(self, connection: Any, outer: Progress):
+        self.connection, self.outer = connection, outer
         self.last = 0.0
 
     def better(self, parts: Parts) -> None:
@@ -48,8 +60,6 @@ class Telling(Progress):
         self.connection.send(("bounded", operations))
 
     def at(self, text: str) -> None:
-        if os.getppid() != self.parent:
-            raise SystemExit(1)
         self.outer.look()
         if time.monotonic() - self.last > TOLD_SECONDS:
             self.last = time.monotonic()
@@ -58,9 +68,9 @@ class Telling(Progress):
 
 def work(search: Callable[[Progress], None], connection: Any, parent: int, outer: Progress) -> None:
     """What the process does. If it needs too much memory, it shows no more."""
-    answer_signals()
+    answer_signals(parent)
     with contextlib.suppress(OSError, MemoryError):
-        search(Telling(connection, parent, outer))
+        search(Telling(connection, outer))
 
 
 class Beside:

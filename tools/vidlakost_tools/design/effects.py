@@ -5,18 +5,22 @@ a beam; most are others with one operation more, so that what the visit of a cel
 from __future__ import annotations
 
 import itertools
-from typing import Dict, List, Tuple
+from typing import Dict, List, Set, Tuple
 
+from vidlakost_tools.design.changes import OPERATIONS, STOPPED, part_of
 from vidlakost_tools.design.instances import left_by
-from vidlakost_tools.design.parts import PAUSE, Part
-from vidlakost_tools.design.survivors import BITS, LinkMasks, Operations, Survivors
+from vidlakost_tools.design.survivors import BITS, LinkMasks, Survivors
 
 # the instances by what their victims hold (0, 1), and the same for those that wait, if any do
 Held = Tuple[int, ...]
 # for each of these, in which of them it is left
 Effect = Tuple[Held, ...]
-# the cell, whether the order is down, what the cells held before, what they hold at the end, and the operations so far
-Visit = Tuple[int, bool, Tuple[int, ...], int, Operations]
+# what a cell holds that an element has not yet written: what it held before
+BEFORE = 2
+# by what a cell holds, and by the letter of an operation: its effect, and what the cell then holds
+Steps = List[Dict[str, Tuple[Effect, int]]]
+# how many elements are kept
+MOST = 20_000
 
 
 def applied(held: Held, effect: Effect) -> Held:
@@ -52,6 +56,24 @@ def joined(one: Effect, other: Effect) -> Effect:
     return tuple([applied(row, other) for row in one])
 
 
+class Visit:
+    """The visits of a cell by all elements of an order that find and leave the same bits. It keeps what beginnings of
+    elements do there."""
+
+    def __init__(self, nothing: Effect, steps: Steps):
+        self.steps = steps
+        self.known: Dict[str, Tuple[Effect, int]] = {"": (nothing, BEFORE)}
+
+    def of(self, letters: str) -> Tuple[Effect, int]:
+        """What operations do, and what the cell then holds."""
+        found = self.known.get(letters)
+        if found is None:
+            effect, now = self.of(letters[:-1])
+            step, now = self.steps[now][letters[-1]]
+            found = self.known[letters] = joined(effect, step), now
+        return found
+
+
 class Effects:
     """The effects of the elements of a search."""
 
@@ -63,9 +85,13 @@ class Effects:
         self.nothing: Effect = tuple([tuple([every if at == to else 0 for to in self.states]) for at in self.states])
         self.enters = [self.parting(survivors.below), self.parting(survivors.above)]
         self.operations_known: Dict[Tuple[int, bool, Tuple[int, ...], Tuple[int, ...], int, str], Effect] = {}
-        self.visits_known: Dict[Visit, Effect] = {}
-        self.known: Dict[Tuple[Part, int], Tuple[Effect, int]] = {}
-        self.begun_known: Dict[Part, Tuple[Held, int]] = {}
+        self.visits_known: Dict[Tuple[bool, Tuple[int, ...], int], List[Visit]] = {}
+        # by what good cells hold before an element: its effect
+        self.known: Tuple[Dict[str, Tuple[Effect, int]], ...] = ({}, {})
+        # the elements that were asked for once
+        self.asked: Tuple[Set[str], ...] = (set(), set())
+        self.begun_known: Dict[str, Tuple[Held, int]] = {}
+        self.caught_known: Dict[Tuple[bool, ...], int] = {}
 
     def parting(self, where: int) -> Effect:
         """Some instances stop waiting."""
@@ -101,53 +127,116 @@ class Effects:
             )  # fmt: skip
         return self.operations_known[key]
 
-    def visit(self, cell: int, down: bool, was: Tuple[int, ...], end: int, operations: Operations) -> Effect:
-        """What operations on a cell do."""
-        if not operations:
-            return self.nothing
-        key = (cell, down, was, end, operations)
+    def visits(self, down: bool, was: Tuple[int, ...], end: int) -> List["Visit"]:
+        """The cells in their order, as elements visit them that find and leave these bits."""
+        key = (down, was, end)
         found = self.visits_known.get(key)
         if found is None:
-            rest = operations[:-1]
-            now = was
-            for operation in reversed(rest):
-                if operation[0] == "w":
-                    now = (int(operation[1]),) * len(was)
-                    break
-            found = joined(
-                self.visit(cell, down, was, end, rest), self.operation(cell, down, was, now, end, operations[-1])
-            )
-            self.visits_known[key] = found
+            cells = reversed(self.survivors.cells) if down else self.survivors.cells
+            found = self.visits_known[key] = [Visit(self.nothing, self.steps(cell, *key)) for cell in cells]
         return found
 
-    def crossed(self, operations: Operations, down: bool, was: Tuple[int, ...], end: int) -> Effect:
+    def steps(self, cell: int, down: bool, was: Tuple[int, ...], end: int) -> Steps:
+        """What each operation does in a visit."""
+        return [
+            {
+                letter: (
+                    self.operation(cell, down, was, was if now == BEFORE else (now,) * len(was), end, operation),
+                    now if letter == "r" else int(letter),
+                )
+                for letter, operation in OPERATIONS.items()
+            }
+            for now in (*BITS, BEFORE)
+        ]
+
+    def crossed(self, word: str, was: Tuple[int, ...], end: int) -> Effect:
         """What an element does, without a wrong decoder."""
+        down = word[0] == "d"
         made = self.nothing if len(self.states) == 2 else self.enters[down]
-        for cell in reversed(self.survivors.cells) if down else self.survivors.cells:
-            made = joined(made, self.visit(cell, down, was, end, operations))
+        for visit in self.visits(down, was, end):
+            made = joined(made, visit.of(word[1:])[0])
         return made if len(self.states) == 2 else joined(made, self.enters[not down])
 
+    def crossing(self, held: Held, word: str, was: Tuple[int, ...], end: int) -> Held:
+        """What is left after an element, without a wrong decoder: operation by operation, from the longest beginning of
+        the element on whose effect is known."""
+        letters, down, at = word[1:], word[0] == "d", len(word)
+        visits = self.visits(down, was, end)
+        if len(held) == 2:
+            a, b = held
+            for visit in visits:
+                while letters[:at] not in visit.known:
+                    at -= 1
+                (p, q), now = visit.known[letters[:at]]
+                a, b = a & p[0] | b & q[0], a & p[1] | b & q[1]
+                for letter in letters[at:]:
+                    (p, q), now = visit.steps[now][letter]
+                    a, b = a & p[0] | b & q[0], a & p[1] | b & q[1]
+            return a, b
+        held = applied(held, self.enters[down])
+        for visit in visits:
+            while letters[:at] not in visit.known:
+                at -= 1
+            effect, now = visit.known[letters[:at]]
+            held = applied(held, effect)
+            for letter in letters[at:]:
+                effect, now = visit.steps[now][letter]
+                held = applied(held, effect)
+        return applied(held, self.enters[not down])
+
     # ---- elements
+
+    def caught(self, word: str, due: int, end: int) -> int:
+        """The faults of the decoder that an element catches, on cells that hold `due`. It looks at the first operation,
+        at what the element leaves, and at the bits that are read."""
+        if not self.survivors.decoder:
+            return 0
+        is_read = word[1] == "r"
+        reads = ["0r" in word or is_read and not due, "1r" in word or is_read and due == 1]
+        key = (word[0] == "d", is_read, due == 1, end == 1, *reads)
+        found = self.caught_known.get(key)
+        if found is None:
+            found = self.survivors.caught(part_of(word).operations, word[0] == "d", due)
+            self.caught_known[key] = found
+        return found
 
     def without(self, effect: Effect, caught: int) -> Effect:
         """An effect that also catches some faults of the decoder. They are where the right bit is at first, and never
         leave that place."""
         return tuple([tuple([it & ~caught for it in row]) for row in effect]) if caught else effect
 
-    def of(self, part: Part, due: int) -> Tuple[Effect, int]:
-        """What an element does on good cells that hold `due`, and what these then hold."""
-        key = (part, due)
-        found = self.known.get(key)
+    def once(self, held: Held, word: str, due: int) -> Tuple[Held, int]:
+        """What is left after an element on good cells that hold `due`, and what these then hold. Most elements of a
+        walk come up once, so an effect is put together when it is asked for again."""
+        asked = self.asked[due]
+        if word == STOPPED or word in asked:
+            effect, end = self.of(word, due)
+            return applied(held, effect), end
+        asked.add(word)
+        end = ended(word, due)
+        held = self.crossing(held, word, (due,) * len(self.survivors.links), end)
+        caught = self.caught(word, due, end)
+        return (tuple([it & ~caught for it in held]) if caught else held), end
+
+    def of(self, word: str, due: int) -> Tuple[Effect, int]:
+        """The effect of an element on good cells that hold `due`, and what these then hold."""
+        found = self.known[due].get(word)
         if found is None:
-            end = left_by(part.operations, due)
-            if part.order == PAUSE.order:
+            end = ended(word, due)
+            if word == STOPPED:
                 effect = self.paused(due)
             else:
-                down = part.order == "down"
-                effect = self.crossed(part.operations, down, (due,) * len(self.survivors.links), end)
-                effect = self.without(effect, self.survivors.caught(part.operations, down, due))
-            found = self.known[key] = effect, end
+                effect = self.crossed(word, (due,) * len(self.survivors.links), end)
+                effect = self.without(effect, self.caught(word, due, end))
+            self.forget()
+            found = self.known[due][word] = effect, end
         return found
+
+    def forget(self) -> None:
+        """Keeps the memory of a long search small."""
+        if max(len(self.known[0]), len(self.known[1]), len(self.begun_known)) >= MOST:
+            self.known, self.asked = ({}, {}), (set(), set())
+            self.begun_known, self.visits_known = {}, {}
 
     def paused(self, due: int) -> Effect:
         link = self.survivors.links[0]
@@ -158,12 +247,12 @@ class Effects:
             return tuple(rows)
         return tuple([(*row, 0, 0) for row in (*rows, *rows)])
 
-    def begun(self, part: Part) -> Tuple[Held, int]:
+    def begun(self, word: str) -> Tuple[Held, int]:
         """What is left after a first element, which begins with a write."""
-        found = self.begun_known.get(part)
+        found = self.begun_known.get(word)
         if found is None:
-            survivors, down = self.survivors, part.order == "down"
-            end = left_by(part.operations, 0)
+            survivors = self.survivors
+            end = ended(word, 0)
             union: Held = (0,) * len(self.states)
             for contents in itertools.product(BITS, repeat=len(survivors.links)):
                 some = survivors.everyone if len(set(contents)) == 1 else survivors.apart
@@ -172,8 +261,15 @@ class Effects:
                 survivors.closed(
                     held, link.alone | LinkMasks.union(link.at) & link.wants[contents[0]], survivors.everyone
                 )
-                behind = applied(tuple(held[: len(self.states)]), self.crossed(part.operations, down, contents, end))
+                behind = self.crossing(tuple(held[: len(self.states)]), word, contents, end)
                 union = tuple([one | other for one, other in zip(union, behind)])
-            extra = survivors.extra & ~survivors.caught(part.operations, down, end)
-            found = self.begun_known[part] = (union[0] | extra, *union[1:]), end
+            extra = survivors.extra & ~survivors.caught(part_of(word).operations, word[0] == "d", end)
+            self.forget()
+            found = self.begun_known[word] = (union[0] | extra, *union[1:]), end
         return found
+
+
+def ended(word: str, due: int) -> int:
+    """What a good cell holds after an element."""
+    at = max(word.rfind("0"), word.rfind("1"))
+    return due if at < 0 else int(word[at])

@@ -4,8 +4,10 @@ from __future__ import annotations
 import dataclasses
 import functools
 import pathlib
-from typing import Iterator, List, Optional, Sequence, Set
+from typing import Callable, Iterator, List, Optional, Sequence, Set
 
+from vidlakost_tools.design.parts import Parts, parts_of
+from vidlakost_tools.design.wishes import fits_inside
 from vidlakost_tools.program import ROOT, with_text
 from vidlakost_tools.text import beside, lines_of, read_text
 from vidlakost_tools.texts.decoder import decoded
@@ -19,7 +21,9 @@ MARCHES = ROOT / "examples" / "marches"
 # every primitive
 LIST = "all\nDRF\ndyn1\ndyn2\n"
 # what a march covers beside a list, and its column in the tables
-BESIDE = {"-": "", "decoder": "AF", "linked": "LF"}
+BESIDE = {"-": "", "decoder": "AF", "linked": "LF", "inword": "inside a word"}
+# the memories inside whose words a march covers as much as March SS
+MEMORIES = ("buffer", "cache", "pipelined", "wide")
 TITLE = "## Shortest marches"
 INTRODUCTION = beside(__file__, "table_introduction.md")
 SAME = beside(__file__, "table_same.md")
@@ -70,8 +74,21 @@ class Entry:
             escapes += [it.primitive for it in with_text(self.march, decoded).escapes]
         if self.beside == "linked":
             escapes += [it.primitive for it in with_text(self.march, linked).escapes]
+        if self.beside == "inword" and not is_fit_inside(self.march):
+            raise ToolError(f"{FILE}: {self.march} covers less inside some word than March SS")
         if escapes:
             raise ToolError(f"{FILE}: {self.march} of {' '.join(self.words)} does not cover {escapes[0]}")
+
+
+def check(found: Sequence[Entry]) -> None:
+    """Ends with an error if a bound is less than that of a line whose faults are all among these. A list that holds
+    another needs as many operations."""
+    names = [set(it.names()) for it in found]
+    for it, own in zip(found, names):
+        for other, others in zip(found, names):
+            if others <= own and other.beside in ("-", it.beside) and other.least > it.least:
+                words, known = " ".join(it.words) or "-", " ".join(other.words) or "-"
+                raise ToolError(f"{FILE}: {words} needs {other.least}n at least, as {known} does, and not {it.least}n")
 
 
 def of_list(text: str, march: pathlib.Path) -> Report:
@@ -93,13 +110,27 @@ class Published:
     covered: Set[str]
     has_decoder: bool
     has_links: bool
+    source: str = ""
 
     def covers(self, names: Set[str], beside: str) -> bool:
         return (
             names <= self.covered
             and (beside != "decoder" or self.has_decoder)
             and (beside != "linked" or self.has_links)
+            and (beside != "inword" or is_fit_inside(read_text(MARCHES / self.file)))
         )
+
+
+@functools.lru_cache(maxsize=None)
+def insides() -> List[Callable[[Parts], bool]]:
+    """Of each memory whether a march covers enough inside its words."""
+    examples = ROOT / "examples"
+    return [fits_inside(str(examples / f"{name}.mem"), str(examples / "all.list")) for name in MEMORIES]
+
+
+def is_fit_inside(march: str) -> bool:
+    parts = parts_of(elements_of(march))
+    return all(fits(parts) for fits in insides())
 
 
 def entries() -> List[Entry]:
@@ -111,7 +142,7 @@ def entries() -> List[Entry]:
             least, _, shown_by = parts[2].partition(" ") if len(parts) == 4 else ("", "", "")
             if len(parts) != 4 or parts[1] not in BESIDE or not least.isdecimal():
                 raise ToolError(
-                    f"{FILE}:{number}: the line needs a list, `-`, `decoder` or `linked`, then a number and a march"
+                    f"{FILE}:{number}: the line needs a list, what is covered beside it, a number and a march"
                 )
             words = [] if parts[0] == "-" else parts[0].split()
             made.append(Entry(words, parts[1], int(least), parts[3], shown_by))
@@ -138,6 +169,7 @@ def listed(found: Sequence[Entry], marches: Sequence[Published]) -> Iterator[str
 def section(marches: Sequence[Published]) -> str:
     """The part of the gallery."""
     found = entries()
+    check(found)
     for it in found:
         it.look()
     by_file = {march.file: march for march in marches}

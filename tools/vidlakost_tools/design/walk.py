@@ -4,13 +4,14 @@ from __future__ import annotations
 
 import math
 import random
-from typing import Callable, List, NamedTuple, Optional, Sequence
+from typing import Callable, Dict, List, NamedTuple, Optional, Sequence, Tuple
 
-from vidlakost_tools.design.changes import Changes, March
+from vidlakost_tools.design.changes import NOTHING, Changes, Marked, Span, Words, changed, part_of, words_of
 from vidlakost_tools.design.effects import Effects, Held, applied, before
 from vidlakost_tools.design.parts import Limits, Part, elements_from, length
 from vidlakost_tools.design.survivors import Survivors
 
+March = Tuple[Part, ...]
 # how many bits of a mask are set; Python 3.10 has this of its own, and four times as fast
 count: Callable[[int], int] = getattr(int, "bit_count", lambda mask: bin(mask).count("1"))
 # after how many changes a walk looks whether it is over
@@ -55,65 +56,88 @@ class Place:
             state, due = survivors.run(elements_from(behind))
             by_bit = (state[due], state[1 - due], state[2 + due], state[3 - due])
             self.start, self.due = by_bit[: len(self.effects.states)], due
-        self.march: March = ()
-        self.left_before: List[Held] = []
-        self.dues: List[int] = []
+        self.marked = Marked(())
+        self.left_before: List[Held] = [self.start or self.end]
+        self.dues: List[int] = [self.due]
         self.rest: List[Held] = [self.end]
 
-    def take(self, march: March) -> None:
-        """The new march."""
-        of = self.effects.of
-        first = self.first(march)
+    @property
+    def march(self) -> Words:
+        return self.marked.march
+
+    def take(self, march: Words) -> None:
+        """The new march. What is left before its first new element is known, and what survives behind the last one."""
+        first = same_from(march, self.march)
         left_before, dues = self.left_before[: first + 1], self.dues[: first + 1]
-        if not left_before:
-            left_before, dues = [self.start or self.end], [self.due]
-        for place in range(len(left_before) - 1, len(march)):
-            if not place and self.start is None:
-                held, due = self.effects.begun(march[0])
-            else:
-                effect, due = of(march[place], dues[place])
-                held = applied(left_before[place], effect)
+        for place in range(first, len(march)):
+            held, due = self.passed(place, march[place], left_before[place], dues[place])
             left_before.append(held)
             dues.append(due)
-        rest = [self.end]
-        for place in range(len(march) - 1, 0 if self.start is None else -1, -1):
-            rest.append(before(of(march[place], dues[place])[0], rest[-1]))
-        if self.start is None:
-            rest.append(self.end)
-        rest.reverse()
-        self.march, self.left_before, self.dues, self.rest = march, left_before, dues, rest
+        self.rest = self.surviving(march, dues)
+        self.marked, self.left_before, self.dues = Marked(march), left_before, dues
 
-    def first(self, march: March) -> int:
-        """The first element that is another one."""
-        place, most = 0, min(len(march), len(self.march))
-        old = self.march
-        while place < most and march[place] == old[place]:
-            place += 1
-        return place
-
-    def left(self, march: March) -> int:
-        """What another march leaves."""
-        old = self.march
-        more = len(old) - len(march)
-        place = self.first(march)
-        if place == len(march) == len(old):
-            held = self.left_before[-1]
-            return union(held, self.end)
-        same = len(march)
-        while same > place and same + more > place and march[same - 1] == old[same + more - 1]:
+    def surviving(self, march: Words, dues: Sequence[int]) -> List[Held]:
+        """What survives each end of a march, of each state before it. No state is before a first element."""
+        free = 1 if self.start is None else 0
+        same = min(same_from(march[::-1], self.march[::-1]), min(len(march), len(self.march)) - free)
+        while same > 0 and dues[-1 - same] != self.dues[-1 - same]:
             same -= 1
-        held, due = self.left_before[place], self.dues[place]
-        of, dues = self.effects.of, self.dues
+        rest = self.rest[len(self.rest) - 1 - max(same, 0) :][::-1]
+        for place in range(len(march) - len(rest), free - 1, -1):
+            rest.append(before(self.effects.of(march[place], dues[place])[0], rest[-1]))
+        return [*[self.end] * free, *rest[::-1]]
+
+    def passed(self, place: int, word: str, held: Held, due: int) -> Tuple[Held, int]:
+        """What is left after an element, and what good cells then hold."""
         if not place and self.start is None:
-            held, due = self.effects.begun(march[0])
-            place = 1
-        while place < len(march):
-            if place >= same and place + more > 0 and due == dues[place + more]:
-                return union(held, self.rest[place + more])
-            effect, due = of(march[place], due)
-            held = applied(held, effect)
-            place += 1
-        return union(held, self.end)
+            return self.effects.begun(word)
+        effect, due = self.effects.of(word, due)
+        return applied(held, effect), due
+
+    def left(self, span: Span) -> int:
+        """What the march leaves after a change. Only the elements that change are asked, and those behind them which
+        find other bits in the cells."""
+        start, stop, words = span
+        march, dues = self.marked.march, self.dues
+        held, due = self.left_before[start], dues[start]
+        if not start and self.start is None:
+            if not words:
+                stop, words = stop + 1, march[stop : stop + 1]
+            held, due = self.effects.begun(words[0])
+            words = words[1:]
+        held, due = self.through(held, words, due)
+        while due != dues[stop] and stop < len(march):
+            held, due = self.through(held, march[stop : stop + 1], due)
+            stop += 1
+        return union(held, self.rest[stop])
+
+    def through(self, held: Held, words: Words, due: int) -> Tuple[Held, int]:
+        """What is left after some elements, and what good cells then hold."""
+        known, once = self.effects.known, self.effects.once
+        if len(held) == 4:
+            for word in words:
+                found = known[due].get(word)
+                held, due = (applied(held, found[0]), found[1]) if found else once(held, word, due)
+            return held, due
+        a, b = held
+        for word in words:
+            found = known[due].get(word)
+            if found:
+                (p, q), due = found
+                a, b = a & p[0] | b & q[0], a & p[1] | b & q[1]
+            else:
+                (a, b), due = once((a, b), word, due)
+        return (a, b), due
+
+
+def same_from(one: Sequence[object], other: Sequence[object]) -> int:
+    """How many elements are the same in both from the first on."""
+    count = 0
+    for first, second in zip(one, other):
+        if first != second:
+            break
+        count += 1
+    return count
 
 
 def union(held: Held, rest: Held) -> int:
@@ -136,10 +160,11 @@ class Walk:
         operations = turn.operations(length(best))
         random_one = random.Random(seed)
         changes, chance = Changes(random_one, self.limits, not self.behind, self.elements), random_one.random
-        start = changes.without(best, operations) if turn.is_best else changes.any(operations)
+        start = changes.without(words_of(best), operations) if turn.is_best else changes.any(operations)
         place, one, exp = self.place, changes.one, math.exp
         place.take(start)
-        now = count(place.left(start))
+        left, known = place.left, {}  # type: Callable[[Span], int], Dict[Words, int]
+        now = count(left(NOTHING))
         warmth, falling = turn.hot, (turn.cold / turn.hot) ** (LOOKS / turn.changes)
         for step in range(turn.changes):
             if not step % LOOKS:
@@ -147,11 +172,14 @@ class Walk:
                 if is_over():
                     return None
             if not now and changes.allows(place.march):
-                return place.march
-            march = one(place.march)
-            if march is None:
+                return tuple([part_of(word) for word in place.march])
+            span = one(place.marked)
+            if span is None:
                 continue
-            then = count(place.left(march))
+            march = changed(place.marked.march, span)
+            then = known.get(march, -1)
+            if then < 0:
+                then = known[march] = count(left(span))
             if then <= now or chance() < exp((now - then) / warmth):
                 place.take(march)
                 now = then

@@ -14,15 +14,14 @@ import time
 from typing import Any, Callable, Dict, Iterator, List, Optional, Sequence, Tuple
 
 from vidlakost_tools.design.beside import Beside, answer_signals, end
-from vidlakost_tools.design.changes import March
 from vidlakost_tools.design.parts import Limits, Part, Parts, length
 from vidlakost_tools.design.survivors import Survivors
-from vidlakost_tools.design.walk import LOOKS, TURNS, Walk
+from vidlakost_tools.design.walk import LOOKS, TURNS, March, Walk
 from vidlakost_tools.tool import ToolError
 
 # a number that is greater than that of each walk
 NONE = 1 << 30
-# how often a process that waits looks whether the search is still there, and how often the search tells how far it is
+# how often the search tells how far it is
 SECONDS = 0.5
 # a walk: its number, and the best march so far
 Task = Tuple[int, March]
@@ -66,25 +65,23 @@ class Worker:
 
 def work(walks: Walks, shared: Any, connection: Any, parent: int) -> None:
     """What a process does."""
-    answer_signals()
+    answer_signals(parent)
     walk = Walk(walks.survivors, walks.limits, walks.behind)
     with contextlib.suppress(EOFError, OSError):
-        while os.getppid() == parent:
-            if connection.poll(SECONDS):
-                number, best = connection.recv()
-                connection.send((number, walked(walks, walk, shared, (number, best), parent)))
+        while True:
+            number, best = connection.recv()
+            connection.send((number, walked(walks, walk, shared, (number, best))))
 
 
-def walked(walks: Walks, walk: Walk, shared: Any, task: Task, parent: int) -> Optional[March]:
-    """The result of one walk. It ends early if one with a smaller number has come to a march, or if the search is no
-    longer there."""
+def walked(walks: Walks, walk: Walk, shared: Any, task: Task) -> Optional[March]:
+    """The result of one walk. It ends early if one with a smaller number has come to a march."""
     won, tried = shared
     number, best = task
 
     def is_over() -> bool:
         with tried.get_lock():
             tried.value += LOOKS
-        return bool(won.value < number) or os.getppid() != parent
+        return bool(won.value < number)
 
     found = walk.run(f"{walks.seed} {length(best)} {number}", TURNS[(number - 1) % len(TURNS)], best, is_over)
     if found is None or walks.fits is not None and not walks.fits([*walks.behind, *found]):
