@@ -20,6 +20,7 @@ from tests.integration.failing_chip import (
     commands,
     faults,
     round_memories,
+    simulated,
     written,
 )
 from vidlakost_tools.tester_files import bsdl, icl, pdl, stil, svf, wgl
@@ -367,6 +368,7 @@ def logged(bench: Bench) -> None:
     if is_left_out():
         return
     chip = Chip(bench, True, False, [], 4)
+    simulated(bench, chip.name)
     chip.plays_files(["svf"])
     chip.plays_log("ram32", 5, 3)
     chip.plays_log("ram8", 0, 22)

@@ -5,6 +5,7 @@ from __future__ import annotations
 import dataclasses
 import pathlib
 import re
+import shutil
 
 from tests.integration.bench import Bench
 
@@ -197,3 +198,17 @@ def round_memories(bench: Bench, name: str, kind: str, is_placed: bool, is_slow:
         pins = f".clk(clk_{number}), .ce(1'b0), .we(1'b0), .a({address}'d0), .d({bits}'d0), .q()"
         lines.append(f"  {name_of} {word}({pins}, .bist_in(to_{number}), .bist_out(of_{number}));")
     return "\n".join(lines)
+
+
+def simulated(bench: Bench, chip: str) -> None:
+    """The testbench of a memory that keeps several wrong reads passes in each simulator, with what it plants."""
+    calls = {"iverilog": "iverilog -g2012 -o word_tb -c w8_in_place.f && vvp -n word_tb +planted"}
+    if shutil.which("verilator") and shutil.which("make"):
+        build = "verilator --binary -CFLAGS -O0 -Wno-fatal --top-module w8_in_place_tb --Mdir built -f w8_in_place.f"
+        calls["verilator"] = f"{build} >built.log && built/Vw8_in_place_tb +planted"
+    else:
+        print("verilator is not installed, so the testbench of a log in place runs in Icarus alone")
+    for name, call in calls.items():
+        done = bench.run(["bash", "-c", f"cd {chip} && {call}"])
+        is_so = not done.returncode and done.stdout.endswith("w8_in_place_tb: passed\n")
+        bench.is_so(is_so, f"{chip}, w8 in {name}: {done.stdout}{done.stderr}")

@@ -109,9 +109,27 @@ def judged(bench: Bench) -> None:
     text = text.replace("examples/in_place/camera_before.v", "own_before.v")
     (bench.folder / "own.places").write_text(text.replace("examples/in_place/camera.v", "own_after.v"))
     looks(bench, after, True)
+    flowed(bench)
     for old, new in WRONG:
         bench.is_so(after.count(old.strip()) > 0, f"{old!r} does not stand in the chip")
         looks(bench, after.replace(old.strip(), new.strip()), False)
+
+
+def flowed(bench: Bench) -> None:
+    """The makefile makes the register in place of a TAP, and the chip with its own TAP passes by it; the constraints
+    are of the register."""
+    if not shutil.which("make"):
+        return
+    words = [CAMERA, *PLACED, "own_flow", "--in-place", "--under-tap"]
+    bench.run(["tools/flow", *words, "--places", "own.places"])
+    make = ["make", "-s", f"LAUNCHER={bench.folder}/vidlakost", "SIM=iverilog", "-C", "own_flow"]
+    done = bench.run([*make, "chip/access", "places/passed"])
+    told = ("camera_register_tb: passed\n", "places: right: in use each memory", "camera: passes once more\n")
+    is_so = not done.returncode and all(one in done.stdout for one in told)
+    bench.is_so(is_so, f"the makefile of a chip with its own TAP: {done.stdout}{done.stderr}")
+    bench.run(["tools/sdc", *words, "--mhz", "100", "--places", "own.places"])
+    timed = (bench.folder / "own_flow/camera_test.sdc").read_text()
+    bench.is_so("[get_ports {select capture shift update tdi}]" in timed, f"sdc --under-tap: {timed}")
 
 
 def looks(bench: Bench, after: str, is_right: bool) -> None:

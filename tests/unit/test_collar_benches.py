@@ -2,6 +2,7 @@
 from __future__ import annotations
 
 import pathlib
+import re
 import subprocess
 import tempfile
 import unittest
@@ -43,10 +44,11 @@ def ports_of(memory: Memory) -> str:
 
 @needs("iverilog", "vvp")
 class Benches(unittest.TestCase):
-    def said(self, lines: list[str], *words: str, test: str = TEST, theirs: list[str] | None = None) -> list[str]:
-        """The lines of a run of a collar's testbench, beside the model of other lines if these are given."""
+    def said(self, lines: list[str], *words: str, test: str = TEST, theirs: list[str] | str = "") -> list[str]:
+        """The lines of a run of a collar's testbench, beside another model, or that of other lines, if it is given."""
         macro, word = read(lines)
-        texts = [Bench(macro, word).text(), collar(macro, word, "bist"), model(*read(theirs or lines)), test]
+        beside = theirs if theirs and isinstance(theirs, str) else model(*read(list(theirs) or lines))
+        texts = [Bench(macro, word).text(), collar(macro, word, "bist"), beside, test]
         with tempfile.TemporaryDirectory() as name:
             folder = pathlib.Path(name)
             files = []
@@ -96,6 +98,19 @@ class Benches(unittest.TestCase):
         self.assertNotIn("four_collar_tb: passed", said)
         said = "\n".join(self.said(PLAIN, theirs=theirs))
         self.assertIn("look at the polarity of ce, wen; inputs and supplies of the model", said)
+
+    def test_output_that_a_pin_turns_off(self) -> None:
+        """The pin is named that leaves the words of the macro undriven, whether it is fixed in test or not."""
+        right = model(*read([*PLAIN, "pass s 2", "pass oe 1 1"]))
+        answer = re.search(r"assign q = (.*);", right)
+        assert answer
+        theirs = right.replace(answer[0], f"assign q = oe ? {answer[1]} : 2'bzz;")
+        for line, names in (("pass oe 1 1", "oe"), ("pass oe 1 0", "s or oe"), ("pass oe 1", "oe")):
+            with self.subTest(line=line):
+                said = self.said([*PLAIN, "pass s 2 1", line], theirs=theirs)
+                self.assertRegex(said[0], f"four: q of the macro is zz, since {names} turns it off: .* so tie {names}$")
+                self.assertNotIn("four_collar_tb: passed", said)
+        self.assertEqual(self.said([*PLAIN, "tie oe 1'b1", "pass s 2"], theirs=theirs)[-1], "four_collar_tb: passed")
 
     def test_controller_that_finds_nothing(self) -> None:
         never = TEST.replace("assign fail = !reset && failed;", "assign fail = 1'b0;")

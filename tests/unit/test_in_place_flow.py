@@ -2,6 +2,7 @@
 itself, and OpenSTA may tell of those pins alone to which no path goes."""
 from __future__ import annotations
 
+import dataclasses
 import itertools
 import os
 import pathlib
@@ -11,6 +12,7 @@ import subprocess
 import tempfile
 import unittest
 
+from vidlakost_tools.access import under_tap
 from vidlakost_tools.access.constraints import Timing
 from vidlakost_tools.chip import system as soc
 from vidlakost_tools.collar.port_list import Ports
@@ -83,6 +85,17 @@ class InPlaceFlow(unittest.TestCase):
         self.assertIn("of_5", inputs)
         self.is_told(self.texts()["camera_test.sdc"], inputs, outputs)
 
+    def test_each_port_of_a_register_under_another_tap(self) -> None:
+        """The pins of the host interface are of tck, which takes `tdo` at its falling edge; reset_n may come at any
+        time."""
+        module = re.sub("`.*", "", under_tap.block(self.target))
+        inputs, outputs = (ports_in(module, "camera_register", way) for way in ("input", "output"))
+        text = self.texts("register")["camera_test.sdc"]
+        self.is_told(text, inputs, outputs)
+        self.assertIn("set_output_delay 20 -clock tck -clock_fall [get_ports {tdo}]\n", text)
+        self.assertIn("set_input_delay 20 -clock tck [get_ports {select capture shift update tdi}]\n", text)
+        self.assertTrue(text.startswith("# camera_register under test, at 100 MHz."))
+
     def test_each_port_of_a_chip(self) -> None:
         ports = {way: {port.name for port in self.places.ports if port.way == way} for way in ("input", "output")}
         self.is_told(self.texts()["camera_chip_test.sdc"], ports["input"], ports["output"])
@@ -136,9 +149,17 @@ class InPlaceFlow(unittest.TestCase):
         self.refused(why, *common, "--in-place", "--clock", "x=9")
         self.refused("the clock of low twice", *common, "--in-place", "--clock", "low=9", "--clock", "low=8")
         self.refused("the clock of low is a number above 0", *common, "--in-place", "--clock", "low=-9")
+        self.refused("--under-tap needs --in-place", *common, "--under-tap")
+        self.refused("at most one of --apb, --jtag and --under-tap", *common, "--in-place", "--jtag", "--under-tap")
         self.refused("--falling is for ports to the memories", *common, "--in-place", "--falling")
         self.refused("--in-place needs the files of pins", "sdc", LIST, "none", "--mhz", "50", "--in-place")
         self.refused("--places needs --in-place", "flow", LIST, *PINS, "none", "--places", PLACES)
+        self.refused("--under-tap needs --in-place", "flow", LIST, *PINS, "none", "--under-tap")
+        why = f"{PLACES} has no line under, so there is no TAP for --under-tap"
+        self.refused(why, "flow", LIST, *PINS, "none", "--in-place", "--places", PLACES, "--under-tap")
+        self.places.under = (6, 0x2C)
+        with self.assertRaisesRegex(ToolError, f"{PLACES} has the line under: say --under-tap"):
+            flow_command.refuse_other_tap(self.places, False)
 
     # ---- the makefile
 
@@ -156,6 +177,16 @@ class InPlaceFlow(unittest.TestCase):
         text = self.flow(self.places).text()
         for step in (step for made in steps.values() for step in made):
             self.assertEqual(len(re.findall(rf"^{re.escape(step)}: .*FORCE$", text, re.MULTILINE)), 1, step)
+
+    def test_under_another_tap(self) -> None:
+        """What `access` writes for the chip's own TAP is made, tried and timed, and no TAP is."""
+        usual = self.flow(self.places)
+        under = dataclasses.replace(usual, is_under=True).text()
+        for text, option, turn, other in ((usual.text(), "--jtag", "tap", "register"), (under, "--under-tap", "register", "tap")):
+            self.assertIn(f"--in-place --apb {option} >/dev/null", text)
+            self.assertIn(f"for kind in access apb {turn}; do", text)
+            self.assertIn(f"../chip/camera_{turn}.v", text)
+            self.assertNotIn(f"camera_{other}.v", text)
 
     def test_models_of_vendors(self) -> None:
         """Verilator takes an array that two blocks write where the model is a vendor's, and only there."""

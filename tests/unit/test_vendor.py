@@ -7,6 +7,7 @@ import unittest
 
 from vidlakost_tools.collar.pin_lines import read_macro
 from vidlakost_tools.collar.pins import Word
+from vidlakost_tools.collar.untested import beyond, told_pins
 from vidlakost_tools.collar.vendor import files_beside, files_of, refuse_other_ports, undriven
 from vidlakost_tools.texts.memory import parse_memory
 from vidlakost_tools.tool import ToolError
@@ -94,6 +95,35 @@ class Widths(unittest.TestCase):
                 macro = read_macro(f"{name}/ram.pins", word)
                 refuse_other_ports(macro, f"{name}/{file}")
                 self.assertIn(told, undriven(macro, f"{name}/{file}")[0].replace(f"{name}/", ""))
+
+
+class WordsOfAModel(unittest.TestCase):
+    """Which words of a macro the test leaves out, where 40 are described and the model has an array."""
+
+    def told(self, array: str) -> str:
+        with tempfile.TemporaryDirectory() as name:
+            file, pins = pathlib.Path(name) / "ram.v", pathlib.Path(name) / "ram.pins"
+            head = HEADS["parameters"].format(a=6, d=4, q=4).replace("#(", "#(parameter DEPTH = 1 << 6, ")
+            file.write_text(f"{head}\n  reg [D:0] last, spare;\n  {array}\nendmodule\n")
+            pins.write_text(PINS)
+            word = Word([parse_memory(MEMORY.format(words=40, bits=4))])
+            return told_pins(beyond(read_macro(str(pins), word), word, str(file))).replace(f"{name}/", "")
+
+    def test_as_many_words_as_are_described(self) -> None:
+        for array in ("reg [3:0] words [0:39];", "reg [D:0] words [39:0];", "logic [3:0] words [40];"):
+            self.assertEqual(self.told(array), "", array)
+        self.assertEqual(self.told("localparam N = 40; reg [3:0] words [0:N-1];"), "")
+
+    def test_more_words(self) -> None:
+        for array in ("reg [3:0] words [0:63];", "reg [3:0] words [DEPTH-1:0];", "reg [3:0] words [0:(1<<A)-1];"):
+            self.assertEqual(self.told(array), "a: from 40 to 63, words that the macro has in ram.v", array)
+        self.assertEqual(self.told("reg [3:0] words [0:47];"), "a: from 40 to 47, words that the macro has in ram.v")
+
+    def test_what_no_array_tells(self) -> None:
+        """Words of another width, arrays of which each is a part, a depth that no number tells, or no array."""
+        two = "reg [3:0] low [0:31]; reg [3:0] high [0:31];"
+        for array in ("reg [7:0] words [0:39];", two, "reg [3:0] words [0:$clog2(9)];", "core u(a, d, q);", "reg"):
+            self.assertEqual(self.told(array), "a: from 40 to 63, if the macro has these words", array)
 
 
 class Files(unittest.TestCase):

@@ -73,7 +73,7 @@ class Ports:
         return found
 
     def value(self, words: list[str]) -> int | None:
-        """The number of an expression of numbers, parameters and + - * / and parentheses; None of any other."""
+        """The number of an expression of numbers, parameters and + - * / << and parentheses; None of any other."""
         texts = []
         for word in words:
             known = str(self.numbers[word]) if word in self.numbers else word
@@ -177,7 +177,7 @@ class Sum:
         self.words, self.here = words, 0
 
     def value(self) -> int | None:
-        found = self.sum(0)
+        found = self.shift(0)
         return found if self.here == len(self.words) else None
 
     def take(self, *wanted: str) -> str | None:
@@ -185,6 +185,13 @@ class Sum:
             self.here += 1
             return self.words[self.here - 1]
         return None
+
+    def shift(self, depth: int) -> int | None:
+        left = self.sum(depth)
+        while left is not None and self.take("<<"):
+            right = self.sum(depth)
+            left = left << right if right is not None and 0 <= right <= 32 and abs(left) < 1 << 32 else None
+        return left
 
     def sum(self, depth: int) -> int | None:
         left = self.product(depth)
@@ -210,7 +217,7 @@ class Sum:
 
     def one(self, depth: int) -> int | None:
         if self.take("("):
-            inner = self.sum(depth + 1) if depth < 40 else None
+            inner = self.shift(depth + 1) if depth < 40 else None
             return inner if self.take(")") else None
         if self.here < len(self.words) and self.words[self.here].isdigit():
             self.here += 1

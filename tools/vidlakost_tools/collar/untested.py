@@ -4,6 +4,7 @@ from __future__ import annotations
 
 import dataclasses
 
+from vidlakost_tools.collar.model_words import model_words
 from vidlakost_tools.collar.pins import ADDRESSES, Macro, Pin, Word
 
 # what is said of a further pin
@@ -58,12 +59,16 @@ def untested(macro: Macro, word: Word, is_theirs: bool = False) -> list[Untested
     return [Untested(name, why) for name, why in found if why]
 
 
-def beyond(macro: Macro, word: Word) -> list[Untested]:
-    """The address pins that count further than the words of the description, which a larger macro may have."""
-    words, width = word.first.words, word.first.width
-    if words == 1 << width:
+def beyond(macro: Macro, word: Word, model: str | None = None) -> list[Untested]:
+    """The address pins that count further than the words of the description, which a larger macro may have: the model in
+    a file may tell."""
+    words, last = word.first.words, (1 << word.first.width) - 1
+    there = model_words(macro, model, word.bits) if model else None
+    if words > last or there == words:
         return []
-    told = f"from {words} to {(1 << width) - 1}, if the macro has these words"
+    told = f"from {words} to {last}, if the macro has these words"
+    if model and there and there > words:
+        told = f"from {words} to {min(there - 1, last)}, words that the macro has in {model}"
     return [Untested(pin.name, told) for pin in macro.pins if pin.kind in ADDRESSES]
 
 

@@ -95,13 +95,17 @@ def number_of(value: str) -> int | None:
     return found[1] if found else int(value) if re.fullmatch("[0-9]{1,9}", value) else None
 
 
+def given_numbers(macro: Macro) -> dict[str, int]:
+    """The parameters of a macro that the pins give a number."""
+    return {name: number for name, value in macro.parameters for number in [number_of(value)] if number is not None}
+
+
 def ports_of(macro: Macro, file: str, defined: Collection[str]) -> list[Found] | None:
     """The ports of a model where these names are defined, with the parameters that the pins give it; None if the module
     is not there."""
-    given = {name: number for name, value in macro.parameters for number in [number_of(value)] if number is not None}
     text = read_described(file, SOURCE_BYTES)
     is_there = macro.name in modules_in(taken(file, text, defined))
-    return Ports(file, text, macro.name, given, defined).ports() if is_there else None
+    return Ports(file, text, macro.name, given_numbers(macro), defined).ports() if is_there else None
 
 
 def unlike(macro: Macro, file: str, found: list[Found]) -> ToolError | None:

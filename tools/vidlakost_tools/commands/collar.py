@@ -138,7 +138,7 @@ def tell_left(macro: Macro, word: Word, theirs: str | None) -> None:
         tell(f"collar: {told}")
     if chosen_clocks(macro) and macro.clock_cell is None:
         tell(f"collar: `? :` chooses the clock of {', '.join(chosen_clocks(macro))}: name a cell by --clock-mux")
-    left = told_pins([*untested(macro, word, theirs is not None), *beyond(macro, word)])
+    left = told_pins([*untested(macro, word, theirs is not None), *beyond(macro, word, theirs)])
     if left:
         tell(f"collar: not tested: {left}")
     if alike(word):

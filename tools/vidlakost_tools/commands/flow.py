@@ -1,7 +1,7 @@
 """A makefile for a whole chip: controllers, collars, the top, testbenches, lint, synthesis and reports.
 
 usage: vidlakost flow CHIPFILE|LIST [PINS..] FOLDER [--list FAULTS] [--model FILE]..
-                      [--in-place [--places FILE] [--log N]]
+                      [--in-place [--places FILE] [--log N] [--under-tap]]
                       [--clock-mux CELL:SELECT:CHIP:TEST:OUT]
        vidlakost flow --help
 
@@ -22,7 +22,8 @@ in that testbench, its lint, its count of cells and its timing. FOLDER/chip gets
 `access` writes with its testbenches, without a wrong bit and with one. FILE of --places is a text that
 `vidlakost places` reads. With it FOLDER/places gets the testbench of the chip, without wrong bits and with them, and
 its timing, and Yosys proves its use; `make places` is that step. There is no page for a tester. With --log each memory
-keeps N wrong reads.
+keeps N wrong reads. With --under-tap the chip has a TAP already: `access` writes the register under it in place of a
+TAP, and FILE has the line `under`.
 
 Words for `make`; name a file in them from FOLDER on:
     SIM=verilator    uses Verilator in place of Icarus
@@ -51,8 +52,11 @@ from vidlakost_tools.collar.vendor import files_of, refuse_other_ports
 from vidlakost_tools.files import write_own
 from vidlakost_tools.in_place import files as in_place_files
 from vidlakost_tools.in_place.flow import PlaceFlow
-from vidlakost_tools.in_place.place_list import inputs_of, read_places
+from vidlakost_tools.in_place.place_list import Places, inputs_of, read_places
 from vidlakost_tools.tool import ToolError, usage_of, words_of
+
+# the options of memories in their places
+PLACED = ("--places", "--log", "--under-tap")
 
 
 def pins_beside(system: System) -> list[str]:
@@ -85,12 +89,19 @@ def vendors_of(system: System, options: dict[str, Any], is_placed: bool) -> dict
     return vendors
 
 
+def refuse_other_tap(places: Places | None, is_under: bool) -> None:
+    """The chip of a text has the TAP that `access` writes, or one of its own."""
+    if places and places.has_tap and is_under != bool(places.under[0]):
+        way = "has no line under, so there is no TAP for --under-tap" if is_under else "has the line under: say --under-tap"
+        raise ToolError(f"{places.path} {way}")
+
+
 def main(arguments: list[str]) -> int:
     allowed: dict[str, int | list[str]] = {"--list": 1, "--model": [], "--clock-mux": 1, "--in-place": 0}
-    allowed.update({"--places": 1, "--log": 1})
+    allowed.update({"--places": 1, "--log": 1, "--under-tap": 0})
     (path, *pins, folder), options = words_of(__doc__, arguments, allowed, 2)
     is_placed = "--in-place" in options
-    alone = next((name for name in ("--places", "--log") if name in options and not is_placed), None)
+    alone = next((name for name in PLACED if name in options and not is_placed), None)
     if alone:
         raise ToolError(f"{alone} needs --in-place\n{usage_of(__doc__)}")
     system = soc.read_system(path)
@@ -108,7 +119,8 @@ def main(arguments: list[str]) -> int:
     told = (system, path, pins, options.get("--list", str(out / "faults.list")), out, vendors)
     mux = options.get("--clock-mux", "")
     places = read_places(options["--places"], system) if "--places" in options else None
-    flow = PlaceFlow(*told, mux, places) if is_placed else Flow(*told, mux)
+    refuse_other_tap(places, "--under-tap" in options)
+    flow = PlaceFlow(*told, mux, places, "--under-tap" in options) if is_placed else Flow(*told, mux)
     texts = {"Makefile": flow.text(), "sta.known": flow.known()}
     if "--list" not in options:
         texts["faults.list"] = f"{MARK}\nall\nDRF\n"

@@ -3,7 +3,8 @@
 usage: vidlakost sdc MEMORY|CHIPFILE FOLDER --mhz F [--normal-mhz F] [--apb | --jtag] [--bus-mhz F] [--share S]
                      [--falling]
        vidlakost sdc LIST|CHIPFILE PINS.. FOLDER .. with the same options
-       vidlakost sdc LIST|CHIPFILE PINS.. FOLDER --in-place [--clock MEMORY=F].. [--places FILE] .. but for --falling
+       vidlakost sdc LIST|CHIPFILE PINS.. FOLDER --in-place [--clock MEMORY=F].. [--places FILE] [--under-tap] ..
+                     but for --falling
        vidlakost sdc --help
 
 sdc writes to FOLDER two files for the module NAME_access, or NAME_apb, or NAME_tap:
@@ -17,7 +18,8 @@ for the whole chip that `vidlakost top` joins. Its pins belong to the clock of t
 chip is a clock of its own. The clock of a bus is asynchronous to that of the memories.
 
 With --in-place the files are for the memories that `vidlakost top --in-place` left in their places. NAME_test.sdc and
-NAME_normal.sdc are for the sequencer NAME_access, or for the module of its bus. Each memory has two more files:
+NAME_normal.sdc are for the sequencer NAME_access, or for the module of its bus; with --under-tap for NAME_register,
+which is under the chip's own TAP. Each memory has two more files:
     WORD_in_place_test.sdc, WORD_in_place_normal.sdc
                              for the module WORD_in_place: each of its clocks, and its pins by the clock of their port
 --clock gives a memory another clock than the sequencer's. With --places FILE, a text that `vidlakost places` reads, sdc
@@ -46,7 +48,9 @@ from vidlakost_tools.texts.memory import read_memory
 from vidlakost_tools.tool import ToolError, usage_of, words_of
 
 # the options of memories in their places
-PLACED = ("--clock", "--places")
+PLACED = ("--clock", "--places", "--under-tap")
+# the module that each option asks for
+KINDS = {"--apb": "apb", "--jtag": "tap", "--under-tap": "register"}
 
 
 def number(name: str, text: str) -> float:
@@ -109,10 +113,11 @@ def main(arguments: list[str]) -> int:
     allowed: dict[str, int | list[str]] = dict.fromkeys(
         ("--mhz", "--normal-mhz", "--bus-mhz", "--share", "--places"), 1
     )
-    allowed.update({"--apb": 0, "--jtag": 0, "--falling": 0, "--in-place": 0, "--clock": []})
+    allowed.update({"--apb": 0, "--jtag": 0, "--under-tap": 0, "--falling": 0, "--in-place": 0, "--clock": []})
     (path, *pins, folder), options = words_of(__doc__, arguments, allowed, 2, None)
-    if "--mhz" not in options or {"--apb", "--jtag"} <= set(options):
-        raise ToolError(f"give --mhz, and at most one of --apb and --jtag\n{usage_of(__doc__)}")
+    kinds = [kind for option, kind in KINDS.items() if option in options]
+    if "--mhz" not in options or len(kinds) > 1:
+        raise ToolError(f"give --mhz, and at most one of --apb, --jtag and --under-tap\n{usage_of(__doc__)}")
     alone = next((name for name in PLACED if name in options and "--in-place" not in options), None)
     if alone:
         raise ToolError(f"{alone} needs --in-place\n{usage_of(__doc__)}")
@@ -121,7 +126,7 @@ def main(arguments: list[str]) -> int:
         raise ToolError(f"--share is below 1, and not {share:g}")
     normal, bus = positive(options, "--normal-mhz", test), positive(options, "--bus-mhz", 20)
     timing = Timing(test, normal, bus, share, "--falling" in options)
-    kind = "apb" if "--apb" in options else "tap" if "--jtag" in options else "access"
+    kind = kinds[0] if kinds else "access"
     if "--in-place" in options:
         texts, read = texts_in_place(path, pins, folder, kind, timing, options)
     else:

@@ -65,7 +65,7 @@ from vidlakost_tools.collar.names import MARK
 from vidlakost_tools.collar.pins import Macro, alike
 from vidlakost_tools.collar.text import collar
 from vidlakost_tools.collar.untested import Untested, beyond, told_pins, untested
-from vidlakost_tools.collar.vendor import files_by_module, files_of, refuse_other_ports, undriven
+from vidlakost_tools.collar.vendor import file_with, files_by_module, files_of, refuse_other_ports, undriven
 from vidlakost_tools.files import is_own, refuse_twins, write_own
 from vidlakost_tools.in_place import files as in_place_files
 from vidlakost_tools.in_place.sequencer import of_places
@@ -196,7 +196,7 @@ def give_clocks(system: System, options: dict[str, Any]) -> None:
         tell(f"top: `? :` chooses the clock of {names}: name a cell by --clock-mux")
 
 
-def tell_untested(system: System, texts: dict[str, str]) -> None:
+def tell_untested(system: System, texts: dict[str, str], vendors: dict[str, list[str]]) -> None:
     """Says what of the macros is not tested. A model that is not among the texts is somebody else's."""
     words = {placed.word.name: placed for placed in system.collars}
     left = [
@@ -204,7 +204,7 @@ def tell_untested(system: System, texts: dict[str, str]) -> None:
         for name, placed in words.items()
         for one in (
             *untested(placed.macro, placed.word, f"{placed.macro.name}.v" not in texts),
-            *beyond(placed.macro, placed.word),
+            *beyond(placed.macro, placed.word, file_with(placed.macro.name, vendors)),
         )
     ]
     if left:
@@ -245,5 +245,5 @@ def main(arguments: list[str]) -> int:
     inputs += [name for part in system.parts for name in (part.unit.march, part.unit.memory_file)]
     refuse_twins(texts)
     write_own(folder, texts, inputs)
-    tell_untested(system, texts)
+    tell_untested(system, texts, vendors)
     return 0
