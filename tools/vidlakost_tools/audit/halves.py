@@ -6,7 +6,7 @@ from __future__ import annotations
 
 import dataclasses
 import operator
-from typing import Any, Callable, Dict, Hashable, List, Sequence, Tuple
+from typing import Any, Callable, Dict, Hashable, List, Sequence, Tuple, cast
 
 from vidlakost_tools.audit.gates import Machine
 
@@ -59,7 +59,9 @@ class Groups:
 
 def taken(of: Sequence[int]) -> Callable[[list[int]], Any]:
     """A function to the numbers of some groups."""
-    return operator.itemgetter(*of) if of else lambda numbers: ()
+    if not of:
+        return lambda numbers: ()
+    return cast("Callable[[list[int]], Any]", operator.itemgetter(*of))
 
 
 class Table:
