@@ -222,6 +222,26 @@ class InPlaceFlow(unittest.TestCase):
                 self.assertEqual((folder / theirs).read_text(), "mine\n")
                 self.assertEqual(sorted(os.listdir(folder)), sorted(["Makefile", theirs.split("/")[0]]))
 
+    @unittest.skipIf(shutil.which("make") is None, "make runs the steps")
+    def test_what_comes_behind_a_clean_stays(self) -> None:
+        """What `clean` took away is ours no more, and neither is what somebody puts there then."""
+        with tempfile.TemporaryDirectory() as name:
+            folder = pathlib.Path(name)
+            (folder / "Makefile").write_text(self.flow(self.places).text())
+            for ours in (".vidlakost-flow/reports.html", ".vidlakost-flow/late", "late/passed", "reports.html"):
+                (folder / ours).parent.mkdir(exist_ok=True)
+                (folder / ours).write_text("ours\n")
+            words = ["make", "-s", "clean"]
+            subprocess.run(words, cwd=folder, stdout=subprocess.DEVNULL, check=True)
+            self.assertEqual(os.listdir(folder), ["Makefile"])
+            for theirs in ("reports.html", "late/passed"):
+                (folder / theirs).parent.mkdir(exist_ok=True)
+                (folder / theirs).write_text("mine\n")
+                done = subprocess.run(words, cwd=folder, stderr=subprocess.PIPE, text=True, check=False)
+                self.assertIn("is there, and this makefile did not make it", done.stderr)
+                self.assertEqual((folder / theirs).read_text(), "mine\n")
+                (folder / theirs).unlink()
+
     def test_folders(self) -> None:
         """A memory can't have a folder of the whole."""
         self.target.system.parts[0].memory.name = "places"

@@ -104,3 +104,5 @@ timed = rm -f sta.txt && yosys -q -p "read_verilog -nodpi $(SYNTH_MORE) -lib $(3
 clean:
 	@$(theirs)
 	rm -f -- $(foreach step,$(STEPS),$(step) $(step).sums $(step).read)
+# what is gone is nobody's: one that comes in its place later is not ours
+	@for it in $(OWNED); do rmdir -- $$it 2>/dev/null; test -e $$it || rm -f -- $(MARKS)/$$it; done; rmdir -- $(MARKS) 2>/dev/null || true
