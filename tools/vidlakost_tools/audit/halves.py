@@ -59,7 +59,9 @@ class Groups:
 
 def taken(of: Sequence[int]) -> Callable[[list[int]], Any]:
     """A function to the numbers of some groups."""
-    return operator.itemgetter(*of) if of else lambda numbers: ()
+    if of:
+        return operator.itemgetter(*of)
+    return lambda numbers: ()
 
 
 class Table:
