@@ -6,7 +6,7 @@ from __future__ import annotations
 
 import dataclasses
 import operator
-from typing import Any, Callable, Dict, Hashable, List, Sequence, Tuple, cast
+from typing import Any, Callable, Dict, Hashable, List, Sequence, Tuple
 
 from vidlakost_tools.audit.gates import Machine
 
@@ -59,9 +59,9 @@ class Groups:
 
 def taken(of: Sequence[int]) -> Callable[[list[int]], Any]:
     """A function to the numbers of some groups."""
-    if not of:
-        return lambda numbers: ()
-    return cast("Callable[[list[int]], Any]", operator.itemgetter(*of))
+    if of:
+        return operator.itemgetter(*of)
+    return lambda numbers: ()
 
 
 class Table:
