@@ -182,7 +182,8 @@ class InPlaceFlow(unittest.TestCase):
         """What `access` writes for the chip's own TAP is made, tried and timed, and no TAP is."""
         usual = self.flow(self.places)
         under = dataclasses.replace(usual, is_under=True).text()
-        for text, option, turn, other in ((usual.text(), "--jtag", "tap", "register"), (under, "--under-tap", "register", "tap")):
+        cases = ((usual.text(), "--jtag", "tap", "register"), (under, "--under-tap", "register", "tap"))
+        for text, option, turn, other in cases:
             self.assertIn(f"--in-place --apb {option} >/dev/null", text)
             self.assertIn(f"for kind in access apb {turn}; do", text)
             self.assertIn(f"../chip/camera_{turn}.v", text)

@@ -60,8 +60,8 @@ def untested(macro: Macro, word: Word, is_theirs: bool = False) -> list[Untested
 
 
 def beyond(macro: Macro, word: Word, model: str | None = None) -> list[Untested]:
-    """The address pins that count further than the words of the description, which a larger macro may have: the model in
-    a file may tell."""
+    """The address pins that count further than the words of the description, which a larger macro may have: the model
+    in a file may tell."""
     words, last = word.first.words, (1 << word.first.width) - 1
     there = model_words(macro, model, word.bits) if model else None
     if words > last or there == words:

@@ -92,8 +92,8 @@ def vendors_of(system: System, options: dict[str, Any], is_placed: bool) -> dict
 def refuse_other_tap(places: Places | None, is_under: bool) -> None:
     """The chip of a text has the TAP that `access` writes, or one of its own."""
     if places and places.has_tap and is_under != bool(places.under[0]):
-        way = "has no line under, so there is no TAP for --under-tap" if is_under else "has the line under: say --under-tap"
-        raise ToolError(f"{places.path} {way}")
+        none = "has no line under, so there is no TAP for --under-tap"
+        raise ToolError(f"{places.path} {none if is_under else 'has the line under: say --under-tap'}")
 
 
 def main(arguments: list[str]) -> int:

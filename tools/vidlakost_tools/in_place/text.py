@@ -124,7 +124,7 @@ class InPlace:
             *(f"      {end} <= 1'b0;" for end in ends),
             *(f"      {name} <= {width}'d0;" for name, width in kept),
             "    end else begin",
-            f"      {cycle} <= {over} ? {cycle} : {cycle} + {CYCLE}'d1;",
+            f"      if (!{over}) {cycle} <= {cycle} + {CYCLE}'d1;",
             f"      {failed} <= {failed} | {bad};",
             f"      {ends[0]} <= {over};",
             *(f"      {later} <= {earlier};" for earlier, later in zip(ends, ends[1:])),
