@@ -66,7 +66,8 @@ class Installation(unittest.TestCase):
                 subprocess.run(words, cwd=home, check=True, stdout=subprocess.DEVNULL)
             files = [path.relative_to(home / "local") for path in (home / "local").rglob("*") if path.is_file()]
             kept = pathlib.Path("lib", "vidlakost")
-            self.assertEqual(sorted(files), sorted([pathlib.Path("bin", "vidlakost"), *(kept / one for one in (*listed, "SHA256SUMS"))]))
+            wanted = [pathlib.Path("bin", "vidlakost"), *(kept / one for one in (*listed, "SHA256SUMS"))]
+            self.assertEqual(sorted(files), sorted(wanted))
             (home / "tools" / "release").write_text("another\n")
             done = subprocess.run(
                 [sys.executable, "-c", f"import sys; sys.argv = ['release', '--prefix', 'again']; exec({RELEASE!r})"],
@@ -296,7 +297,8 @@ class Handed(unittest.TestCase):
             whole = [f"{sum_of((home / one).read_bytes())}  {one}\n" for one in ("README.md", "RELEASE", PROGRAM)]
             (home / "SHA256SUMS").write_text("".join(whole))
             self.kept(home, "the release has no vidlakost")
-            (home / "SHA256SUMS").write_text("".join([*whole, f"{sum_of((home / 'vidlakost').read_bytes())}  vidlakost\n"]))
+            whole.append(f"{sum_of((home / 'vidlakost').read_bytes())}  vidlakost\n")
+            (home / "SHA256SUMS").write_text("".join(whole))
             self.assertEqual(self.call(home, "--prefix", "whole").returncode, 0)
             for one in ("README.md", "RELEASE", "SHA256SUMS"):
                 (home / one).rename(home / "aside")

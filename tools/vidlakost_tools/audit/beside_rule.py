@@ -8,7 +8,6 @@ import os
 import re
 from typing import Iterable
 
-from vidlakost_tools import bounded
 from vidlakost_tools.audit.beside_icarus import Beside, call, compiled
 from vidlakost_tools.temporary import folder_of_its_own
 from vidlakost_tools.text import template

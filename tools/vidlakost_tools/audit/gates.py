@@ -2,7 +2,6 @@
 numbers, the lanes in which it is 1 and those in which it is 0."""
 from __future__ import annotations
 
-import pathlib
 from typing import Any, Callable, Sequence
 
 from vidlakost_tools.temporary import folder_of_its_own

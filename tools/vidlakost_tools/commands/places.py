@@ -42,7 +42,6 @@ import os
 import pathlib
 import shutil
 
-from vidlakost_tools import bounded
 from vidlakost_tools.audit.beside_icarus import Differs, Unclocked
 from vidlakost_tools.audit.outcome import READ_ALONE, Outcome
 from vidlakost_tools.audit.witness import refusal

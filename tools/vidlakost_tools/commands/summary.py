@@ -10,7 +10,6 @@ which all tests at once take. --cells has Yosys make gates of each module, and c
 from __future__ import annotations
 
 import csv
-import pathlib
 import re
 import shutil
 import sys

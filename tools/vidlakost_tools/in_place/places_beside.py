@@ -10,7 +10,6 @@ import secrets
 import shutil
 from typing import Iterator
 
-from vidlakost_tools import bounded
 from vidlakost_tools.audit.beside_icarus import Differs, Unclocked, call, compiled, refuse_sources, set_to
 from vidlakost_tools.collar.pins import literal
 from vidlakost_tools.in_place.places_proof import Proof, Side

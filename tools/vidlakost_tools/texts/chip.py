@@ -3,7 +3,6 @@ from __future__ import annotations
 
 import dataclasses
 import os
-import pathlib
 from vidlakost_tools.program import ask, run
 from vidlakost_tools.temporary import folder_of_its_own
 from vidlakost_tools.text import statements

@@ -3,7 +3,6 @@ from __future__ import annotations
 
 import collections
 import dataclasses
-import pathlib
 import re
 from typing import NoReturn, Protocol, Sequence
 
