@@ -1,6 +1,7 @@
 """What `audit` finds of the port `fail`, and why a port is unknown: of a small controller in which a line is wrong."""
 from __future__ import annotations
 
+import time
 import unittest
 from unittest import mock
 
@@ -153,12 +154,11 @@ class Lanes(unittest.TestCase):
         for case, found in cases.items():
             self.assertEqual(found.line(), f"fail is {found.got} in cycle {found.cycle} though {case}")
 
-    def test_progress_is_told_each_ten_seconds(self) -> None:
-        with mock.patch("time.monotonic", side_effect=[0.0, 9.0, 11.0, 12.0]):
-            with mock.patch.object(lanes, "tell") as tell:
-                clock = Clock(600)
-                self.assertFalse(any(clock.is_over(cycle, 900) for cycle in (100, 200, 300)))
-        tell.assert_called_once_with("audit: cycle 200 of 900 of fail, after 11 seconds")
+    def test_clock_knows_its_cycle_and_counts_from_the_start(self) -> None:
+        clock = Clock(60)
+        self.assertFalse(clock.is_over(1200, 5000))
+        self.assertEqual(clock.at, "cycle 1,200 of 5,000")
+        self.assertTrue(Clock(60, begin=time.monotonic() - 61).is_over(1, 2))
 
 
 @needs("yosys")
