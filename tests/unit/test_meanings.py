@@ -8,12 +8,8 @@ import unittest
 from typing import Any
 from unittest import mock
 
-from vidlakost_tools.audit import beside_icarus
-from vidlakost_tools.texts.memory import parse_memory
 from vidlakost_tools.tool import ToolError
 from vidlakost_tools.verilog import known_cells, members, simulation, source_texts, two_meanings, unread, yosys
-from vidlakost_tools.verilog.front_end import Plain
-from vidlakost_tools.verilog.named_bits import Drive
 
 CASE = """module \\m
   wire \\a
@@ -301,15 +297,6 @@ class Simulation(unittest.TestCase):
             simulation.warnings_of("m.v", f"module {text}", f"module {text}")
 
 
-def two_bits(**origins: list[list[tuple[str, int]]]) -> beside_icarus.Beside:
-    """A module with a register of two bits, which are these signals of the sources, and one of two bits that is
-    none."""
-    memory = parse_memory("memory 1\nname m\nwords 2\nbits 1\n")
-    held = Drive("held", 2, "held", [["held"]])
-    plain = Plain("m", [], [], [], [held], [], {}, "clk", origins=origins, widths={"q": 2, "low": 1, "wide": 3})
-    return beside_icarus.Beside([], plain, None, memory)
-
-
 class Unread(unittest.TestCase):
     def test_form_on_the_line_of_an_error(self) -> None:
         source = "module m;\n  function f(input x); return x; endfunction\n  wire y = a inside {1, 2};\nendmodule\n"
@@ -323,7 +310,8 @@ class Unread(unittest.TestCase):
         self.assertIsNone(unread.reason([("m.sv", "module m; endmodule\n")], "m.sv:1: ERROR: x"))
 
     def test_errors_that_have_no_line(self) -> None:
-        asserted = "yosys refuses it: ERROR: Assert `arg->is_signed == sig.as_wire()->is_signed' failed in genrtlil.cc:1"
+        failed = "`arg->is_signed == sig.as_wire()->is_signed' failed in genrtlil.cc:1"
+        asserted = f"yosys refuses it: ERROR: Assert {failed}"
         part = "module m;\n  wire a = f($signed(b));\n  sub s(.a($signed(b)), .y(c));\nendmodule\n"
         said = str(unread.reason([("m.v", part)], asserted))
         self.assertTrue(said.startswith("'m.v':3: Yosys takes no $signed at a port of a part; a signed wire"), said)
@@ -378,31 +366,3 @@ class Unread(unittest.TestCase):
         )
         self.assertEqual(str(unread.latch(error))[:49], "flip (m.sv): an always_comb doesn't set it in eve")
         self.assertIsNone(unread.latch("yosys refuses it: ERROR: other"))
-
-
-class BesideIcarus(unittest.TestCase):
-    def test_registers_are_set_as_the_made_ones_are(self) -> None:
-        whole = two_bits(held=[[("q", 0)], [("q", 1)]])
-        same = {"    $deposit(dut.q, {made.held[1], made.held[0]});": {"made.held[0]", "made.held[1]"}}
-        self.assertEqual((whole.same(), whole.is_whole(same)), (same, True))
-        self.assertIn("cycle < 1000 && cycle % 20 == 0", whole.bench(same))
-        self.assertIn("made.held = then_held;", whole.bench(same))
-
-    def test_registers_that_are_not_known_begin_once(self) -> None:
-        part = two_bits(held=[[("low", 0)], []])
-        self.assertFalse(part.is_whole(part.same()))
-        self.assertIn("cycle < 0 &&", part.bench(part.same()))
-        # a signal some bits of which are no registers is set, and doesn't count
-        wide = two_bits(held=[[("wide", 0)], [("wide", 2)]])
-        self.assertEqual(wide.same(), {"    $deposit(dut.wide, {made.held[1], 1'b0, made.held[0]});": set()})
-        self.assertFalse(wide.is_whole(wide.same()))
-
-    def test_names_behind_a_backslash(self) -> None:
-        for line, other in (
-            ("    dut.q[1] = {made.held[1]};", "    $deposit(dut.\\q[1] , {made.held[1]});"),
-            ("    $deposit(judge.dut.part.q, {n_held[1]});", "    $deposit(judge.dut.\\part.q , {n_held[1]});"),
-        ):
-            self.assertEqual(beside_icarus.escaped(line), other)
-            self.assertIsNone(beside_icarus.escaped(other))
-            self.assertEqual(beside_icarus.known({line: {"a"}, "b": {"c"}}, {line}), {other: {"a"}, "b": {"c"}})
-            self.assertEqual(beside_icarus.known({other: {"a"}}, {other}), {})

@@ -113,7 +113,8 @@ def sources_of(files: list[str], options: dict[str, Any], folder: pathlib.Path) 
         twice = re.search(r"Re-definition of (?:cell/)?module [`]?\\?([^'!]+)", str(error))
         if missing:
             cells = ", and no cell with a function for each output in the libraries" if "--liberty" in options else ""
-            cells += f", and none of the cells that are known: {known_cells.told(options)}" if "--cells" in options else ""
+            if "--cells" in options:
+                cells += f", and none of the cells that are known: {known_cells.told(options)}"
             where = f"the files{cells}"
             raise ToolError(f"{missing[2]} has a part {missing[1]}, which is not a module of {where}", 1) from error
         if twice:
