@@ -160,7 +160,7 @@ class Files(Tools):
             "^give --mhz": [],
             "^--mhz is a number above 0, and not '0'$": ["--mhz", "0"],
             "^--share is below 1, and not 1$": ["--mhz", "100", "--share", "1"],
-            "at most one of --apb and --jtag": ["--mhz", "100", "--apb", "--jtag"],
+            "at most one of --apb, --jtag and --under-tap": ["--mhz", "100", "--apb", "--jtag"],
         }
         for message, options in wrong.items():
             with self.subTest(options=options), self.assertRaisesRegex(ToolError, message):

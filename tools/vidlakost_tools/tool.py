@@ -214,10 +214,10 @@ def telling(what: str, how_far: Callable[[], str] | None = None) -> Iterator[Non
             seconds += 10
 
     teller = threading.Thread(target=tell_on, daemon=True)
+    DOING.append(is_over)
     # where the system gives no thread, the work goes on without a word
     with contextlib.suppress(RuntimeError):
         teller.start()
-    DOING.append(is_over)
     try:
         yield
     finally:
