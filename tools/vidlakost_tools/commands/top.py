@@ -116,14 +116,14 @@ def chips(system: System, path: str, folder: pathlib.Path) -> dict[str, str]:
         soc.place_chip(system, path)
         return {f"{system.name}.v": made_by_chip(path)}
     texts: dict[str, str] = {}
-    with folder_of_its_own() as folder:
+    with folder_of_its_own() as held:
         for number, parts in enumerate(soc.place_list(system)):
             for part in parts:
                 if part.number is not None:
                     texts[f"{part.name}.mem"] = soc.description_of(part)
-                    (folder / f"{part.name}.mem").write_text(texts[f"{part.name}.mem"], encoding="utf-8")
-            file = folder / f"{number}.chip"
-            file.write_text(chip_file(system, number, parts, folder), encoding="utf-8")
+                    (held / f"{part.name}.mem").write_text(texts[f"{part.name}.mem"], encoding="utf-8")
+            file = held / f"{number}.chip"
+            file.write_text(chip_file(system, number, parts, held), encoding="utf-8")
             texts[f"{system.name_of(number)}.chip"] = chip_file(system, number, parts, folder)
             texts[f"{system.name_of(number)}.v"] = made_by_chip(str(file))
             system.chips.append(read_chip(file))
